@@ -1,0 +1,118 @@
+-- Laws of `all`, `some` and `first`: what they say at each number below the bound, how to show them, and that they go by the test's values alone.
+-- The proofs of every scanning loop, of matching and of relabelling rest on these.
+use mathlib.Core.Path.{_≡_, refl, sym, ap, ap₂, _∙_}
+use mathlib.Core.Logic.{_⊎_, ⊎-elim}
+use mathlib.Core.Bool.{Bool, true, false, _&&_, _||_, true≢false}
+use Prim.Native.Nat.{ℕ, zero, suc, _≤_, _<_}
+use native.Mathlib.Nat.{eq-or-lt-of-le, le-of-suc-le-suc, not-suc-le-zero}
+use native.Mathlib.Omega.{arith}
+use lib.Dec.{ltb}
+use borrow.Author.Tests.{lt-ltb, le-ltb}
+use Rattle.basics.specs.Bounded.{all, some, first}
+use Rattle.basics.proofs.Truth.{true-false, and-true, and-intro, and-right-false, or-false}
+
+below : {i n : ℕ} → i < suc n → (i ≡ n) ⊎ (i < n)
+below h = eq-or-lt-of-le (le-of-suc-le-suc h)
+
+module _ (f : ℕ → Bool) where
+  pub all-at : (n : ℕ) → all n f ≡ true → (i : ℕ) → i < n → f i ≡ true
+  all-at zero h i l = absurd (not-suc-le-zero l)
+  all-at (suc n) h i l =
+      ⊎-elim (λ e. rw e (and-true (all n f) (f n) h .1)) (λ k. all-at n (and-true (all n f) (f n) h .0) i k) (below l)
+
+  pub all-intro : (n : ℕ) → ((i : ℕ) → i < n → f i ≡ true) → all n f ≡ true
+  all-intro zero h = refl
+  all-intro (suc n) h = and-intro (all n f) (f n) (all-intro n (λ i l. h i (omega arith))) (h n (omega arith))
+
+  -- what a scan shows that passed all
+  pub all-passed : (n i : ℕ) → n ≤ i → ((k : ℕ) → k < i → f k ≡ true) → all n f ≡ true
+  all-passed n i l h = all-intro n (λ k m. h k (omega arith))
+
+  pub all-false : (n i : ℕ) → i < n → f i ≡ false → all n f ≡ false
+  all-false zero i l h = absurd (not-suc-le-zero l)
+  all-false (suc n) i l h =
+      ⊎-elim (λ e. and-right-false (all n f) (f n) (rw e at h)) (λ k. ap (λ (t : Bool). t && f n) (all-false n i k h)) (below l)
+
+  pub some-false : (n : ℕ) → some n f ≡ false → (i : ℕ) → i < n → f i ≡ false
+  some-false zero h i l = absurd (not-suc-le-zero l)
+  some-false (suc n) h i l =
+      ⊎-elim (λ e. rw e (or-false (some n f) (f n) h .1)) (λ k. some-false n (or-false (some n f) (f n) h .0) i k) (below l)
+
+  pub some-none : (n : ℕ) → ((i : ℕ) → i < n → f i ≡ false) → some n f ≡ false
+  some-none zero h = refl
+  some-none (suc n) h = rw (some-none n (λ i l. h i (omega arith)), h n (omega arith))
+
+  pub some-passed : (n i : ℕ) → n ≤ i → ((k : ℕ) → k < i → f k ≡ false) → some n f ≡ false
+  some-passed n i l h = some-none n (λ k m. h k (omega arith))
+
+  pub some-intro : (n i : ℕ) → i < n → f i ≡ true → some n f ≡ true
+  some-intro n i l h = go (some n f) refl
+    where
+      go : (t : Bool) → some n f ≡ t → some n f ≡ true
+      go true e = e
+      go false e = absurd (true-false h (some-false n e i l))
+
+  pub first-none : (n : ℕ) → some n f ≡ false → first n f ≡ n
+  first-none zero h = refl
+  first-none (suc n) h = let q = or-false (some n f) (f n) h in rw (q .0, q .1)
+
+  -- where the test holds at some number below n, it holds at the first one
+  first-step :
+      (n : ℕ) (t : Bool) → some n f ≡ t → (u : Bool) → f n ≡ u → (t || u) ≡ true
+      → (some n f ≡ true → (first n f < n) × (f (first n f) ≡ true)) → (first (suc n) f < suc n) × (f (first (suc n) f) ≡ true)
+  first-step n true e u q h ih = rw e (let k = ih e .0 in omega arith, ih e .1)
+  first-step n false e true q h ih = rw (e, q) (omega arith, q)
+  first-step n false e false q h ih = absurd (true≢false (sym h))
+
+  pub first-holds : (n : ℕ) → some n f ≡ true → (first n f < n) × (f (first n f) ≡ true)
+  first-holds zero h = absurd (true≢false (sym h))
+  first-holds (suc n) h = first-step n (some n f) refl (f n) refl h (first-holds n)
+
+  -- and at no number before it
+  first-least-step :
+      (n : ℕ) (t : Bool) → some n f ≡ t → (u : Bool) → f n ≡ u → ((i : ℕ) → i < first n f → f i ≡ false)
+      → (i : ℕ) → i < first (suc n) f → f i ≡ false
+  first-least-step n true e u q ih i l = ih i (rw e at l)
+  first-least-step n false e true q ih i l = some-false n e i (rw (e, q) at l)
+  first-least-step n false e false q ih i l =
+      ⊎-elim (λ k. rw k q) (λ k. some-false n e i k) (below (rw (e, q) at l))
+
+  pub first-least : (n : ℕ) (i : ℕ) → i < first n f → f i ≡ false
+  first-least zero i l = absurd (not-suc-le-zero l)
+  first-least (suc n) i l = first-least-step n (some n f) refl (f n) refl (first-least n) i l
+
+  -- the first is below the bound exactly where there is one
+  pub first-some : (n : ℕ) → ltb (first n f) n ≡ some n f
+  first-some n = go (some n f) refl
+    where
+      go : (t : Bool) → some n f ≡ t → ltb (first n f) n ≡ some n f
+      go true e = lt-ltb _ _ (first-holds n e .0) ∙ sym e
+      go false e = le-ltb (first n f) n (omega (arith, first-none n e)) ∙ sym e
+
+  -- what a scan shows that stopped at i, or passed all
+  pub first-at : (n i : ℕ) → i < n → f i ≡ true → ((k : ℕ) → k < i → f k ≡ false) → first n f ≡ i
+  first-at n i l h low =
+      let m = first-holds n (some-intro n i l h) in
+      let a : ¬ (first n f < i) = λ k. true-false (m .1) (low (first n f) k) in
+      let b : ¬ (i < first n f) = λ k. true-false h (first-least n i k) in
+      omega arith
+
+  pub first-passed : (n i : ℕ) → n ≤ i → ((k : ℕ) → k < i → f k ≡ false) → first n f ≡ n
+  first-passed n i l h = first-none n (some-passed n i l h)
+
+module _ (f g : ℕ → Bool) where
+  pub all-ext : (n : ℕ) → ((i : ℕ) → i < n → f i ≡ g i) → all n f ≡ all n g
+  all-ext zero h = refl
+  all-ext (suc n) h = ap₂ _&&_ (all-ext n (λ i l. h i (omega arith))) (h n (omega arith))
+
+  pub some-ext : (n : ℕ) → ((i : ℕ) → i < n → f i ≡ g i) → some n f ≡ some n g
+  some-ext zero h = refl
+  some-ext (suc n) h = ap₂ _||_ (some-ext n (λ i l. h i (omega arith))) (h n (omega arith))
+
+  pub first-ext : (n : ℕ) → ((i : ℕ) → i < n → f i ≡ g i) → first n f ≡ first n g
+  first-ext zero h = refl
+  first-ext (suc n) h =
+      let a = some-ext n (λ i l. h i (omega arith)) in
+      let b = first-ext n (λ i l. h i (omega arith)) in
+      let c = h n (omega arith) in
+      rw (a, b, c)

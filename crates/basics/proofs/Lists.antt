@@ -1,0 +1,114 @@
+-- Laws of `tabulate`, `joined` and of runs of stores: lengths, elements, and one element or one part more.
+-- The loops that write a buffer, and all that is said of the bytes of a relabelled block, rest on these.
+use mathlib.Core.Path.{_≡_, refl, sym, ap, ap₂, _∙_}
+use mathlib.Core.Logic.{⊎-elim}
+use mathlib.Core.List.{List, [], _∷_, _++_}
+use Prim.Native.Nat.{ℕ, zero, suc, _+_, _*_, _≤_, _<_}
+use native.Mathlib.Nat.{eq-or-lt-of-le, le-of-suc-le-suc, not-suc-le-zero, add-zero, suc-add, add-suc, zero-add, suc-mul, zero-mul, mul-le-mul-right}
+use native.Mathlib.Omega.{arith}
+use native.Mathlib.Numerals.{add-one}
+use lib.ListN.{length, getD, set, drop, length-append, List·getD-append}
+use lib.Seq.{ext-getD, getD-append-add, sets, sets-eq}
+use Rattle.basics.specs.Lists.{tabulateFrom, tabulate, joined, atFront}
+
+length-from : (n i : ℕ) (f : ℕ → ℕ) → length (tabulateFrom i n f) ≡ n
+length-from zero i f = refl
+length-from (suc n) i f = ap suc (length-from n (suc i) f)
+
+getD-from : (n i : ℕ) (f : ℕ → ℕ) (k : ℕ) → k < n → getD (tabulateFrom i n f) k 0 ≡ f (i + k)
+getD-from zero i f k l = absurd (not-suc-le-zero l)
+getD-from (suc n) i f zero l = ap f (sym (add-zero i))
+getD-from (suc n) i f (suc k) l =
+    getD-from n (suc i) f k (le-of-suc-le-suc l) ∙ ap f (suc-add i k ∙ sym (add-suc i k))
+
+snoc-from : (n i : ℕ) (f : ℕ → ℕ) → tabulateFrom i (suc n) f ≡ tabulateFrom i n f ++ (f (i + n) ∷ [])
+snoc-from zero i f = ap (λ (k : ℕ). f k ∷ []) (sym (add-zero i))
+snoc-from (suc n) i f =
+    ap (λ (l : List ℕ). f i ∷ l)
+    (snoc-from n (suc i) f
+    ∙ ap (λ (k : ℕ). tabulateFrom (suc i) n f ++ (f k ∷ [])) (suc-add i n ∙ sym (add-suc i n)))
+
+module _ (n : ℕ) (f : ℕ → ℕ) where
+  pub length-tabulate : length (tabulate n f) ≡ n
+  length-tabulate = length-from n 0 f
+
+  pub getD-tabulate : (k : ℕ) → k < n → getD (tabulate n f) k 0 ≡ f k
+  getD-tabulate k l = getD-from n 0 f k l ∙ ap f (zero-add k)
+
+  pub tabulate-snoc : tabulate (suc n) f ≡ tabulate n f ++ (f n ∷ [])
+  tabulate-snoc = snoc-from n 0 f ∙ ap (λ (k : ℕ). tabulate n f ++ (f k ∷ [])) (zero-add n)
+
+-- two lists of n elements that agree at each index
+pub tabulate-ext : (n : ℕ) (f g : ℕ → ℕ) → ((k : ℕ) → k < n → f k ≡ g k) → tabulate n f ≡ tabulate n g
+tabulate-ext n f g h =
+    ext-getD 0 (tabulate n f) (tabulate n g) (length-tabulate n f ∙ sym (length-tabulate n g)) (λ k l.
+    let m : k < n = omega (arith, length-tabulate n f) in
+    getD-tabulate n f k m ∙ h k m ∙ sym (getD-tabulate n g k m))
+
+-- lists of one length w behind one another
+module _ (f : ℕ → List ℕ) (w : ℕ) where
+  pub length-joined : (n : ℕ) → ((r : ℕ) → r < n → length (f r) ≡ w) → length (joined n f) ≡ n * w
+  length-joined zero h = sym (zero-mul w)
+  length-joined (suc n) h =
+      length-append (joined n f) (f n)
+      ∙ ap₂ _+_ (length-joined n (λ r l. h r (omega arith))) (h n (omega arith))
+      ∙ sym (suc-mul n w)
+
+  pub getD-joined :
+      (n : ℕ) → ((r : ℕ) → r < n → length (f r) ≡ w)
+      → (r k : ℕ) → r < n → k < w → getD (joined n f) (r * w + k) 0 ≡ getD (f r) k 0
+  getD-joined zero h r k l m = absurd (not-suc-le-zero l)
+  getD-joined (suc n) h r k l m =
+      let len = length-joined n (λ r l. h r (omega arith)) in
+      ⊎-elim
+      (λ e.
+      rw e
+      (ap (λ (i : ℕ). getD (joined n f ++ f n) (i + k) 0) (sym len) ∙ getD-append-add (joined n f) (f n) k 0))
+      (λ j.
+      let a = suc-mul r w in
+      let b = mul-le-mul-right w j in
+      List·getD-append (joined n f) (f n) 0 (r * w + k) (omega arith)
+      ∙ getD-joined n (λ r l. h r (omega arith)) r k j m)
+      (eq-or-lt-of-le (le-of-suc-le-suc l))
+
+-- one list more, within all of them
+pub joined-more : (f : ℕ → List ℕ) (r : ℕ) → joined (r + 1) f ≡ joined r f ++ f r
+joined-more f r = ap (λ (k : ℕ). joined k f) (add-one r)
+
+pub joined-within : (f : ℕ → List ℕ) (n r : ℕ) → r < n → length (joined r f) + length (f r) ≤ length (joined n f)
+joined-within f zero r l = absurd (not-suc-le-zero l)
+joined-within f (suc n) r l =
+    let e = length-append (joined n f) (f n) in
+    ⊎-elim (λ q. rw q (omega arith)) (λ k. let ih = joined-within f n r k in omega arith) (eq-or-lt-of-le (le-of-suc-le-suc l))
+
+pub joined-ext : (f g : ℕ → List ℕ) (n : ℕ) → ((r : ℕ) → r < n → f r ≡ g r) → joined n f ≡ joined n g
+joined-ext f g zero h = refl
+joined-ext f g (suc n) h = ap₂ _++_ (joined-ext f g n (λ r l. h r (omega arith))) (h n (omega arith))
+
+-- stores one after the other are one run of stores
+pub sets-append : (l : List ℕ) (i : ℕ) (a b : List ℕ) → sets (sets l i a) (i + length a) b ≡ sets l i (a ++ b)
+sets-append l i [] b = ap (λ (k : ℕ). sets l k b) (add-zero i)
+sets-append l i (x ∷ a) b =
+    ap (λ (k : ℕ). sets (sets (set l i x) (suc i) a) k b) (add-suc i (length a) ∙ sym (suc-add i (length a)))
+    ∙ sets-append (set l i x) (suc i) a b
+
+-- one element more of a table that a loop writes from index `at` on
+pub sets-more :
+    (l : List ℕ) (at i : ℕ) (f : ℕ → ℕ) (x : ℕ)
+    → x ≡ f i → set (sets l at (tabulate i f)) (at + i) x ≡ sets l at (tabulate (i + 1) f)
+sets-more l at i f x e =
+    ap (λ (k : ℕ). set (sets l at (tabulate i f)) (at + k) x) (sym (length-tabulate i f))
+    ∙ sets-append l at (tabulate i f) (x ∷ [])
+    ∙ ap (λ (y : ℕ). sets l at (tabulate i f ++ (y ∷ []))) e
+    ∙ ap (sets l at) (sym (tabulate-snoc i f) ∙ ap (λ (k : ℕ). tabulate k f) (sym (add-one i)))
+
+-- a run of stores right behind another
+pub sets-behind :
+    (l : List ℕ) (i : ℕ) (a b : List ℕ) {m o : List ℕ} {j : ℕ}
+    → m ≡ sets l i a → j ≡ i + length a → o ≡ sets m j b → o ≡ sets l i (a ++ b)
+sets-behind l i a b e p q = q ∙ ap₂ (λ (x : List ℕ) (k : ℕ). sets x k b) e p ∙ sets-append l i a b
+
+-- a run of stores from the front on, in a list that is long enough
+pub sets-front : (l new : List ℕ) → length new ≤ length l → sets l 0 new ≡ atFront new l
+sets-front l new h =
+    sets-eq new l 0 (omega arith) ∙ ap (λ (k : ℕ). new ++ drop k l) (zero-add (length new))

@@ -1,0 +1,22 @@
+-- Laws of truth values: a test is not both true and false, and what `&&` and `||` say of their parts.
+-- The laws of bounded tests and the layers above rest on these.
+use mathlib.Core.Path.{_≡_, refl, sym, _∙_}
+use mathlib.Core.Bool.{Bool, true, false, _&&_, _||_, true≢false}
+
+pub true-false : {t : Bool} → t ≡ true → t ≡ false → ⊥
+true-false p q = true≢false (sym p ∙ q)
+
+pub and-true : (a b : Bool) → (a && b) ≡ true → (a ≡ true) × (b ≡ true)
+and-true true b h = (refl, h)
+and-true false b h = absurd (true≢false (sym h))
+
+pub and-intro : (a b : Bool) → a ≡ true → b ≡ true → (a && b) ≡ true
+and-intro a b p q = rw (p, q)
+
+pub and-right-false : (a b : Bool) → b ≡ false → (a && b) ≡ false
+and-right-false true b h = h
+and-right-false false b h = refl
+
+pub or-false : (a b : Bool) → (a || b) ≡ false → (a ≡ false) × (b ≡ false)
+or-false true b h = absurd (true≢false h)
+or-false false b h = (refl, h)

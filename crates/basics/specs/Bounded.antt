@@ -1,0 +1,19 @@
+-- Tests over the numbers below a bound: each of them (`all`), some of them (`some`), the first of them (`first`).
+-- Validity, matching and goals are stated with these.
+use Prim.Native.Nat.{ℕ, zero, suc}
+use mathlib.Core.Bool.{Bool, true, false, cond, _&&_, _||_}
+
+-- the test holds at each number below n
+abbrev pub all : ℕ → (ℕ → Bool) → Bool
+all zero f = true
+all (suc n) f = all n f && f n
+
+-- the test holds at a number below n
+abbrev pub some : ℕ → (ℕ → Bool) → Bool
+some zero f = false
+some (suc n) f = some n f || f n
+
+-- the least number below n at which the test holds, or n
+abbrev pub first : ℕ → (ℕ → Bool) → ℕ
+first zero f = zero
+first (suc n) f = cond (some n f) (first n f) (cond (f n) n (suc n))

@@ -1,0 +1,35 @@
+-- Laws of `verdict`: what an accepting verdict says of its conditions, and conditions that stand behind others.
+-- The proofs of all that refuses rest on these.
+use mathlib.Core.Path.{_≡_, refl}
+use mathlib.Core.Bool.{Bool, true, false}
+use mathlib.Core.List.{List, [], _∷_, _++_}
+use Prim.Native.Nat.{ℕ}
+use native.Mathlib.Omega.{arith}
+use Rattle.refusals.specs.Answers.{Answer, refused, told, Condition, _unless_, verdict}
+
+pub told-refused : {A : Type 0} {v : Answer A} {a : A} {k : ℕ} → v ≡ told a → v ≡ refused k → ⊥
+told-refused p q = let z : _≡_ {A = ℕ} 0 1 = cc in omega arith
+
+-- an accepting verdict: the first condition holds, and the others give an accepting verdict
+pub verdict-told :
+    (k : ℕ) (holds : Bool) (cs : List Condition)
+    → verdict (k unless holds ∷ cs) ≡ told tt → (holds ≡ true) × (verdict cs ≡ told tt)
+verdict-told k true cs h = (refl, h)
+verdict-told k false cs h = absurd (told-refused h refl)
+
+-- conditions behind others
+pub verdict-behind : (cs ds : List Condition) → verdict cs ≡ told tt → verdict (cs ++ ds) ≡ verdict ds
+verdict-behind [] ds h = refl
+verdict-behind (k unless true ∷ cs) ds h = verdict-behind cs ds h
+verdict-behind (k unless false ∷ cs) ds h = absurd (told-refused h refl)
+
+pub verdict-before : (cs ds : List Condition) (n : ℕ) → verdict cs ≡ refused n → verdict (cs ++ ds) ≡ refused n
+verdict-before [] ds n h = absurd (told-refused refl h)
+verdict-before (k unless true ∷ cs) ds n h = verdict-before cs ds n h
+verdict-before (k unless false ∷ cs) ds n h = h
+
+pub verdict-parts :
+    (cs ds : List Condition) → verdict (cs ++ ds) ≡ told tt → (verdict cs ≡ told tt) × (verdict ds ≡ told tt)
+verdict-parts [] ds h = (refl, h)
+verdict-parts (k unless true ∷ cs) ds h = verdict-parts cs ds h
+verdict-parts (k unless false ∷ cs) ds h = absurd (told-refused h refl)
