@@ -1,0 +1,29 @@
+-- What it says that a list is `labelled`: its length, and each label by itself (`labelled-length`, `labelled-at`, `labelled-intro`).
+-- The theorems on states and ranks, and the code that reads a checked state, rest on these.
+use mathlib.Core.Path.{_≡_}
+use mathlib.Core.Bool.{true}
+use mathlib.Core.List.{List}
+use Prim.Native.Nat.{ℕ, _<_}
+use lib.Dec.{eqb, ltb}
+use lib.ListN.{length, getD}
+use borrow.Author.Tests.{eqb-true, ltb-true, eq-eqb, lt-ltb}
+use Rattle.basics.proofs.Truth.{and-true, and-intro}
+use Rattle.basics.proofs.Bounded.{all-at, all-intro}
+use Rattle.blocks.specs.States.{labelled}
+
+module _ (n : ℕ) (count : ℕ → ℕ) (s : List ℕ) where
+  module _ (ok : labelled n count s ≡ true) where
+    pub labelled-length : length s ≡ n
+    unfolding labelled
+    labelled-length = eqb-true (length s) n (and-true (eqb (length s) n) _ ok .0)
+
+    pub labelled-at : (i : ℕ) → i < n → getD s i 0 < count i
+    unfolding labelled
+    labelled-at i l =
+        ltb-true _ _ (all-at (λ i. ltb (getD s i 0) (count i)) n (and-true (eqb (length s) n) _ ok .1) i l)
+
+  pub labelled-intro : length s ≡ n → ((i : ℕ) → i < n → getD s i 0 < count i) → labelled n count s ≡ true
+  unfolding labelled
+  labelled-intro e h =
+      and-intro (eqb (length s) n) _ (eq-eqb (length s) n e)
+      (all-intro (λ i. ltb (getD s i 0) (count i)) n (λ i l. lt-ltb (getD s i 0) (count i) (h i l)))

@@ -1,0 +1,38 @@
+-- The four cases of `termOf`, each from a fact about the byte, and that every byte falls into one (`view`).
+-- The proofs of decoding, matching and relabelling go by these cases.
+use mathlib.Core.Path.{_≡_, refl}
+use mathlib.Core.Bool.{Bool, true, false}
+use Prim.Native.Nat.{ℕ, _≤_, _<_}
+use native.Mathlib.Omega.{arith}
+use lib.Dec.{ltb, eqb}
+use borrow.Author.Tests.{lt-ltb, le-ltb, ne-eqb, ltb-true, ltb-false, eqb-true, eqb-false}
+use Rattle.blocks.specs.Terms.{termOf}
+use Rattle.blocks.specs.declared.terms.Term.the-variants.{Label, Variable, Dash, Refused}
+
+pub is-label : (t : ℕ) → t < 16 → termOf t ≡ Label (record { 0 = t })
+is-label t h = simp (lt-ltb t 16 h)
+
+pub is-variable : (t : ℕ) → 16 ≤ t → t < 32 → termOf t ≡ Variable t
+is-variable t h g = simp (le-ltb t 16 h, lt-ltb t 32 g)
+
+pub is-dash : (t : ℕ) → t ≡ 255 → termOf t ≡ Dash
+is-dash t h = rw h
+
+pub is-refused : (t : ℕ) → 32 ≤ t → (t ≡ 255 → ⊥) → termOf t ≡ Refused
+is-refused t h g = let k : 16 ≤ t = omega arith in simp (le-ltb t 16 k, le-ltb t 32 h, ne-eqb t 255 g)
+
+-- the four cases of a byte
+pub data View : ℕ → Type 0 where
+  label : {t : ℕ} → t < 16 → View t
+  variable : {t : ℕ} → 16 ≤ t → t < 32 → View t
+  dash : {t : ℕ} → t ≡ 255 → View t
+  refused : {t : ℕ} → 32 ≤ t → (t ≡ 255 → ⊥) → View t
+
+pub view : (t : ℕ) → View t
+view t = go (ltb t 16) refl (ltb t 32) refl (eqb t 255) refl
+  where
+    go : (a : Bool) → ltb t 16 ≡ a → (b : Bool) → ltb t 32 ≡ b → (c : Bool) → eqb t 255 ≡ c → View t
+    go true e b f c g = label (ltb-true t 16 e)
+    go false e true f c g = variable (ltb-false t 16 e) (ltb-true t 32 f)
+    go false e false f true g = dash (eqb-true t 255 g)
+    go false e false f false g = refused (ltb-false t 32 f) (eqb-false t 255 g)

@@ -1,0 +1,58 @@
+-- `blocks::validity::head_ok` meets its contract.
+-- At each return the tests that led there say what `headOk` is.
+use mathlib.Core.Path.{sym, ap₂, _∙_}
+use Prim.Native.Nat.{ℕ, _^_}
+use native.Mathlib.Omega.{arith}
+use lib.Dec.{leb}
+use lib.ListN.{length}
+use denote.Ref.{now}
+use borrow.Author.Tests.{lt-leb, le-leb}
+use borrow.Author.Needs.{needs}
+use Rattle.blocks.specs.Layout.{abstractStates}
+use Rattle.blocks.specs.Validity.{headOk}
+use Rattle.blocks.proofs.Accepted.{sizes}
+use Rattle.blocks.proofs.validity.head_ok.Statement.{statement}
+use Rattle.blocks.proofs.validity.head_ok.Tie as tie
+
+returns : tie.Need-returns
+unfolding headOk
+returns c = simp (lt-leb _ _ (c .if1 .taken))
+
+sizes-ok-requires : tie.Need-sizes-ok-requires
+sizes-ok-requires c κs = search needs
+
+abstracts-requires : tie.Need-abstracts-requires
+abstracts-requires c κs = search needs
+
+positions-requires : tie.Need-positions-requires
+positions-requires c κs = search needs
+
+power-ok-requires : tie.Need-power-ok-requires
+power-ok-requires c κs =
+    let s = sizes (now (c .before .before .before .before .before .before .args .block)) (sym (c .before .before .before .sizes-ok .ensures) ∙ c .before .before .if2 .taken) in
+    (omega arith, omega arith, omega arith)
+
+returns-2 : tie.Need-returns-2
+unfolding headOk abstractStates
+returns-2 c =
+    let b = now (c .before .before .before .before .before .before .before .args .block) in
+    c .power-ok .ensures ∙ ap₂ (λ (k n : ℕ). leb (k ^ n) 16384) (c .before .before .abstracts .ensures .0) (c .before .positions .ensures .0)
+    ∙ sym (rw (le-leb 5 (length b) (c .before .before .before .before .before .if1 .left), sym (c .before .before .before .before .sizes-ok .ensures) ∙ c .before .before .before .if2 .taken))
+
+returns-3 : tie.Need-returns-3
+unfolding headOk
+returns-3 c =
+    let b = now (c .before .before .before .before .args .block) in
+    sym (rw (le-leb 5 (length b) (c .before .before .if1 .left), sym (c .before .sizes-ok .ensures) ∙ c .if2 .left))
+
+pub head-ok-spec : {M : Type 1} → statement M
+head-ok-spec =
+    tie.close
+    (tie.spec
+    returns
+    sizes-ok-requires
+    abstracts-requires
+    positions-requires
+    power-ok-requires
+    returns-2
+    returns-3)
