@@ -1,0 +1,70 @@
+-- `psvn::relabelling::relabel_block` meets its contract.
+-- Head and map, rules and goals are written behind one another.
+use mathlib.Core.Path.{_≡_, ap, _∙_}
+use mathlib.Core.List.{List, _++_}
+use Prim.Native.Nat.{ℕ, _+_}
+use native.Mathlib.Omega.{arith}
+use lib.ListN.{length, length-append}
+use denote.Ref.{now}
+use Rattle.basics.specs.Lists.{joined}
+use Rattle.basics.proofs.Lists.{sets-behind, sets-front}
+use Rattle.blocks.specs.Layout.{rules, goals, relabelHead}
+use Rattle.psvn.specs.Relabelling.{relabelRule, relabelGoal, relabelBlock}
+use Rattle.psvn.proofs.relabelling.relabel_block.Statement.{statement}
+use Rattle.psvn.proofs.relabelling.relabel_block.Tie as tie
+
+-- the rules and the goals of the relabelled block
+abbrev all-rules : List ℕ → List ℕ
+all-rules b = joined (rules b) (relabelRule b)
+
+abbrev all-goals : List ℕ → List ℕ
+all-goals b = joined (goals b) (relabelGoal b)
+
+-- the three parts' lengths
+parts : (b : List ℕ) → length (relabelBlock b) ≡ length (relabelHead b) + (length (all-rules b) + length (all-goals b))
+unfolding relabelBlock
+parts b =
+    length-append (relabelHead b) (all-rules b ++ all-goals b)
+    ∙ ap (λ (k : ℕ). length (relabelHead b) + k) (length-append (all-rules b) (all-goals b))
+
+relabel-head-requires : tie.Need-relabel-head-requires
+relabel-head-requires c κs = (c .before .before .before .pre .0 .sized .head, omega (arith, parts (now (c .before .before .before .args .block))))
+
+relabel-rules-requires : tie.Need-relabel-rules-requires
+relabel-rules-requires c κs =
+    let s = c .before .before .before .before .before .before .before in
+    (s .pre .0, omega (arith, parts (now (s .args .block)), c .before .before .before .relabel-head .kept .1 .0))
+
+relabel-goals-requires : tie.Need-relabel-goals-requires
+relabel-goals-requires c κs =
+    let s = c .before .before .before .before .before .before .before .before .before .before .before in
+    let kept = (c .before .before .before .relabel-rules .kept .1 .0 ∙ c .before .before .before .before .before .before .before .relabel-head .kept .1 .0) in
+    (s .pre .0, omega (arith, parts (now (s .args .block)), kept))
+
+same-length : tie.Need-same-length
+same-length c =
+    let rules-kept = c .before .before .before .before .before .before .relabel-rules .kept .1 .0 in
+    let head-kept = c .before .before .before .before .before .before .before .before .before .before .relabel-head .kept .1 .0 in
+    c .before .before .relabel-goals .kept .1 .0 ∙ rules-kept ∙ head-kept
+
+returns : tie.Need-returns
+unfolding relabelBlock
+returns c =
+    let s = c .before .before .before .before .before .before .before .before .before .before .before .before .before .before in
+    let b = now (s .args .block) in
+    let o = now (s .args .out) in
+    let h = c .before .before .before .before .before .before .before .before .before .before .relabel-head .ensures in
+    let r = c .before .before .before .before .before .before .relabel-rules .ensures in
+    let body = sets-behind _ _ (all-rules b) (all-goals b) (r .1) (r .0) (c .before .before .relabel-goals .ensures) in
+    sets-behind o 0 (relabelHead b) (all-rules b ++ all-goals b) (h .1) (omega (arith, h .0)) body
+    ∙ sets-front o (relabelHead b ++ (all-rules b ++ all-goals b)) (s .pre .1)
+
+pub relabel-block-spec : {M : Type 1} → statement M
+relabel-block-spec =
+    tie.close
+    (tie.spec
+    relabel-head-requires
+    relabel-rules-requires
+    relabel-goals-requires
+    same-length
+    returns)

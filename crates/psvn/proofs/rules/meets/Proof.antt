@@ -1,0 +1,70 @@
+-- `psvn::rules::meets` meets its contract.
+-- The loop's invariant: no goal passed is met.
+use mathlib.Core.Path.{_≡_, sym, _∙_}
+use mathlib.Core.Bool.{false}
+use Prim.Native.Nat.{ℕ, _≤_, _<_, _-_}
+use native.Mathlib.Omega.{arith}
+use denote.Ref.{now}
+use borrow.Author.Count.{below-more}
+use borrow.Author.Needs.{needs}
+use Rattle.basics.proofs.Bounded.{some-intro, some-passed}
+use Rattle.blocks.specs.Layout.{goals}
+use Rattle.psvn.specs.Rules.{goalMet, meets}
+use Rattle.psvn.proofs.rules.meets.Statement.{statement}
+use Rattle.psvn.proofs.rules.meets.Tie as tie
+
+abbrev Inv-loop : tie.InvT-loop
+Inv-loop block state count g₀ g =
+    (count ≡ goals block) × (g ≤ count) × ((k : ℕ) → k < g → goalMet block k state ≡ false)
+
+abbrev μ-loop : tie.MeasureT-loop
+μ-loop block state goals g₀ g = goals - g
+
+goals-requires : tie.Need-goals-requires Inv-loop μ-loop
+goals-requires c κs = search needs
+
+loop-holds : tie.Need-loop-holds Inv-loop μ-loop
+loop-holds c = (search needs, search needs, λ k l. absurd (omega arith))
+
+goal-met-requires : tie.Need-goal-met-requires Inv-loop μ-loop
+goal-met-requires c κs = search needs
+
+returns : tie.Need-returns Inv-loop μ-loop
+unfolding meets
+returns c =
+    let a = c .before .before .before .before .before .before .before .args in
+    let b = now (a .block) in
+    sym (some-intro (λ g. goalMet b g (now (a .state))) (goals b) (c .before .before .before .loop .g) (omega arith) (sym (c .before .goal-met .ensures) ∙ c .if1 .taken))
+
+add-g : tie.Need-add-g Inv-loop μ-loop
+add-g c = search needs
+
+loop-less : tie.Need-loop-less Inv-loop μ-loop
+loop-less c = search needs
+
+loop-again : tie.Need-loop-again Inv-loop μ-loop
+loop-again c =
+    let inv = c .before .before .before .loop .inv in
+    (inv .0, search needs, below-more _ _ (inv .2) (sym (c .before .goal-met .ensures) ∙ c .if1 .left))
+
+returns-2 : tie.Need-returns-2 Inv-loop μ-loop
+unfolding meets
+returns-2 c =
+    let a = c .before .before .before .before .before .args in
+    let b = now (a .block) in
+    sym (some-passed (λ g. goalMet b g (now (a .state))) (goals b) (c .before .loop .g) (omega arith) (c .before .loop .inv .2))
+
+pub meets-spec : {M : Type 1} → statement M
+meets-spec =
+    tie.close
+    (tie.spec
+    Inv-loop
+    μ-loop
+    goals-requires
+    loop-holds
+    goal-met-requires
+    returns
+    add-g
+    loop-less
+    loop-again
+    returns-2)

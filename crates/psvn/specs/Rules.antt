@@ -1,0 +1,50 @@
+-- Matching and applying: one notion, the label that a term gives at a position (`given`), says when a side matches and what a rule writes.
+-- A rule applies (`applies`) and makes a state (`step`); a goal is met (`goalMet`), and some goal is (`meets`).
+use Prim.Native.Nat.{ℕ}
+use mathlib.Core.Bool.{Bool}
+use mathlib.Core.List.{List}
+use lib.Dec.{eqb}
+use lib.ListN.{getD}
+use Rattle.basics.specs.Bounded.{all, some, first}
+use Rattle.basics.specs.Lists.{tabulate}
+use Rattle.blocks.specs.Terms.{termOf}
+use Rattle.blocks.specs.Layout.{positions, goals, leftOf, rightOf, goalOf}
+use Rattle.blocks.specs.declared.terms.Term.{Term}
+use Rattle.blocks.specs.declared.terms.Term.the-variants.{Label, Variable, Dash, Refused}
+
+-- the label that the side binds the variable v to: that of the first position where v stands
+unfoldable pub bound : ℕ → (ℕ → ℕ) → List ℕ → ℕ → ℕ
+bound n side s v = getD s (first n (λ j. eqb (side j) v)) 0
+
+-- the label that a term gives at position i: a constant itself, a variable its bound label, a dash the state's own
+abbrev pub given : ℕ → (ℕ → ℕ) → List ℕ → ℕ → Term → ℕ
+given n side s i (Label label) = label .0
+given n side s i (Variable v) = bound n side s v
+given n side s i Dash = getD s i 0
+given n side s i Refused = getD s i 0
+
+-- at position i the state has the label that the side's term gives
+abbrev pub agrees : ℕ → (ℕ → ℕ) → List ℕ → ℕ → Bool
+agrees n side s i = eqb (getD s i 0) (given n side s i (termOf (side i)))
+
+-- the state matches the side
+unfoldable pub matches : ℕ → (ℕ → ℕ) → List ℕ → Bool
+matches n side s = all n (agrees n side s)
+
+-- the new state: each label that the right side's term gives, from the old state
+unfoldable pub rewritten : ℕ → (ℕ → ℕ) → (ℕ → ℕ) → List ℕ → List ℕ
+rewritten n left right s = tabulate n (λ i. given n left s i (termOf (right i)))
+
+-- rule r applies to the state; the state it makes
+unfoldable pub applies : List ℕ → ℕ → List ℕ → Bool
+applies b r s = matches (positions b) (leftOf b r) s
+
+unfoldable pub step : List ℕ → ℕ → List ℕ → List ℕ
+step b r s = rewritten (positions b) (leftOf b r) (rightOf b r) s
+
+-- the state matches goal g; it meets a goal
+unfoldable pub goalMet : List ℕ → ℕ → List ℕ → Bool
+goalMet b g s = matches (positions b) (goalOf b g) s
+
+unfoldable pub meets : List ℕ → List ℕ → Bool
+meets b s = some (goals b) (λ g. goalMet b g s)

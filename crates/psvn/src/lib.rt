@@ -1,0 +1,3 @@
+// The language: matching, applying, goals, relabelling.
+pub mod relabelling;
+pub mod rules;

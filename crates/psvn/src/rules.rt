@@ -1,0 +1,110 @@
+// Matching, applying, and the goal test.
+ghost use mathlib.Core.Path.{_≡_};
+ghost use Prim.Native.Nat.{_+_, _≤_, _<_};
+ghost use lib.ListN.{length};
+ghost use Rattle.basics.specs.Lists.{atFront};
+ghost use Rattle.blocks.specs.Terms.{termOf};
+ghost use Rattle.blocks.specs.Layout.{positions, rules, goals, sideAt};
+ghost use Rattle.blocks.specs.Validity.{Sized};
+ghost use Rattle.psvn.specs.Rules.{given, matches, rewritten, applies, step, goalMet, meets};
+use blocks::labels::ConcreteLabel;
+use blocks::layout;
+use blocks::layout::first_of;
+use blocks::terms::Term;
+use blocks::terms::decode;
+
+// The label that a term's byte gives at position i of a state, under the side at `at`.
+fn label_given(block: &[u8], at: usize, state: &[u8], i: usize, byte: u8) -> ConcreteLabel
+    requires { ⌜ (at + length (now state) ≤ length (now block)) × (i < length (now state)) ⌝ }
+    ensures { λ r. ⌜ r .0 ≡ given (length (now (state .entry))) (sideAt (now (block .entry)) at) (now (state .entry)) i (termOf byte) ⌝ }
+{
+    let term = decode(byte);
+    match term {
+        Term::Label(label) => label,
+        Term::Variable(v) => {
+            let j = first_of(block, at, state.len(), v);
+            if j < state.len() {
+                ConcreteLabel(state[j])
+            } else {
+                ConcreteLabel(0)
+            }
+        }
+        Term::Dash => ConcreteLabel(state[i]),
+        Term::Refused => ConcreteLabel(state[i]),
+    }
+}
+
+// Whether a state matches the side at `at`.
+fn side_matches(block: &[u8], at: usize, state: &[u8]) -> bool
+    requires { ⌜ at + length (now state) ≤ length (now block) ⌝ }
+    ensures { λ r. ⌜ r ≡ matches (length (now (state .entry))) (sideAt (now (block .entry)) at) (now (state .entry)) ⌝ }
+{
+    let n = state.len();
+    let mut i = 0;
+    while i < n {
+        let byte = block[at + i];
+        let given = label_given(block, at, state, i, byte);
+        if state[i] != given.0 {
+            return false;
+        }
+        i += 1;
+    }
+    true
+}
+
+// Writes the state that the right side at `right` makes of a state under the left side at `left`.
+fn rewrite(block: &[u8], left: usize, right: usize, state: &[u8], out: &mut [u8])
+    requires { ⌜ (left + length (now state) ≤ length (now block)) × (right + length (now state) ≤ length (now block)) × (length (now state) ≤ length (now out)) ⌝ }
+    ensures { λ _. ⌜ now (out .exit) ≡ atFront (rewritten (length (now (state .entry))) (sideAt (now (block .entry)) left) (sideAt (now (block .entry)) right) (now (state .entry))) (now (out .entry)) ⌝ }
+{
+    let n = state.len();
+    let mut i = 0;
+    while i < n {
+        let byte = block[right + i];
+        let given = label_given(block, left, state, i, byte);
+        out[i] = given.0;
+        i += 1;
+    }
+}
+
+// Whether rule r applies to a state.
+pub fn applies(block: &[u8], r: usize, state: &[u8]) -> bool
+    requires { ⌜ Sized (now block) × (r < rules (now block)) × (length (now state) ≡ positions (now block)) ⌝ }
+    ensures { λ answer. ⌜ answer ≡ applies (now (block .entry)) r (now (state .entry)) ⌝ }
+{
+    side_matches(block, layout::left_at(block, r), state)
+}
+
+// Writes the state that rule r makes of a state.
+pub fn step(block: &[u8], r: usize, state: &[u8], out: &mut [u8])
+    requires { ⌜ Sized (now block) × (r < rules (now block)) × (length (now state) ≡ positions (now block)) × (positions (now block) ≤ length (now out)) ⌝ }
+    ensures { λ _. ⌜ now (out .exit) ≡ atFront (step (now (block .entry)) r (now (state .entry))) (now (out .entry)) ⌝ }
+{
+    let left = layout::left_at(block, r);
+    let right = layout::right_at(block, r);
+    rewrite(block, left, right, state, out);
+}
+
+// Whether a state matches goal g.
+fn goal_met(block: &[u8], g: usize, state: &[u8]) -> bool
+    requires { ⌜ Sized (now block) × (g < goals (now block)) × (length (now state) ≡ positions (now block)) ⌝ }
+    ensures { λ r. ⌜ r ≡ goalMet (now (block .entry)) g (now (state .entry)) ⌝ }
+{
+    side_matches(block, layout::goal_at(block, g), state)
+}
+
+// Whether a state meets a goal.
+pub fn meets(block: &[u8], state: &[u8]) -> bool
+    requires { ⌜ Sized (now block) × (length (now state) ≡ positions (now block)) ⌝ }
+    ensures { λ r. ⌜ r ≡ meets (now (block .entry)) (now (state .entry)) ⌝ }
+{
+    let goals = layout::goals(block);
+    let mut g: usize = 0;
+    while g < goals {
+        if goal_met(block, g, state) {
+            return true;
+        }
+        g += 1;
+    }
+    false
+}
