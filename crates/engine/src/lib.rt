@@ -1,0 +1,13 @@
+// The public calls. Each asks nothing of its caller: it refuses first, with the number and in the order of document 01, and then calls the layer below.
+mod applying;
+mod checking;
+mod goals;
+mod relabelling;
+
+pub use applying::Application;
+pub use applying::apply_rule;
+pub use checking::check_block;
+pub use goals::GoalTest;
+pub use goals::test_goals;
+pub use relabelling::Relabelling;
+pub use relabelling::relabel_block;
