@@ -1,0 +1,2 @@
+-- The starred exercises as theorems.
+pub mod Starred

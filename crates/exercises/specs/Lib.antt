@@ -1,0 +1,2 @@
+-- The starred exercises as statements.
+pub mod Starred

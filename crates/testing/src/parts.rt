@@ -1,0 +1,17 @@
+// Parts of buffers, with no demand on the caller.
+
+// The first bytes of a buffer, or all of it where it has fewer.
+pub fn front(buffer: &[u8], length: usize) -> &[u8] {
+    if length <= buffer.len() {
+        return &buffer[..length];
+    }
+    buffer
+}
+
+// Writes a byte where there is room.
+pub fn put(buffer: &mut [u8], at: usize, byte: u8) {
+    if at < buffer.len() {
+        buffer[at] = byte;
+        return;
+    }
+}

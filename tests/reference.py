@@ -1,0 +1,141 @@
+"""An independent reading of the language: blocks, states, matching, applying, goals, relabelling.
+
+It shares nothing with the crates. The expected outputs of the test programs are made from it (expected.py).
+"""
+
+
+class Refused(Exception):
+    def __init__(self, number):
+        super().__init__(number)
+        self.number = number
+
+
+class Exercise:
+    """A block taken apart. Terms are ('label', x), ('variable', v), ('dash',) or None for no term."""
+
+    def __init__(self, block):
+        if len(block) < 5:
+            raise Refused(3)
+        self.n, self.labels, self.abstracts, self.rule_count, self.goal_count = block[:5]
+        if not (1 <= self.n <= 16 and 1 <= self.labels <= 16 and 1 <= self.abstracts <= self.labels):
+            raise Refused(3)
+        if self.rule_count > 64 or not 1 <= self.goal_count <= 8 or self.abstracts ** self.n > 16384:
+            raise Refused(3)
+        n, width = self.n, 1 + 2 * self.n
+        if len(block) != 5 + self.labels + self.rule_count * width + self.goal_count * n:
+            raise Refused(4)
+        rest = list(block[5:])
+        self.map, rest = rest[: self.labels], rest[self.labels :]
+        self.rules = []
+        for _ in range(self.rule_count):
+            rule, rest = rest[:width], rest[width:]
+            left = [self.term(x) for x in rule[1 : 1 + n]]
+            right = [self.term(x) for x in rule[1 + n :]]
+            self.rules.append((rule[0], left, right))
+        self.goals = []
+        for _ in range(self.goal_count):
+            goal, rest = rest[:n], rest[n:]
+            self.goals.append([self.term(x) for x in goal])
+        if any(x >= self.abstracts for x in self.map):
+            raise Refused(5)
+        sides = [side for _, left, right in self.rules for side in (left, right)] + self.goals
+        for term in (term for side in sides for term in side):
+            if term is None or (term[0] == 'label' and term[1] >= self.labels):
+                raise Refused(6)
+        for _, left, right in self.rules:
+            if any(term[0] == 'variable' and term not in left for term in right):
+                raise Refused(7)
+
+    @staticmethod
+    def term(byte):
+        if byte < 0x10:
+            return ('label', byte)
+        if byte < 0x20:
+            return ('variable', byte)
+        return ('dash',) if byte == 0xFF else None
+
+    def state(self, bytes_):
+        if len(bytes_) != self.n or any(x >= self.labels for x in bytes_):
+            raise Refused(8)
+        return list(bytes_)
+
+    @staticmethod
+    def match(side, state):
+        """The variables' labels, or None where the side does not match."""
+        bound = {}
+        for term, label in zip(side, state):
+            if term[0] == 'label' and term[1] != label:
+                return None
+            if term[0] == 'variable' and bound.setdefault(term[1], label) != label:
+                return None
+        return bound
+
+    def apply(self, rule, state):
+        """The new state, or None where the rule does not apply."""
+        _, left, right = self.rules[rule]
+        bound = self.match(left, state)
+        if bound is None:
+            return None
+        made = {'label': lambda t, old: t[1], 'variable': lambda t, old: bound[t[1]], 'dash': lambda t, old: old}
+        return [made[term[0]](term, old) for term, old in zip(right, state)]
+
+    def meets(self, state):
+        return any(self.match(goal, state) is not None for goal in self.goals)
+
+    def relabelled(self):
+        def byte(term):
+            if term[0] == 'label':
+                return self.map[term[1]]
+            return term[1] if term[0] == 'variable' else 0xFF
+
+        block = [self.n, self.abstracts, self.abstracts, self.rule_count, self.goal_count, *range(self.abstracts)]
+        for cost, left, right in self.rules:
+            block += [cost, *map(byte, left), *map(byte, right)]
+        for goal in self.goals:
+            block += map(byte, goal)
+        return block
+
+
+def check_block(block):
+    """0, or the number that turns the block back."""
+    try:
+        Exercise(block)
+        return 0
+    except Refused as r:
+        return r.number
+
+
+def apply_rule(block, rule, state, out):
+    """The answer and the contents of the buffer afterwards."""
+    try:
+        exercise = Exercise(block)
+        old = exercise.state(state)
+        if rule >= exercise.rule_count:
+            raise Refused(9)
+        if len(out) < exercise.n:
+            raise Refused(11)
+        new = exercise.apply(rule, old)
+        if new is None:
+            return 'does not apply', list(out)
+        return 'done', new + list(out[len(new) :])
+    except Refused as r:
+        return r.number, list(out)
+
+
+def test_goals(block, state):
+    try:
+        exercise = Exercise(block)
+        return exercise.meets(exercise.state(state))
+    except Refused as r:
+        return r.number
+
+
+def relabel_block(block, out):
+    """The answer, ('done', length) or a number, and the contents of the buffer afterwards."""
+    try:
+        new = Exercise(block).relabelled()
+        if len(out) < len(new):
+            raise Refused(11)
+        return ('done', len(new)), new + list(out[len(new) :])
+    except Refused as r:
+        return r.number, list(out)
