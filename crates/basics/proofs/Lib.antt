@@ -1,4 +1,5 @@
 -- The laws of these definitions, and of truth values.
+-- Every proof that goes over positions, rules, labels or written bytes rests on them.
 pub mod Truth
 pub mod Bounded
 pub mod Lists

@@ -1,4 +1,5 @@
 -- The definitions that every layer uses, a file for each idea.
+-- They know nothing of exercises: bounded tests, lists by index, digits.
 pub mod Bounded
 pub mod Lists
 pub mod Digits

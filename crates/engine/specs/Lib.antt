@@ -1,4 +1,5 @@
 -- The value that each public call gives, a file for each call.
+-- These are the values that the public contracts name.
 pub mod Checking
 pub mod Applying
 pub mod Goals

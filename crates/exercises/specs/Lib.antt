@@ -1,2 +1,3 @@
 -- The starred exercises as statements.
+-- One record has them all, a field for each.
 pub mod Starred

@@ -1,4 +1,5 @@
 -- The theorems on the language.
+-- Matching in words, relabelling, the homomorphism, states that stay states, ranks.
 pub mod Matching
 pub mod Relabelled
 pub mod Homomorphism

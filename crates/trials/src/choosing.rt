@@ -1,6 +1,6 @@
 // Numbers that look random. A cursor is one number: 2^31 times the place that is written next, and the seed.
 
-const SEEDS: u64 = 2147483648;
+pub const SEEDS: u64 = 2147483648;
 
 // A cursor at the front of a buffer.
 pub fn begin(seed: u64) -> u64 {

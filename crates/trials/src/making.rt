@@ -1,4 +1,5 @@
 // Blocks and states, most of them right, some damaged. Each function goes on from a cursor and gives the cursor behind what it wrote.
+use super::choosing::SEEDS;
 use super::choosing::begin;
 use super::choosing::byte_at;
 use super::choosing::chosen;
@@ -128,8 +129,8 @@ fn damaged(out: &mut [u8], cursor: u64) -> u64 {
 // The cursor one place back or one forward.
 fn moved(cursor: u64) -> u64 {
     if chosen(cursor, 2) == 0 {
-        if 2147483648 <= cursor {
-            return next(cursor - 2147483648);
+        if SEEDS <= cursor {
+            return next(cursor - SEEDS);
         }
     }
     forward(next(cursor))
