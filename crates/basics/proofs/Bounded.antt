@@ -1,14 +1,14 @@
--- Laws of `all`, `some` and `first`: what they say at each number below the bound, how to show them, and that they go by the test's values alone.
+-- Laws of `all`, `some`, `first` and `last`: what they say at each number below the bound, how to show them, and that they go by the test's values alone.
 -- The proofs of every scanning loop, of matching and of relabelling rest on these.
 use mathlib.Core.Path.{_≡_, refl, sym, ap, ap₂, _∙_}
 use mathlib.Core.Logic.{_⊎_, ⊎-elim}
-use mathlib.Core.Bool.{Bool, true, false, _&&_, _||_, true≢false}
-use Prim.Native.Nat.{ℕ, zero, suc, _≤_, _<_}
-use native.Mathlib.Nat.{eq-or-lt-of-le, le-of-suc-le-suc, not-suc-le-zero}
+use mathlib.Core.Bool.{Bool, true, false, cond, _&&_, _||_, true≢false}
+use Prim.Native.Nat.{ℕ, zero, suc, _+_, _≤_, _<_}
+use native.Mathlib.Nat.{eq-or-lt-of-le, le-of-suc-le-suc, not-suc-le-zero, add-zero, add-suc}
 use native.Mathlib.Omega.{arith}
 use lib.Dec.{ltb}
 use borrow.Author.Tests.{lt-ltb, le-ltb}
-use Rattle.basics.specs.Bounded.{all, some, first}
+use Rattle.basics.specs.Bounded.{all, some, first, last}
 use Rattle.basics.proofs.Truth.{true-false, and-true, and-intro, and-right-false, or-false}
 
 below : {i n : ℕ} → i < suc n → (i ≡ n) ⊎ (i < n)
@@ -32,6 +32,18 @@ module _ (f : ℕ → Bool) where
   all-false zero i l h = absurd (not-suc-le-zero l)
   all-false (suc n) i l h =
       ⊎-elim (λ e. and-right-false (all n f) (f n) (rw e at h)) (λ k. ap (λ (t : Bool). t && f n) (all-false n i k h)) (below l)
+
+  -- where not each number passes, one fails
+  pub all-fails : (n : ℕ) → all n f ≡ false → (i : ℕ) × (i < n) × (f i ≡ false)
+  all-fails zero h = absurd (true≢false h)
+  all-fails (suc n) h = go (all-fails n) (all n f) refl (f n) refl
+    where
+      go :
+          (all n f ≡ false → (i : ℕ) × (i < n) × (f i ≡ false)) → (t : Bool) → all n f ≡ t → (u : Bool) → f n ≡ u
+          → (i : ℕ) × (i < suc n) × (f i ≡ false)
+      go ih false e u d = let k = ih e in (k .0, let m = k .1 in omega arith, k .2)
+      go ih true e false d = (n, omega arith, d)
+      go ih true e true d = absurd (true-false (and-intro (all n f) (f n) e d) h)
 
   pub some-false : (n : ℕ) → some n f ≡ false → (i : ℕ) → i < n → f i ≡ false
   some-false zero h i l = absurd (not-suc-le-zero l)
@@ -99,6 +111,34 @@ module _ (f : ℕ → Bool) where
 
   pub first-passed : (n i : ℕ) → n ≤ i → ((k : ℕ) → k < i → f k ≡ false) → first n f ≡ n
   first-passed n i l h = first-none n (some-passed n i l h)
+
+  -- the last is not before a number at which the test holds, and the test holds at it
+  pub last-above : (n k : ℕ) → k < n → f k ≡ true → k < last n f
+  last-above zero k l h = absurd (not-suc-le-zero l)
+  last-above (suc n) k l h = go (λ m. last-above n k m h) (f n) refl
+    where
+      go : (k < n → k < last n f) → (t : Bool) → f n ≡ t → k < last (suc n) f
+      go ih true e = rw e l
+      go ih false e = rw e (⊎-elim (λ q. absurd (true-false h (rw (← q) at e))) ih (below l))
+
+  pub last-holds : (n i : ℕ) → last n f ≡ suc i → (i < n) × (f i ≡ true)
+  last-holds zero i h = absurd (omega arith)
+  last-holds (suc n) i h = go (last-holds n i) (f n) refl
+    where
+      go : (last n f ≡ suc i → (i < n) × (f i ≡ true)) → (t : Bool) → f n ≡ t → (i < suc n) × (f i ≡ true)
+      go ih true e =
+          let k : suc n ≡ suc i = rw e at h in
+          let m : i ≡ n = omega arith in
+          (omega arith, rw m e)
+      go ih false e = let k = ih (rw e at h) in (let j = k .0 in omega arith, k .1)
+
+  -- numbers at which the test fails do not matter
+  pub last-past : (m d : ℕ) → ((k : ℕ) → m ≤ k → k < m + d → f k ≡ false) → last (m + d) f ≡ last m f
+  last-past m zero h = ap (λ (k : ℕ). last k f) (add-zero m)
+  last-past m (suc d) h =
+      ap (λ (k : ℕ). last k f) (add-suc m d)
+      ∙ ap (λ (t : Bool). cond t (suc (m + d)) (last (m + d) f)) (h (m + d) (omega arith) (omega arith))
+      ∙ last-past m d (λ k a b. h k a (omega arith))
 
 module _ (f g : ℕ → Bool) where
   pub all-ext : (n : ℕ) → ((i : ℕ) → i < n → f i ≡ g i) → all n f ≡ all n g

@@ -4,3 +4,4 @@ pub mod Truth
 pub mod Bounded
 pub mod Lists
 pub mod Digits
+pub mod Order

@@ -1,5 +1,5 @@
--- Tests over the numbers below a bound: each of them (`all`), some of them (`some`), the first of them (`first`).
--- Validity, matching and goals are stated with these.
+-- Tests over the numbers below a bound: each of them (`all`), some of them (`some`), the first and the last of them (`first`, `last`).
+-- Validity, matching, goals and predecessors are stated with these.
 use Prim.Native.Nat.{ℕ, zero, suc}
 use mathlib.Core.Bool.{Bool, true, false, cond, _&&_, _||_}
 
@@ -17,3 +17,8 @@ some (suc n) f = some n f || f n
 abbrev pub first : ℕ → (ℕ → Bool) → ℕ
 first zero f = zero
 first (suc n) f = cond (some n f) (first n f) (cond (f n) n (suc n))
+
+-- one more than the greatest number below n at which the test holds, or 0
+abbrev pub last : ℕ → (ℕ → Bool) → ℕ
+last zero f = zero
+last (suc n) f = cond (f n) (suc n) (last n f)

@@ -1,5 +1,5 @@
--- What it says that a list is `labelled`: its length, and each label by itself (`labelled-length`, `labelled-at`, `labelled-intro`).
--- The theorems on states and ranks, and the code that reads a checked state, rest on these.
+-- What it says that a list is `labelled`: its length, and each label by itself (`labelled-length`, `labelled-at`, `labelled-intro`); and its number in the base
+-- of the label counts: `labelled-below`, `labelled-digits`, `digits-labelled`. The theorems on states and ranks, and the code that reads a checked state, rest on these.
 use mathlib.Core.Path.{_≡_}
 use mathlib.Core.Bool.{true}
 use mathlib.Core.List.{List}
@@ -9,6 +9,8 @@ use lib.ListN.{length, getD}
 use borrow.Author.Tests.{eqb-true, ltb-true, eq-eqb, lt-ltb}
 use Rattle.basics.proofs.Truth.{and-true, and-intro}
 use Rattle.basics.proofs.Bounded.{all-at, all-intro}
+use Rattle.basics.specs.Digits.{valueTo, digits, span}
+use Rattle.basics.proofs.Digits.{value-below, digits-value, digit-below, length-digits}
 use Rattle.blocks.specs.States.{labelled}
 
 module _ (n : ℕ) (count : ℕ → ℕ) (s : List ℕ) where
@@ -22,8 +24,19 @@ module _ (n : ℕ) (count : ℕ → ℕ) (s : List ℕ) where
     labelled-at i l =
         ltb-true _ _ (all-at (λ i. ltb (getD s i 0) (count i)) n (and-true (eqb (length s) n) _ ok .1) i l)
 
+    -- its number, and the digits of that
+    pub labelled-below : valueTo count s n < span count n
+    labelled-below = value-below count s n labelled-at
+
+    pub labelled-digits : digits count n (valueTo count s n) ≡ s
+    labelled-digits = digits-value count s n labelled-length labelled-at
+
   pub labelled-intro : length s ≡ n → ((i : ℕ) → i < n → getD s i 0 < count i) → labelled n count s ≡ true
   unfolding labelled
   labelled-intro e h =
       and-intro (eqb (length s) n) _ (eq-eqb (length s) n e)
       (all-intro (λ i. ltb (getD s i 0) (count i)) n (λ i l. lt-ltb (getD s i 0) (count i) (h i l)))
+
+pub digits-labelled : (n : ℕ) (count : ℕ → ℕ) → ((i : ℕ) → 0 < count i) → (k : ℕ) → labelled n count (digits count n k) ≡ true
+digits-labelled n count positive k =
+    labelled-intro n count (digits count n k) (length-digits count n k) (digit-below count positive n k)

@@ -1,12 +1,12 @@
--- The four cases of `termOf`, each from a fact about the byte, and that every byte falls into one (`view`).
--- The proofs of decoding, matching and relabelling go by these cases.
-use mathlib.Core.Path.{_≡_, refl}
+-- The four cases of `termOf`, each from a fact about the byte, and that every byte falls into one (`view`); a dash is one byte (`dash-byte`).
+-- The proofs of decoding, matching, relabelling and stepping back go by these cases.
+use mathlib.Core.Path.{_≡_, refl, sym, ap, _∙_}
 use mathlib.Core.Bool.{Bool, true, false}
 use Prim.Native.Nat.{ℕ, _≤_, _<_}
 use native.Mathlib.Omega.{arith}
 use lib.Dec.{ltb, eqb}
-use borrow.Author.Tests.{lt-ltb, le-ltb, ne-eqb, ltb-true, ltb-false, eqb-true, eqb-false}
-use Rattle.blocks.specs.Terms.{termOf}
+use borrow.Author.Tests.{lt-ltb, le-ltb, eq-eqb, ne-eqb, ltb-true, ltb-false, eqb-true, eqb-false}
+use Rattle.blocks.specs.Terms.{termOf, isDash}
 use Rattle.blocks.specs.declared.terms.Term.the-variants.{Label, Variable, Dash, Refused}
 
 pub is-label : (t : ℕ) → t < 16 → termOf t ≡ Label (record { 0 = t })
@@ -36,3 +36,12 @@ view t = go (ltb t 16) refl (ltb t 32) refl (eqb t 255) refl
     go false e true f c g = variable (ltb-false t 16 e) (ltb-true t 32 f)
     go false e false f true g = dash (eqb-true t 255 g)
     go false e false f false g = refused (ltb-false t 32 f) (eqb-false t 255 g)
+
+pub dash-byte : (t : ℕ) → isDash (termOf t) ≡ eqb t 255
+dash-byte t = go (view t)
+  where
+    go : View t → isDash (termOf t) ≡ eqb t 255
+    go (label a) = ap isDash (is-label t a) ∙ sym (ne-eqb t 255 (λ e. omega arith))
+    go (variable a b) = ap isDash (is-variable t a b) ∙ sym (ne-eqb t 255 (λ e. omega arith))
+    go (dash e) = ap isDash (is-dash t e) ∙ sym (eq-eqb t 255 e)
+    go (refused a b) = ap isDash (is-refused t a b) ∙ sym (ne-eqb t 255 b)

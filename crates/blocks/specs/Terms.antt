@@ -19,3 +19,10 @@ termOk count (Label label) = ltb (label .0) count
 termOk count (Variable v) = true
 termOk count Dash = true
 termOk count Refused = false
+
+-- the term is a dash
+abbrev pub isDash : Term → Bool
+isDash (Label label) = false
+isDash (Variable v) = false
+isDash Dash = true
+isDash Refused = false

@@ -1,6 +1,6 @@
 // Terms: what the bytes of rules and goals stand for.
 ghost use mathlib.Core.Path.{_≡_};
-ghost use Rattle.blocks.specs.Terms.{termOf, termOk};
+ghost use Rattle.blocks.specs.Terms.{termOf, termOk, isDash};
 use super::labels::ConcreteLabel;
 use basics::wide;
 
@@ -32,6 +32,19 @@ pub fn term_ok(byte: u8, count: usize) -> bool
     match term {
         Term::Label(label) => wide(label.0) < count,
         Term::Variable(_) => true,
+        Term::Dash => true,
+        Term::Refused => false,
+    }
+}
+
+// Whether a byte is a dash.
+pub fn is_dash(byte: u8) -> bool
+    ensures { λ r. ⌜ r ≡ isDash (termOf byte) ⌝ }
+{
+    let term = decode(byte);
+    match term {
+        Term::Label(_) => false,
+        Term::Variable(_) => false,
         Term::Dash => true,
         Term::Refused => false,
     }

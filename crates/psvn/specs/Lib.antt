@@ -1,5 +1,6 @@
 -- The definitions of the language, a file for each idea.
--- Matching and applying, relabelling, and the ranks of abstract states.
+-- Matching and applying, runs of rules, relabelling, and the ranks of states.
 pub mod Rules
+pub mod Runs
 pub mod Relabelling
 pub mod Ranks

@@ -1,7 +1,7 @@
 -- Matching and applying: one notion, the label that a term gives at a position (`given`), says when a side matches and what a rule writes.
--- A rule applies (`applies`) and makes a state (`step`); a goal is met (`goalMet`), and some goal is (`meets`).
+-- A rule applies (`applies`), makes a state (`step`) and so leads from one state to another (`leads`); a goal is met (`goalMet`), and some goal is (`meets`).
 use Prim.Native.Nat.{ℕ}
-use mathlib.Core.Bool.{Bool}
+use mathlib.Core.Bool.{Bool, _&&_}
 use mathlib.Core.List.{List}
 use lib.Dec.{eqb}
 use lib.ListN.{getD}
@@ -41,6 +41,16 @@ applies b r s = matches (positions b) (leftOf b r) s
 
 unfoldable pub step : List ℕ → ℕ → List ℕ → List ℕ
 step b r s = rewritten (positions b) (leftOf b r) (rightOf b r) s
+
+-- rule r takes the state u to s: it applies to u, and the state it makes is s
+abbrev pub same : ℕ → List ℕ → List ℕ → Bool
+same n s t = all n (λ i. eqb (getD s i 0) (getD t i 0))
+
+unfoldable pub leadsBy : ℕ → (ℕ → ℕ) → (ℕ → ℕ) → List ℕ → List ℕ → Bool
+leadsBy n left right u s = matches n left u && same n (rewritten n left right u) s
+
+abbrev pub leads : List ℕ → ℕ → List ℕ → List ℕ → Bool
+leads b r u s = leadsBy (positions b) (leftOf b r) (rightOf b r) u s
 
 -- the state matches goal g; it meets a goal
 unfoldable pub goalMet : List ℕ → ℕ → List ℕ → Bool

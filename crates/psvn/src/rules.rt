@@ -6,7 +6,7 @@ ghost use Rattle.basics.specs.Lists.{atFront};
 ghost use Rattle.blocks.specs.Terms.{termOf};
 ghost use Rattle.blocks.specs.Layout.{positions, rules, goals, sideAt};
 ghost use Rattle.blocks.specs.Validity.{Sized};
-ghost use Rattle.psvn.specs.Rules.{given, matches, rewritten, applies, step, goalMet, meets};
+ghost use Rattle.psvn.specs.Rules.{given, matches, rewritten, applies, step, same, leads, goalMet, meets};
 use blocks::labels::ConcreteLabel;
 use blocks::layout;
 use blocks::layout::first_of;
@@ -67,6 +67,24 @@ fn rewrite(block: &[u8], left: usize, right: usize, state: &[u8], out: &mut [u8]
     }
 }
 
+// Whether the right side at `right` makes `new` of `old` under the left side at `left`.
+fn makes(block: &[u8], left: usize, right: usize, old: &[u8], new: &[u8]) -> bool
+    requires { ⌜ (left + length (now old) ≤ length (now block)) × (right + length (now old) ≤ length (now block)) × (length (now new) ≡ length (now old)) ⌝ }
+    ensures { λ r. ⌜ r ≡ same (length (now (old .entry))) (rewritten (length (now (old .entry))) (sideAt (now (block .entry)) left) (sideAt (now (block .entry)) right) (now (old .entry))) (now (new .entry)) ⌝ }
+{
+    let n = old.len();
+    let mut i = 0;
+    while i < n {
+        let byte = block[right + i];
+        let given = label_given(block, left, old, i, byte);
+        if given.0 != new[i] {
+            return false;
+        }
+        i += 1;
+    }
+    true
+}
+
 // Whether rule r applies to a state.
 pub fn applies(block: &[u8], r: usize, state: &[u8]) -> bool
     requires { ⌜ Sized (now block) × (r < rules (now block)) × (length (now state) ≡ positions (now block)) ⌝ }
@@ -83,6 +101,18 @@ pub fn step(block: &[u8], r: usize, state: &[u8], out: &mut [u8])
     let left = layout::left_at(block, r);
     let right = layout::right_at(block, r);
     rewrite(block, left, right, state, out);
+}
+
+// Whether rule r takes the state `old` to `new`.
+pub fn leads(block: &[u8], r: usize, old: &[u8], new: &[u8]) -> bool
+    requires { ⌜ Sized (now block) × (r < rules (now block)) × (length (now old) ≡ positions (now block)) × (length (now new) ≡ positions (now block)) ⌝ }
+    ensures { λ answer. ⌜ answer ≡ leads (now (block .entry)) r (now (old .entry)) (now (new .entry)) ⌝ }
+{
+    let left = layout::left_at(block, r);
+    if side_matches(block, left, old) {
+        return makes(block, left, layout::right_at(block, r), old, new);
+    }
+    false
 }
 
 // Whether a state matches goal g.

@@ -1,0 +1,100 @@
+-- `psvn::rules::makes` meets its contract.
+-- The loop's invariant: the new state has the label that the right side makes at each position passed.
+use mathlib.Core.Path.{_≡_, sym, _∙_}
+use mathlib.Core.Bool.{Bool, true}
+use mathlib.Core.List.{List}
+use Prim.Native.Nat.{ℕ, _≤_, _<_, _-_}
+use native.Mathlib.Omega.{arith}
+use lib.Dec.{eqb}
+use lib.ListN.{length, getD}
+use denote.Ref.{now}
+use borrow.Author.Count.{below-more}
+use borrow.Author.Tests.{eq-eqb, ne-eqb}
+use borrow.Author.Needs.{needs}
+use Rattle.basics.proofs.Bounded.{all-passed, all-false}
+use Rattle.basics.proofs.Lists.{getD-tabulate}
+use Rattle.blocks.specs.Terms.{termOf}
+use Rattle.blocks.specs.Layout.{sideAt}
+use Rattle.psvn.specs.Rules.{given, rewritten}
+use Rattle.psvn.proofs.rules.makes.Statement.{statement}
+use Rattle.psvn.proofs.rules.makes.Tie as tie
+
+-- position k of the new state has the label that is made there
+abbrev holds : List ℕ → ℕ → ℕ → List ℕ → List ℕ → ℕ → Bool
+holds block left right old new k =
+    eqb (getD (rewritten (length old) (sideAt block left) (sideAt block right) old) k 0) (getD new k 0)
+
+made :
+    (block : List ℕ) (left right : ℕ) (old : List ℕ) (k : ℕ) → k < length old
+    → given (length old) (sideAt block left) old k (termOf (sideAt block right k)) ≡ getD (rewritten (length old) (sideAt block left) (sideAt block right) old) k 0
+unfolding rewritten
+made block left right old k l =
+    sym (getD-tabulate (length old) (λ i. given (length old) (sideAt block left) old i (termOf (sideAt block right i))) k l)
+
+abbrev Inv-loop : tie.InvT-loop
+Inv-loop block left right old new n i₀ i =
+    (n ≡ length old) × (i ≤ n) × ((k : ℕ) → k < i → holds block left right old new k ≡ true)
+
+abbrev μ-loop : tie.MeasureT-loop
+μ-loop block left right old new n i₀ i = n - i
+
+loop-holds : tie.Need-loop-holds Inv-loop μ-loop
+loop-holds c = (search needs, search needs, λ k l. absurd (omega arith))
+
+add-byte : tie.Need-add-byte Inv-loop μ-loop
+add-byte c = search needs
+
+shared-slice-read-byte : tie.Need-shared-slice-read-byte Inv-loop μ-loop
+shared-slice-read-byte c = search needs
+
+label-given-requires : tie.Need-label-given-requires Inv-loop μ-loop
+label-given-requires c κs = search needs
+
+shared-slice-read-if1 : tie.Need-shared-slice-read-if1 Inv-loop μ-loop
+shared-slice-read-if1 c = search needs
+
+returns : tie.Need-returns Inv-loop μ-loop
+returns c =
+    let a = c .before .before .before .before .before .before .before .before .before .before .args in
+    let o = now (a .old) in
+    let i = c .before .before .before .before .before .before .loop .i in
+    sym (all-false (holds (now (a .block)) (a .left) (a .right) o (now (a .new))) (length o) i (omega arith)
+    (ne-eqb _ _ (λ e. c .if1 .taken (c .before .before .before .label-given .ensures ∙ made (now (a .block)) (a .left) (a .right) o i (omega arith) ∙ e))))
+
+add-i : tie.Need-add-i Inv-loop μ-loop
+add-i c = search needs
+
+loop-less : tie.Need-loop-less Inv-loop μ-loop
+loop-less c = search needs
+
+loop-again : tie.Need-loop-again Inv-loop μ-loop
+loop-again c =
+    let a = c .before .before .before .before .before .before .before .before .before .before .args in
+    let i = c .before .before .before .before .before .before .loop .i in (
+      search needs,
+      search needs,
+      below-more _ _ (c .before .before .before .before .before .before .loop .inv .2)
+          (eq-eqb _ _ (sym (made (now (a .block)) (a .left) (a .right) (now (a .old)) i (omega arith)) ∙ sym (c .before .before .before .label-given .ensures) ∙ c .if1 .left)),
+    )
+
+returns-2 : tie.Need-returns-2 Inv-loop μ-loop
+returns-2 c =
+    let a = c .before .before .before .before .before .args in
+    sym (all-passed (holds (now (a .block)) (a .left) (a .right) (now (a .old)) (now (a .new))) (length (now (a .old))) (c .before .loop .i) (omega arith) (c .before .loop .inv .2))
+
+pub makes-spec : {M : Type 1} → statement M
+makes-spec =
+    tie.close
+    (tie.spec
+    Inv-loop
+    μ-loop
+    loop-holds
+    add-byte
+    shared-slice-read-byte
+    label-given-requires
+    shared-slice-read-if1
+    returns
+    add-i
+    loop-less
+    loop-again
+    returns-2)
