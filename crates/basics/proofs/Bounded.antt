@@ -93,7 +93,15 @@ module _ (f : ℕ → Bool) where
   first-least zero i l = absurd (not-suc-le-zero l)
   first-least (suc n) i l = first-least-step n (some n f) refl (f n) refl (first-least n) i l
 
-  -- the first is below the bound exactly where there is one
+  -- the first is at most the bound
+  pub first-within : (n : ℕ) → first n f ≤ n
+  first-within n = go (some n f) refl
+    where
+      go : (t : Bool) → some n f ≡ t → first n f ≤ n
+      go true e = let k = first-holds n e .0 in omega arith
+      go false e = omega (arith, first-none n e)
+
+  -- and below it exactly where there is one
   pub first-some : (n : ℕ) → ltb (first n f) n ≡ some n f
   first-some n = go (some n f) refl
     where

@@ -1,14 +1,14 @@
--- Laws of `tabulate`, `joined` and of runs of stores: lengths, elements, and one element or one part more.
+-- Laws of `tabulate`, `joined`, `atFront` and of runs of stores: lengths, elements, and one element or one part more.
 -- The loops that write a buffer, and all that is said of the bytes of a relabelled block, rest on these.
 use mathlib.Core.Path.{_≡_, refl, sym, ap, ap₂, _∙_}
 use mathlib.Core.Logic.{⊎-elim}
-use mathlib.Core.List.{List, [], _∷_, _++_}
+use mathlib.Core.List.{List, [], _∷_, _++_, append-nil}
 use Prim.Native.Nat.{ℕ, zero, suc, _+_, _*_, _≤_, _<_}
 use native.Mathlib.Nat.{eq-or-lt-of-le, le-of-suc-le-suc, not-suc-le-zero, add-zero, suc-add, add-suc, zero-add, suc-mul, zero-mul, mul-le-mul-right}
 use native.Mathlib.Omega.{arith}
 use native.Mathlib.Numerals.{add-one}
-use lib.ListN.{length, getD, set, drop, length-append, List·getD-append}
-use lib.Seq.{ext-getD, getD-append-add, sets, sets-eq}
+use lib.ListN.{length, getD, set, take, drop, length-append, List·getD-append, drop-of-length-le}
+use lib.Seq.{ext-getD, getD-append-add, take-length, sets, sets-eq}
 use Rattle.basics.specs.Lists.{tabulateFrom, tabulate, joined, atFront}
 
 length-from : (n i : ℕ) (f : ℕ → ℕ) → length (tabulateFrom i n f) ≡ n
@@ -112,3 +112,11 @@ sets-behind l i a b e p q = q ∙ ap₂ (λ (x : List ℕ) (k : ℕ). sets x k b
 pub sets-front : (l new : List ℕ) → length new ≤ length l → sets l 0 new ≡ atFront new l
 sets-front l new h =
     sets-eq new l 0 (omega arith) ∙ ap (λ (k : ℕ). new ++ drop k l) (zero-add (length new))
+
+-- a list at the front of one that is no longer
+pub front-whole : (new old : List ℕ) → length old ≤ length new → atFront new old ≡ new
+front-whole new old h = ap (λ (l : List ℕ). new ++ l) (drop-of-length-le old h) ∙ append-nil new
+
+-- what is written where all elements of a list are copied
+pub copied-whole : (s l : List ℕ) → atFront (take (length s) s) l ≡ atFront s l
+copied-whole s l = ap (λ (x : List ℕ). atFront x l) (take-length s)

@@ -4,6 +4,7 @@ use mathlib.Core.Path.{_≡_}
 use mathlib.Core.Bool.{true}
 use mathlib.Core.List.{List}
 use Prim.Native.Nat.{ℕ, _<_}
+use native.Mathlib.Omega.{arith}
 use lib.Dec.{eqb, ltb}
 use lib.ListN.{length, getD}
 use borrow.Author.Tests.{eqb-true, ltb-true, eq-eqb, lt-ltb}
@@ -11,7 +12,9 @@ use Rattle.basics.proofs.Truth.{and-true, and-intro}
 use Rattle.basics.proofs.Bounded.{all-at, all-intro}
 use Rattle.basics.specs.Digits.{valueTo, digits, span}
 use Rattle.basics.proofs.Digits.{value-below, digits-value, digit-below, length-digits}
-use Rattle.blocks.specs.States.{labelled}
+use Rattle.blocks.specs.Layout.{positions, labelCount}
+use Rattle.blocks.specs.Validity.{Headed}
+use Rattle.blocks.specs.States.{labelled, stateOk}
 
 module _ (n : ℕ) (count : ℕ → ℕ) (s : List ℕ) where
   module _ (ok : labelled n count s ≡ true) where
@@ -40,3 +43,9 @@ module _ (n : ℕ) (count : ℕ → ℕ) (s : List ℕ) where
 pub digits-labelled : (n : ℕ) (count : ℕ → ℕ) → ((i : ℕ) → 0 < count i) → (k : ℕ) → labelled n count (digits count n k) ≡ true
 digits-labelled n count positive k =
     labelled-intro n count (digits count n k) (length-digits count n k) (digit-below count positive n k)
+
+-- a label of a block's state
+pub label-below : (b : List ℕ) → Headed b → (s : List ℕ) → stateOk b s ≡ true → (i : ℕ) → i < positions b → getD s i 0 < 16
+unfolding labelCount
+label-below b h s ok i l =
+    omega (arith, labelled-at (positions b) (labelCount b) s ok i l, h .sizes .l-high)

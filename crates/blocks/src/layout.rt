@@ -15,6 +15,9 @@ use basics::wide;
 // How many bytes the head has.
 pub const HEAD_LENGTH: usize = 5;
 
+// The most positions that a state can have.
+pub const MOST_POSITIONS: usize = 16;
+
 // Byte i of the head.
 fn head_byte(block: &[u8], i: usize) -> usize
     requires { ⌜ (headLength ≤ length (now block)) × (i < headLength) ⌝ }

@@ -42,7 +42,10 @@ fn sizes_ok(block: &[u8]) -> bool
         lists,
     );
     let names = and(lies_within(1, layout::labels(block), 16), maps);
-    and(lies_within(1, layout::positions(block), 16), names)
+    and(
+        lies_within(1, layout::positions(block), layout::MOST_POSITIONS),
+        names,
+    )
 }
 
 // Whether k to the power n is at most the most abstract states. The product never passes 16 times the limit.

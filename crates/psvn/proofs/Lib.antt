@@ -1,8 +1,9 @@
 -- The theorems on the language.
--- Matching in words, relabelling, the homomorphism, states that stay states, ranks.
+-- Matching in words, relabelling, the homomorphism, states that stay states, ranks, runs of rules.
 pub mod Matching
 pub mod Relabelled
 pub mod Homomorphism
 pub mod Stepping
 pub mod RelabelTwice
 pub mod RankLaws
+pub mod RunLaws

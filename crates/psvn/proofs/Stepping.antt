@@ -40,7 +40,7 @@ module _
       go (refused a b) = rw (is-refused t a b) (below i l)
 
 module _ (b : List ℕ) (v : Valid b) where
-  count-alike : (i j : ℕ) → labelCount b i ≡ labelCount b j
+  pub count-alike : (i j : ℕ) → labelCount b i ≡ labelCount b j
   unfolding labelCount
   count-alike i j = refl
 

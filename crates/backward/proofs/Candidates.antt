@@ -1,0 +1,149 @@
+-- A candidate keeps to its choices and no state before it does, from the earlier state on; whether the rule takes it to s settles the answer (`candidate-settles`).
+-- The least labels throughout make one for 'first' (`completed-candidate`), the earlier state raised at its last possible position the next one (`raised-candidate`);
+-- where no position can be raised there is none further (`no-candidate`). The code rests on them as it finds a rule: `first-settles`, `next-settles`, `next-none`.
+use mathlib.Core.Path.{_≡_, refl, sym, ap, ap₂, _∙_, subst}
+use mathlib.Core.Bool.{Bool, true, false, cond}
+use mathlib.Core.List.{List}
+use Prim.Native.Nat.{ℕ, suc, _≤_, _<_}
+use native.Mathlib.Omega.{arith}
+use lib.ListN.{length, getD}
+use Rattle.basics.specs.Bounded.{last}
+use Rattle.basics.proofs.Truth.{true-false}
+use Rattle.basics.proofs.Order.{Before}
+use Rattle.blocks.specs.Layout.{positions, rules, labelCount, leftAt, rightAt, leftOf, rightOf, sideAt}
+use Rattle.blocks.specs.States.{stateOk}
+use Rattle.blocks.specs.Validity.{Valid}
+use Rattle.blocks.proofs.StateLaws.{labelled-at, labelled-intro}
+use Rattle.psvn.specs.Rules.{leads}
+use Rattle.psvn.specs.Ranks.{stateRank}
+use Rattle.psvn.proofs.RankLaws.{before-rank, rank-before}
+use Rattle.backward.specs.Choices.{choice, leastOf, turnsAt, Completed, Raised}
+use Rattle.backward.specs.declared.choices.Choice.{Choice}
+use Rattle.backward.specs.Predecessors.{Earlier, from-first, after, fromRank, found, none-further, stepBack, settled}
+use Rattle.backward.proofs.ChoiceCases.{choice-local}
+use Rattle.backward.proofs.Keeping.{Keeps, Proper, valid-proper, leads-keeps, keeps-leads, choice-below}
+use Rattle.backward.proofs.NextState.{next-found, none-found}
+use Rattle.backward.proofs.Succession.{completed-keeps, completed-below, completed-least, none-after, raised-above, raised-keeps, raised-below, raised-least}
+
+module _ (b : List ℕ) (va : Valid b) (r : ℕ) (lr : r < rules b) (s : List ℕ) (so : stateOk b s ≡ true) where
+  -- the choices of a predecessor of s
+  abbrev pub choices : List ℕ → ℕ → Choice
+  choices = choice (positions b) (leftOf b r) (rightOf b r) s
+
+  abbrev KeepsTo : List ℕ → Type 0
+  KeepsTo u = Keeps (positions b) (leftOf b r) (rightOf b r) s u
+
+  proper : Proper (positions b) (labelCount b) (leftOf b r) (rightOf b r)
+  proper = valid-proper b va r lr
+
+  pub record Candidate (earlier : Earlier) (u : List ℕ) : Type 0 where
+    pub state : stateOk b u ≡ true
+    pub keeps : KeepsTo u
+    pub above : fromRank b earlier ≤ stateRank b u
+    pub least :
+        (v : List ℕ) → stateOk b v ≡ true → KeepsTo v → fromRank b earlier ≤ stateRank b v → stateRank b u ≤ stateRank b v
+
+  pub candidate-settles :
+      (earlier : Earlier) (u : List ℕ) → Candidate earlier u → stepBack b r s earlier ≡ settled b r s u
+  candidate-settles earlier u c = go (leads b r u s) refl
+    where
+      keeping : (v : List ℕ) → leads b r v s ≡ true → KeepsTo v
+      keeping v h = leads-keeps (positions b) (leftOf b r) (rightOf b r) s v h
+
+      go : (t : Bool) → leads b r u s ≡ t → stepBack b r s earlier ≡ cond (leads b r u s) (found u) none-further
+      go true e =
+          rw e
+          (next-found b (va .sized .head) r s earlier u
+          (record {
+            state = c .state;
+            leads-there = e;
+            above = c .above;
+            least = λ v ok h a. c .least v ok (keeping v h) a;
+          }))
+      go false e =
+          rw e
+          (none-found b (va .sized .head) r s earlier (λ v ok h a.
+          true-false (keeps-leads (positions b) (labelCount b) (leftOf b r) (rightOf b r) proper s v h u (c .keeps)) e))
+
+  near : (u v : List ℕ) (i : ℕ) → ((k : ℕ) → k < i → getD u k 0 ≡ getD v k 0) → choices u i ≡ choices v i
+  near = choice-local (positions b) (leftOf b r) (rightOf b r) s
+
+  small :
+      (u : List ℕ) (i : ℕ) → i < positions b → ((k : ℕ) → k < i → getD u k 0 < labelCount b k)
+      → leastOf (choices u i) < labelCount b i
+  small u =
+      choice-below (positions b) (labelCount b) (leftOf b r) (rightOf b r) proper s u (labelled-at (positions b) (labelCount b) s so)
+
+  -- a state that does not come before another one has no lower rank
+  not-before :
+      (u v : List ℕ) → stateOk b u ≡ true → stateOk b v ≡ true → (Before (positions b) v u → ⊥)
+      → stateRank b u ≤ stateRank b v
+  not-before u v uo vo h =
+      let a : ¬ (stateRank b v < stateRank b u) = λ k. h (rank-before b v u vo uo k) in
+      omega arith
+
+  pub completed-candidate :
+      (e u : List ℕ) → length u ≡ positions b → Completed choices (positions b) 0 e u → Candidate from-first u
+  completed-candidate e u lu f =
+      let n = positions b in
+      let uo = labelled-intro n (labelCount b) u lu (completed-below n (labelCount b) choices near small e u f) in
+      record {
+        state = uo;
+        keeps = completed-keeps n (labelCount b) choices near small e u f;
+        above = omega arith;
+        least = λ v vo kv a. not-before u v uo vo (completed-least n (labelCount b) choices near small e u f v kv);
+      }
+
+  module _ (e : List ℕ) (eo : stateOk b e ≡ true) where
+    pub raised-candidate :
+        (u : List ℕ) (i : ℕ) → length u ≡ positions b → last (positions b) (turnsAt (labelCount b) choices e) ≡ suc i
+        → Raised choices (positions b) i e u → Candidate (after e) u
+    raised-candidate u i lu h t =
+        let n = positions b in
+        let be = labelled-at n (labelCount b) e eo in
+        let uo = labelled-intro n (labelCount b) u lu (raised-below n (labelCount b) choices near small e u i be h t) in
+        record {
+          state = uo;
+          keeps = raised-keeps n (labelCount b) choices near small e u i be h t;
+          above = before-rank b e u eo uo (raised-above n (labelCount b) choices near small e u i be h t);
+          least = λ v vo kv a.
+              not-before u v uo vo
+              (raised-least n (labelCount b) choices near small e u i be h t v kv (labelled-at n (labelCount b) v vo) (rank-before b e v eo vo a));
+        }
+
+    pub no-candidate :
+        last (positions b) (turnsAt (labelCount b) choices e) ≡ 0 → stepBack b r s (after e) ≡ none-further
+    no-candidate h =
+        let n = positions b in
+        none-found b (va .sized .head) r s (after e) (λ v vo k a.
+        none-after n (labelCount b) choices near small e v (leads-keeps n (leftOf b r) (rightOf b r) s v k) (labelled-at n (labelCount b) v vo) (rank-before b e v eo vo a) h)
+
+  -- as the code finds the rule: its sides begin at `left` and `right`, and n is the length of the state
+  module _ (n left right : ℕ) (en : n ≡ positions b) (el : left ≡ leftAt b r) (er : right ≡ rightAt b r) where
+    abbrev found-choices : List ℕ → ℕ → Choice
+    found-choices = choice n (sideAt b left) (sideAt b right) s
+
+    same-choices : found-choices ≡ choices
+    same-choices =
+        ap₂ (λ (n left : ℕ). choice n (sideAt b left) (sideAt b right) s) en el
+        ∙ ap (λ (right : ℕ). choice (positions b) (leftOf b r) (sideAt b right) s) er
+
+    pub first-settles :
+        (e u : List ℕ) → length u ≡ n → Completed found-choices n 0 e u → stepBack b r s from-first ≡ settled b r s u
+    first-settles e u lu f =
+        candidate-settles from-first u
+        (completed-candidate e u (lu ∙ en) (subst (λ (n : ℕ). Completed choices n 0 e u) en (subst (λ (w : List ℕ → ℕ → Choice). Completed w n 0 e u) same-choices f)))
+
+    module _ (e : List ℕ) (eo : stateOk b e ≡ true) where
+      pub next-settles :
+          (u : List ℕ) (i : ℕ) → length u ≡ n → last n (turnsAt (labelCount b) found-choices e) ≡ suc i
+          → Raised found-choices n i e u → stepBack b r s (after e) ≡ settled b r s u
+      next-settles u i lu h t =
+          candidate-settles (after e) u
+          (raised-candidate e eo u i (lu ∙ en)
+          (sym (ap₂ (λ (w : List ℕ → ℕ → Choice) (n : ℕ). last n (turnsAt (labelCount b) w e)) same-choices en) ∙ h)
+          (subst (λ (n : ℕ). Raised choices n i e u) en (subst (λ (w : List ℕ → ℕ → Choice). Raised w n i e u) same-choices t)))
+
+      pub next-none : last n (turnsAt (labelCount b) found-choices e) ≡ 0 → stepBack b r s (after e) ≡ none-further
+      next-none h =
+          no-candidate e eo (sym (ap₂ (λ (w : List ℕ → ℕ → Choice) (n : ℕ). last n (turnsAt (labelCount b) w e)) same-choices en) ∙ h)

@@ -1,0 +1,92 @@
+-- What it says that a rule takes u to s: it applies to u, and the state it makes is s (`leads-exactly`); position by position, what the right terms say of s (`Made`, `made`, `making`).
+-- The theorems on predecessors and on one-to-one rules rest on these.
+use mathlib.Core.Path.{_≡_, sym, ap, _∙_}
+use mathlib.Core.Logic.{_↔_}
+use mathlib.Core.Bool.{true, _&&_}
+use mathlib.Core.List.{List}
+use Prim.Native.Nat.{ℕ, _≤_, _<_}
+use native.Mathlib.Omega.{arith}
+use lib.Dec.{eqb}
+use lib.ListN.{length, getD}
+use borrow.Author.Tests.{eqb-true, eq-eqb}
+use Rattle.basics.specs.Bounded.{first}
+use Rattle.basics.proofs.Truth.{and-true, and-intro}
+use Rattle.basics.proofs.Bounded.{all-at, all-intro}
+use Rattle.basics.proofs.Lists.{length-tabulate, getD-tabulate}
+use Rattle.basics.proofs.Order.{same-list}
+use Rattle.blocks.specs.Terms.{termOf}
+use Rattle.blocks.proofs.TermCases.{View, label, variable, dash, refused, view, is-label, is-variable, is-dash, is-refused}
+use Rattle.psvn.specs.Rules.{bound, given, matches, rewritten, same, leadsBy}
+use Rattle.psvn.proofs.Matching.{Matched, matching}
+
+-- what each position of the new state says, by its right term
+pub record Made (n : ℕ) (left right : ℕ → ℕ) (u s : List ℕ) : Type 0 where
+  pub label-at : (i : ℕ) → i < n → right i < 16 → getD s i 0 ≡ right i
+  pub variable-at :
+      (i : ℕ) → i < n → 16 ≤ right i → right i < 32 → getD s i 0 ≡ getD u (first n (λ j. eqb (left j) (right i))) 0
+  pub other-at : (i : ℕ) → i < n → 32 ≤ right i → getD s i 0 ≡ getD u i 0
+
+module _ (n : ℕ) (left right : ℕ → ℕ) (u s : List ℕ) where
+  rewritten-at : (i : ℕ) → i < n → getD (rewritten n left right u) i 0 ≡ given n left u i (termOf (right i))
+  unfolding rewritten
+  rewritten-at i l = getD-tabulate n (λ i. given n left u i (termOf (right i))) i l
+
+  pub leads-matches : leadsBy n left right u s ≡ true → matches n left u ≡ true
+  unfolding leadsBy
+  leads-matches h = and-true (matches n left u) _ h .0
+
+  pub leads-image :
+      leadsBy n left right u s ≡ true → (i : ℕ) → i < n → getD (rewritten n left right u) i 0 ≡ getD s i 0
+  unfolding leadsBy
+  leads-image h i l =
+      eqb-true _ _ (all-at (λ i. eqb (getD (rewritten n left right u) i 0) (getD s i 0)) n (and-true (matches n left u) _ h .1) i l)
+
+  pub leading :
+      matches n left u ≡ true → ((i : ℕ) → i < n → getD (rewritten n left right u) i 0 ≡ getD s i 0)
+      → leadsBy n left right u s ≡ true
+  unfolding leadsBy
+  leading m h =
+      and-intro (matches n left u) (same n (rewritten n left right u) s) m
+      (all-intro (λ i. eqb (getD (rewritten n left right u) i 0) (getD s i 0)) n (λ i l. eq-eqb (getD (rewritten n left right u) i 0) (getD s i 0) (h i l)))
+
+  -- in the document's words, both ways
+  pub leads-exactly :
+      length s ≡ n → (leadsBy n left right u s ≡ true) ↔ ((matches n left u ≡ true) × (rewritten n left right u ≡ s))
+  unfolding rewritten
+  leads-exactly ls = (
+    λ h.
+        (leads-matches h, same-list n (rewritten n left right u) s (length-tabulate n (λ i. given n left u i (termOf (right i)))) ls (leads-image h)),
+    λ h. leading (h .0) (λ i l. ap (λ (t : List ℕ). getD t i 0) (h .1)),
+  )
+
+  -- and by the right terms
+  given-other : (i : ℕ) → 32 ≤ right i → given n left u i (termOf (right i)) ≡ getD u i 0
+  given-other i a = go (view (right i))
+    where
+      go : View (right i) → given n left u i (termOf (right i)) ≡ getD u i 0
+      go (label b) = absurd (omega arith)
+      go (variable b c) = absurd (omega arith)
+      go (dash e) = ap (given n left u i) (is-dash (right i) e)
+      go (refused b c) = ap (given n left u i) (is-refused (right i) b c)
+
+  pub made : leadsBy n left right u s ≡ true → Made n left right u s
+  unfolding bound
+  made h =
+      record {
+        label-at = λ i l a. at i l ∙ ap (given n left u i) (is-label (right i) a);
+        variable-at = λ i l a b. at i l ∙ ap (given n left u i) (is-variable (right i) a b);
+        other-at = λ i l a. at i l ∙ given-other i a;
+      }
+    where
+      at : (i : ℕ) → i < n → getD s i 0 ≡ given n left u i (termOf (right i))
+      at i l = sym (leads-image h i l) ∙ rewritten-at i l
+
+  pub making : Matched n left u → Made n left right u s → leadsBy n left right u s ≡ true
+  unfolding bound
+  making m d = leading (matching n left u m) (λ i l. rewritten-at i l ∙ sym (go i l (view (right i))))
+    where
+      go : (i : ℕ) → i < n → View (right i) → getD s i 0 ≡ given n left u i (termOf (right i))
+      go i l (label a) = d .label-at i l a ∙ ap (given n left u i) (sym (is-label (right i) a))
+      go i l (variable a b) = d .variable-at i l a b ∙ ap (given n left u i) (sym (is-variable (right i) a b))
+      go i l (dash e) = d .other-at i l (omega arith) ∙ sym (given-other i (omega arith))
+      go i l (refused a b) = d .other-at i l a ∙ sym (given-other i a)

@@ -1,0 +1,71 @@
+-- `backward::predecessors::raise` meets its contract.
+-- The earlier state's front, its label at i raised, and on with the least labels.
+use mathlib.Core.Path.{ap, _∙_}
+use mathlib.Core.List.{List}
+use Prim.Native.Nat.{ℕ}
+use native.Mathlib.Omega.{arith}
+use lib.ListN.{length, getD, length-set}
+use denote.Ref.{now}
+use borrow.Author.Needs.{needs}
+use Rattle.basics.specs.Bounded.{last}
+use Rattle.blocks.specs.Layout.{sideAt}
+use Rattle.backward.specs.Choices.{choice, raisedOf}
+use Rattle.backward.specs.declared.choices.Choice.{Choice}
+use Rattle.backward.proofs.Completing.{raise-made}
+use Rattle.backward.proofs.Candidates.{choices}
+use Rattle.backward.proofs.predecessors.raise.Statement.{statement}
+use Rattle.backward.proofs.predecessors.raise.Tie as tie
+
+-- the choices of a predecessor
+abbrev choices-of : tie.Start → List ℕ → ℕ → Choice
+choices-of s =
+    let a = s .args in
+    choice (length (now (a .state))) (sideAt (now (a .block)) (a .left)) (sideAt (now (a .block)) (a .right)) (now (a .state))
+
+copy-requires : tie.Need-copy-requires
+copy-requires c κs = search needs
+
+choice-at-requires : tie.Need-choice-at-requires
+choice-at-requires c κs = search needs
+
+shared-slice-read-raised : tie.Need-shared-slice-read-raised
+shared-slice-read-raised c = search needs
+
+raised-requires : tie.Need-raised-requires
+raised-requires c κs = search needs
+
+slice-write-candidate : tie.Need-slice-write-candidate
+slice-write-candidate c = search needs
+
+add-complete : tie.Need-add-complete
+add-complete c = search needs
+
+complete-requires : tie.Need-complete-requires
+complete-requires c κs =
+    let a = c .before .before .before .before .before .before .before .before .before .before .before .before .args in
+    (search needs, search needs, simp length-set (omega (arith, c .before .before .before .before .before .before .copy .kept .1 .1 .0, c .before .before .before .before .before .before .before .before .before .before .before .before .pre)), search needs)
+
+same-length : tie.Need-same-length
+same-length c = c .before .before .complete .kept .1 .1 .1 .1 .0 ∙ simp length-set (c .before .before .before .before .before .before .before .before .before .copy .kept .1 .1 .0)
+
+returns : tie.Need-returns
+returns c =
+    let a = c .before .before .before .before .before .before .before .before .before .before .before .before .before .before .before .args in
+    let front = c .before .before .before .before .before .before .before .before .before .copy .last .1 .1 .0 in
+    raise-made (choices-of (c .before .before .before .before .before .before .before .before .before .before .before .before .before .before .before)) (length (now (a .state))) (a .i) (now (a .earlier)) (now (a .candidate)) (c .before .before .complete .last .1 .1 .1 .1 .0) (c .before .before .before .before .raised .result)
+    (omega (arith, c .before .before .before .before .before .before .before .before .before .before .before .before .before .before .before .pre)) front (c .before .before .before .before .before .before .before .before .before .copy .ensures) (omega (arith, c .before .before .before .before .before .before .before .before .before .copy .kept .1 .1 .0, c .before .before .before .before .before .before .before .before .before .before .before .before .before .before .before .pre))
+    (c .before .before .before .before .raised .ensures ∙ ap (λ (choice : Choice). raisedOf choice (getD (now (a .earlier)) (a .i) 0)) (c .before .before .before .before .before .before .choice-at .ensures)) (c .before .before .complete .ensures)
+
+pub raise-spec : {M : Type 1} → statement M
+raise-spec =
+    tie.close
+    (tie.spec
+    copy-requires
+    choice-at-requires
+    shared-slice-read-raised
+    raised-requires
+    slice-write-candidate
+    add-complete
+    complete-requires
+    same-length
+    returns)

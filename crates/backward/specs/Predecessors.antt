@@ -1,0 +1,51 @@
+-- Stepping back (document 01): the next state in base-L rank order that a rule takes to the given one, or 'none further': `stepBack`.
+-- The public calls for predecessors are stated with it.
+use mathlib.Core.Path.{_≡_}
+use Prim.Native.Nat.{ℕ, suc}
+use mathlib.Core.Bool.{Bool, true, false, cond, _&&_}
+use mathlib.Core.List.{List}
+use lib.Dec.{leb, ltb}
+use Rattle.basics.specs.Bounded.{first}
+use Rattle.basics.specs.Lists.{atFront}
+use Rattle.psvn.specs.Rules.{leads}
+use Rattle.psvn.specs.Ranks.{stateRank, unrankState, stateCount}
+
+-- 'first', or the earlier state
+pub data Earlier : Type 0 where
+  from-first : Earlier
+  after : List ℕ → Earlier
+
+-- the rank from which on a state may be the next one: the earlier state itself is passed
+abbrev pub fromRank : List ℕ → Earlier → ℕ
+fromRank b from-first = 0
+fromRank b (after e) = suc (stateRank b e)
+
+-- the least rank from there on whose state rule r takes to s; the number of states where there is none
+unfoldable pub nextRank : List ℕ → ℕ → List ℕ → Earlier → ℕ
+nextRank b r s earlier = first (stateCount b) (λ k. leb (fromRank b earlier) k && leads b r (unrankState b k) s)
+
+-- the state found, or 'none further'
+pub data Predecessor : Type 0 where
+  found : List ℕ → Predecessor
+  none-further : Predecessor
+
+unfoldable pub stepBack : List ℕ → ℕ → List ℕ → Earlier → Predecessor
+stepBack b r s earlier =
+    cond (ltb (nextRank b r s earlier) (stateCount b)) (found (unrankState b (nextRank b r s earlier))) none-further
+
+-- whether there is one, and the buffer afterwards: the state found stands at its front, or nothing is written
+abbrev pub isFound : Predecessor → Bool
+isFound (found u) = true
+isFound none-further = false
+
+abbrev pub writtenOut : Predecessor → List ℕ → List ℕ
+writtenOut (found u) out = atFront u out
+writtenOut none-further out = out
+
+-- what stepping back answers, and leaves in the buffer
+abbrev pub Answered : Predecessor → Bool → List ℕ → List ℕ → Type 0
+Answered next answer out out′ = (answer ≡ isFound next) × (out′ ≡ writtenOut next out)
+
+-- what a candidate u settles: it is the state found where rule r takes it to s, else there is none
+abbrev pub settled : List ℕ → ℕ → List ℕ → List ℕ → Predecessor
+settled b r s u = cond (leads b r u s) (found u) none-further

@@ -1,0 +1,70 @@
+-- Laws of lists of rule numbers: one rule more at the end (`run-more`, `cost-more`, `in-turn-more`), what it says of each rule that the rules apply in turn
+-- (`in-turn-at`, `in-turn-intro`), how long the last state is (`run-length`), and that it is valid where the first one is (`run-state`).
+-- Replay, tables and the search rest on these.
+use mathlib.Core.Path.{_≡_, refl, sym, ap, _∙_}
+use mathlib.Core.Bool.{Bool, true, _&&_, and-assoc, and-comm}
+use mathlib.Core.List.{List, [], _∷_, _++_}
+use Prim.Native.Nat.{ℕ, zero, suc, _+_, _<_}
+use native.Mathlib.Nat.{not-suc-le-zero, le-of-suc-le-suc}
+use native.Mathlib.Omega.{arith}
+use lib.ListN.{length, getD, take}
+use Rattle.basics.proofs.Truth.{and-true, and-intro}
+use Rattle.basics.proofs.Lists.{length-tabulate}
+use Rattle.blocks.specs.Terms.{termOf}
+use Rattle.blocks.specs.Layout.{positions, rules, costOf, leftOf, rightOf}
+use Rattle.blocks.specs.Validity.{Valid}
+use Rattle.blocks.specs.States.{stateOk}
+use Rattle.psvn.specs.Rules.{given, rewritten, applies, step}
+use Rattle.psvn.specs.Runs.{applyInTurn, run, totalCost}
+use Rattle.psvn.proofs.Stepping.{step-state}
+
+module _ (b : List ℕ) where
+  -- one rule more
+  pub run-more : (s rs : List ℕ) (r : ℕ) → run b s (rs ++ (r ∷ [])) ≡ step b r (run b s rs)
+  run-more s [] r = refl
+  run-more s (x ∷ rs) r = run-more (step b x s) rs r
+
+  pub cost-more : (rs : List ℕ) (r : ℕ) → totalCost b (rs ++ (r ∷ [])) ≡ totalCost b rs + costOf b r
+  cost-more [] r = omega arith
+  cost-more (x ∷ rs) r = omega (arith, cost-more rs r)
+
+  pub in-turn-more :
+      (s rs : List ℕ) (r : ℕ) → applyInTurn b s (rs ++ (r ∷ [])) ≡ (applyInTurn b s rs && applies b r (run b s rs))
+  in-turn-more s [] r = and-comm (applies b r s) true
+  in-turn-more s (x ∷ rs) r =
+      ap (λ (t : Bool). applies b x s && t) (in-turn-more (step b x s) rs r)
+      ∙ sym (and-assoc (applies b x s) (applyInTurn b (step b x s) rs) (applies b r (run b (step b x s) rs)))
+
+  -- each rule applies where the rules before it have led
+  pub in-turn-at :
+      (s rs : List ℕ) → applyInTurn b s rs ≡ true
+      → (i : ℕ) → i < length rs → applies b (getD rs i 0) (run b s (take i rs)) ≡ true
+  in-turn-at s [] h i l = absurd (not-suc-le-zero l)
+  in-turn-at s (x ∷ rs) h zero l = and-true (applies b x s) _ h .0
+  in-turn-at s (x ∷ rs) h (suc i) l =
+      in-turn-at (step b x s) rs (and-true (applies b x s) _ h .1) i (le-of-suc-le-suc l)
+
+  pub in-turn-intro :
+      (s rs : List ℕ) → ((i : ℕ) → i < length rs → applies b (getD rs i 0) (run b s (take i rs)) ≡ true)
+      → applyInTurn b s rs ≡ true
+  in-turn-intro s [] h = refl
+  in-turn-intro s (x ∷ rs) h =
+      and-intro (applies b x s) (applyInTurn b (step b x s) rs) (h 0 (omega arith))
+      (in-turn-intro (step b x s) rs (λ i l. h (suc i) (omega arith)))
+
+  -- states keep their length, and stay states
+  pub step-length : (r : ℕ) (s : List ℕ) → length (step b r s) ≡ positions b
+  unfolding step rewritten
+  step-length r s =
+      length-tabulate (positions b) (λ i. given (positions b) (leftOf b r) s i (termOf (rightOf b r i)))
+
+  pub run-length : (s rs : List ℕ) → length s ≡ positions b → length (run b s rs) ≡ positions b
+  run-length s [] e = e
+  run-length s (x ∷ rs) e = run-length (step b x s) rs (step-length x s)
+
+  pub run-state :
+      Valid b → (s rs : List ℕ) → stateOk b s ≡ true → ((i : ℕ) → i < length rs → getD rs i 0 < rules b)
+      → stateOk b (run b s rs) ≡ true
+  run-state v s [] ok h = ok
+  run-state v s (x ∷ rs) ok h =
+      run-state v (step b x s) rs (step-state b v x (h 0 (omega arith)) s ok) (λ i l. h (suc i) (omega arith))

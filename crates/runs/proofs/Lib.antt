@@ -1,0 +1,3 @@
+-- The theorems on recorded runs.
+-- What a replay tells.
+pub mod ReplayLaws

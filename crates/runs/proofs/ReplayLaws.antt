@@ -1,0 +1,155 @@
+-- What a replay tells. It is done exactly where the rules apply in turn, with their cost and the last state (`replay-done`, `done-in-turn`); it is stuck at an
+-- index exactly where the rules before it apply in turn and its rule does not apply then (`replay-stuck`, `stuck-where`); no rules change nothing
+-- (`replay-empty`, `replay-empty-state`); and it ends in a valid state (`replay-state-ok`). The code's proof and readers of the public call rest on these.
+use mathlib.Core.Path.{_≡_, refl, sym, ap, _∙_}
+use mathlib.Core.Bool.{Bool, true, false, not, cond}
+use mathlib.Core.List.{List, []}
+use Prim.Native.Nat.{ℕ, _≤_, _<_}
+use native.Mathlib.Omega.{arith}
+use lib.Dec.{ltb}
+use lib.ListN.{length, getD, take}
+use lib.Seq.{length-take-le, take-all, take-length, take-take, getD-take}
+use borrow.Author.Tests.{lt-ltb, le-ltb, ltb-true, ltb-false, not-true, not-false}
+use Rattle.basics.proofs.Bounded.{first-at, first-passed, first-least, first-holds, first-some, first-within}
+use Rattle.blocks.specs.Layout.{positions}
+use Rattle.blocks.specs.Validity.{Valid}
+use Rattle.blocks.specs.States.{stateOk}
+use Rattle.psvn.specs.Rules.{applies}
+use Rattle.psvn.specs.Runs.{applyInTurn, run, totalCost}
+use Rattle.psvn.proofs.RunLaws.{in-turn-at, in-turn-intro, run-length, run-state}
+use Rattle.runs.specs.Replay.{Ending, done, stuck, RuleNumbers, appliedCount, applied, replayEnding, replayState}
+
+-- done with cost c: the rules apply in turn, and these are their cost and the last state
+pub record DoneWith (b s rs : List ℕ) (c : ℕ) : Type 0 where
+  pub in-turn : applyInTurn b s rs ≡ true
+  pub cost : c ≡ totalCost b rs
+  pub state : replayState b s rs ≡ run b s rs
+
+-- stuck at index i with cost c: the rules before it apply in turn, its rule does not apply then, and these are the cost and the state there
+pub record StuckAt (b s rs : List ℕ) (i c : ℕ) : Type 0 where
+  pub within : i < length rs
+  pub in-turn : applyInTurn b s (take i rs) ≡ true
+  pub does-not-apply : applies b (getD rs i 0) (run b s (take i rs)) ≡ false
+  pub cost : c ≡ totalCost b (take i rs)
+  pub state : replayState b s rs ≡ run b s (take i rs)
+
+-- the rule at index i does not apply where those before it have led
+abbrev fails : List ℕ → List ℕ → List ℕ → ℕ → Bool
+fails b s rs i = not (applies b (getD rs i 0) (run b s (take i rs)))
+
+-- how a replay ends that applied n rules
+abbrev endingAt : List ℕ → List ℕ → ℕ → Ending
+endingAt b rs n = cond (ltb n (length rs)) (stuck n (totalCost b (take n rs))) (done (totalCost b (take n rs)))
+
+module _ (b s rs : List ℕ) where
+  -- the ending and the state, once the count is known
+  ending-at : (n : ℕ) → appliedCount b s rs ≡ n → replayEnding b s rs ≡ endingAt b rs n
+  unfolding replayEnding
+  ending-at n e = ap (endingAt b rs) e
+
+  state-at : (n : ℕ) → appliedCount b s rs ≡ n → replayState b s rs ≡ run b s (take n rs)
+  unfolding replayState
+  state-at n e = ap (λ (k : ℕ). run b s (take k rs)) e
+
+  -- the rules before an index apply in turn exactly where none of them fails
+  before-at : (n : ℕ) → applyInTurn b s (take n rs) ≡ true → n ≤ length rs → (i : ℕ) → i < n → fails b s rs i ≡ false
+  before-at n h m i l =
+      let a = in-turn-at b s (take n rs) h i (omega (arith, length-take-le n rs m)) in
+      ap not (rw (getD-take n rs i 0 l, take-take i n rs (omega arith)) at a)
+
+  before-intro : (n : ℕ) → n ≤ length rs → ((i : ℕ) → i < n → fails b s rs i ≡ false) → applyInTurn b s (take n rs) ≡ true
+  before-intro n m h =
+      in-turn-intro b s (take n rs) (λ i l.
+      let k : i < n = omega (arith, length-take-le n rs m) in
+      rw (getD-take n rs i 0 k, take-take i n rs (omega arith)) (not-false _ (h i k)))
+
+  -- from the rules to the ending
+  pub replay-done : applyInTurn b s rs ≡ true → (replayEnding b s rs ≡ done (totalCost b rs)) × (replayState b s rs ≡ run b s rs)
+  unfolding appliedCount
+  replay-done h =
+      let n = length rs in
+      let e = first-passed (fails b s rs) n n (omega arith) (before-at n (rw take-length h) (omega arith)) in (
+        ending-at n e ∙ rw (le-ltb n n (omega arith), take-length),
+        state-at n e ∙ rw take-length,
+      )
+
+  pub stuck-where :
+      (i : ℕ) → i < length rs → applyInTurn b s (take i rs) ≡ true → applies b (getD rs i 0) (run b s (take i rs)) ≡ false
+      → (replayEnding b s rs ≡ stuck i (totalCost b (take i rs))) × (replayState b s rs ≡ run b s (take i rs))
+  unfolding appliedCount
+  stuck-where i l h f =
+      let e = first-at (fails b s rs) (length rs) i l (ap not f) (before-at i h (omega arith)) in
+      (ending-at i e ∙ rw (lt-ltb i (length rs) l), state-at i e)
+
+  -- and back: by the count, a rule is left or none
+  stopped : ltb (appliedCount b s rs) (length rs) ≡ true → StuckAt b s rs (appliedCount b s rs) (totalCost b (applied b s rs))
+  unfolding appliedCount
+  stopped e =
+      let n = appliedCount b s rs in
+      let l : n < length rs = ltb-true _ _ e in
+      let f = fails b s rs in
+      record {
+        within = l;
+        in-turn = before-intro n (omega arith) (first-least f (length rs));
+        does-not-apply = not-true _ (first-holds f (length rs) (sym (first-some f (length rs)) ∙ e) .1);
+        cost = refl;
+        state = state-at n refl;
+      }
+
+  finished : ltb (appliedCount b s rs) (length rs) ≡ false → DoneWith b s rs (totalCost b (applied b s rs))
+  unfolding appliedCount
+  finished e =
+      let n = appliedCount b s rs in
+      let all : take n rs ≡ rs = take-all n rs (ltb-false _ _ e) in
+      record {
+        in-turn =
+            in-turn-intro b s rs (λ i l.
+            not-false _ (first-least (fails b s rs) (length rs) i (let m = ltb-false n (length rs) e in omega arith)));
+        cost = ap (totalCost b) all;
+        state = state-at n refl ∙ ap (run b s) all;
+      }
+
+  pub done-in-turn : (c : ℕ) → replayEnding b s rs ≡ done c → DoneWith b s rs c
+  unfolding replayEnding
+  done-in-turn c h = go (ltb (appliedCount b s rs) (length rs)) refl
+    where
+      go : (t : Bool) → ltb (appliedCount b s rs) (length rs) ≡ t → DoneWith b s rs c
+      go true e = absurd (let z : _≡_ {A = ℕ} 0 1 = cc (e, h) in omega arith)
+      go false e = let q : totalCost b (applied b s rs) ≡ c = cc (e, h) in rw q at (finished e)
+
+  pub replay-stuck : (i c : ℕ) → replayEnding b s rs ≡ stuck i c → StuckAt b s rs i c
+  unfolding replayEnding
+  replay-stuck i c h = go (ltb (appliedCount b s rs) (length rs)) refl
+    where
+      go : (t : Bool) → ltb (appliedCount b s rs) (length rs) ≡ t → StuckAt b s rs i c
+      go true e =
+          let p : appliedCount b s rs ≡ i = cc (e, h) in
+          let q : totalCost b (applied b s rs) ≡ c = cc (e, h) in
+          rw (q, p) at (stopped e)
+      go false e = absurd (let z : _≡_ {A = ℕ} 0 1 = cc (e, h) in omega arith)
+
+  -- the state there
+  pub replay-length : length s ≡ positions b → length (replayState b s rs) ≡ positions b
+  unfolding replayState
+  replay-length e = run-length b s (applied b s rs) e
+
+  count-within : appliedCount b s rs ≤ length rs
+  unfolding appliedCount
+  count-within = first-within (fails b s rs) (length rs)
+
+  pub replay-state-ok : Valid b → stateOk b s ≡ true → RuleNumbers b rs → stateOk b (replayState b s rs) ≡ true
+  unfolding replayState
+  replay-state-ok v ok h =
+      let n = appliedCount b s rs in
+      run-state b v s (applied b s rs) ok (λ i l.
+      let m : i < n = omega (arith, length-take-le n rs count-within) in
+      rw (getD-take n rs i 0 m) (h i (omega (arith, count-within))))
+
+-- no rules
+pub replay-empty : (b s : List ℕ) → replayEnding b s [] ≡ done 0
+unfolding replayEnding appliedCount
+replay-empty b s = refl
+
+pub replay-empty-state : (b s : List ℕ) → replayState b s [] ≡ s
+unfolding replayState appliedCount
+replay-empty-state b s = refl

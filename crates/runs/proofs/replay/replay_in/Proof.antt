@@ -1,0 +1,166 @@
+-- `runs::replay::replay_in` meets its contract.
+-- The loop's invariant: the rules passed apply in turn, the state is where they lead, and the cost is theirs, at most 255 for each.
+use mathlib.Core.Path.{_≡_, refl, sym, ap, ap₂, _∙_}
+use mathlib.Core.Bool.{Bool, true}
+use mathlib.Core.List.{List, [], _∷_, _++_}
+use Prim.Native.Nat.{ℕ, _+_, _*_, _-_, _≤_, _<_}
+use native.Mathlib.Numerals.{add-one}
+use native.Mathlib.Omega.{arith}
+use lib.ListN.{length, getD, take}
+use lib.Seq.{take-suc, take-all}
+use denote.Ref.{now}
+use borrow.Author.Tests.{not-true, not-false}
+use borrow.Author.Needs.{needs}
+use Rattle.basics.proofs.Truth.{and-intro}
+use Rattle.blocks.specs.Layout.{positions, rules, costOf}
+use Rattle.psvn.specs.Rules.{applies, step}
+use Rattle.psvn.specs.Runs.{applyInTurn, run, totalCost}
+use Rattle.psvn.proofs.RunLaws.{run-more, cost-more, in-turn-more, run-length}
+use Rattle.runs.specs.Replay.{done, stuck}
+use Rattle.runs.proofs.ReplayLaws.{replay-done, stuck-where}
+use Rattle.runs.proofs.replay.replay_in.Statement.{statement}
+use Rattle.runs.proofs.replay.replay_in.Tie as tie
+
+-- one rule more
+module _ (b s list : List ℕ) (i : ℕ) (l : i < length list) where
+  taken : take (i + 1) list ≡ take i list ++ (getD list i 0 ∷ [])
+  taken = ap (λ (k : ℕ). take k list) (add-one i) ∙ take-suc list i 0 l
+
+  next-state : step b (getD list i 0) (run b s (take i list)) ≡ run b s (take (i + 1) list)
+  next-state = sym (ap (run b s) taken ∙ run-more b s (take i list) (getD list i 0))
+
+  next-cost : totalCost b (take i list) + costOf b (getD list i 0) ≡ totalCost b (take (i + 1) list)
+  next-cost = sym (ap (totalCost b) taken ∙ cost-more b (take i list) (getD list i 0))
+
+  next-in-turn :
+      applyInTurn b s (take i list) ≡ true → applies b (getD list i 0) (run b s (take i list)) ≡ true
+      → applyInTurn b s (take (i + 1) list) ≡ true
+  next-in-turn p q =
+      ap (applyInTurn b s) taken ∙ in-turn-more b s (take i list) (getD list i 0) ∙ and-intro _ _ p q
+
+abbrev Inv-loop : tie.InvT-loop
+Inv-loop block list state₀ cost₀ i₀ state cost i =
+    (i ≤ length list)
+    × (cost ≤ 255 * i)
+    × (cost ≡ totalCost block (take i list))
+    × (state ≡ run block state₀ (take i list))
+    × (applyInTurn block state₀ (take i list) ≡ true)
+
+abbrev μ-loop : tie.MeasureT-loop
+μ-loop block list state₀ cost₀ i₀ state cost i = length list - i
+
+-- the state keeps its length
+long : (c : tie.At-loop Inv-loop μ-loop) → length (c .loop .state) ≡ positions (now (c .before .before .before .before .args .block))
+long c =
+    let a = c .before .before .before .before .args in
+    ap length (c .loop .inv .3) ∙ run-length (now (a .block)) (now (a .state)) (take (c .loop .i) (now (a .list))) (c .before .before .before .before .pre .3)
+
+loop-holds : tie.Need-loop-holds Inv-loop μ-loop
+loop-holds c = (search needs, search needs, refl, refl, refl)
+
+shared-slice-read-wide : tie.Need-shared-slice-read-wide Inv-loop μ-loop
+shared-slice-read-wide c = search needs
+
+wide-requires : tie.Need-wide-requires Inv-loop μ-loop
+wide-requires c κs = search needs
+
+-- the number read is that of a rule
+numbered : (c : tie.After-wide Inv-loop μ-loop) → c .wide .result < rules (now (c .before .before .before .before .before .before .before .args .block))
+numbered c =
+    let h = c .before .before .before .before .before .before .before .pre .1 (c .before .before .before .loop .i) (omega arith) in
+    omega (arith, c .wide .ensures .0)
+
+applies-requires : tie.Need-applies-requires Inv-loop μ-loop
+applies-requires c κs = (c .before .before .before .before .before .before .before .before .pre .0, numbered (c .before), long (c .before .before .before .before))
+
+-- whether that rule applies where the rules before it have led
+abbrev applies-next : tie.At-loop Inv-loop μ-loop → Bool
+applies-next c =
+    let a = c .before .before .before .before .args in
+    applies (now (a .block)) (getD (now (a .list)) (c .loop .i) 0) (run (now (a .block)) (now (a .state)) (take (c .loop .i) (now (a .list))))
+
+answered : (c : tie.After-applies Inv-loop μ-loop) → c .applies .result ≡ applies-next (c .before .before .before .before .before)
+answered c =
+    c .applies .ensures ∙ ap₂ (applies (now (c .before .before .before .before .before .before .before .before .before .args .block))) (c .before .before .wide .ensures .0) (c .before .before .before .before .before .loop .inv .3)
+
+same-length : tie.Need-same-length Inv-loop μ-loop
+same-length c = omega (arith, long (c .before .before .before .before .before .before))
+
+returns : tie.Need-returns Inv-loop μ-loop
+returns c =
+    let a = c .before .before .before .before .before .before .before .before .before .before .args in
+    let inv = c .before .before .before .before .before .before .loop .inv in
+    let f = sym (answered (c .before)) ∙ not-true _ (c .if1 .taken) in
+    let q = stuck-where (now (a .block)) (now (a .state)) (now (a .list)) (c .before .before .before .before .before .before .loop .i) (omega arith) (inv .4) f in
+    (ap (stuck (c .before .before .before .before .before .before .loop .i)) (inv .2) ∙ sym (q .0), inv .3 ∙ sym (q .1))
+
+advance-requires : tie.Need-advance-requires Inv-loop μ-loop
+advance-requires c κs = (c .before .before .before .before .before .before .before .before .before .before .before .pre .0, numbered (c .before .before .before .before), long (c .before .before .before .before .before .before .before))
+
+cost-requires : tie.Need-cost-requires Inv-loop μ-loop
+cost-requires c κs = (c .before .before .before .before .before .before .before .before .before .before .before .before .before .before .pre .0, numbered (c .before .before .before .before .before .before .before))
+
+cast-cost : tie.Need-cast-cost Inv-loop μ-loop
+cast-cost c = search needs
+
+add-cost : tie.Need-add-cost Inv-loop μ-loop
+add-cost c = search needs
+
+add-i : tie.Need-add-i Inv-loop μ-loop
+add-i c = search needs
+
+loop-less : tie.Need-loop-less Inv-loop μ-loop
+loop-less c = search needs
+
+loop-again : tie.Need-loop-again Inv-loop μ-loop
+loop-again c =
+    let a = c .before .before .before .before .before .before .before .before .before .before .before .before .before .before .before .args in
+    let b = now (a .block) in
+    let s = now (a .state) in
+    let list = now (a .list) in
+    let i = c .before .before .before .before .before .before .before .before .before .before .before .loop .i in
+    let inv = c .before .before .before .before .before .before .before .before .before .before .before .loop .inv in
+    let l : i < length list = omega arith in
+    let rule = c .before .before .before .before .before .before .before .before .wide .ensures .0 in (
+      search needs,
+      search needs,
+      ap₂ _+_ (inv .2) (c .cost .ensures ∙ ap (costOf b) rule) ∙ next-cost b s list i l,
+      c .before .before .before .advance .ensures ∙ ap₂ (step b) rule (inv .3) ∙ next-state b s list i l,
+      next-in-turn b s list i l (inv .4) (sym (answered (c .before .before .before .before .before .before)) ∙ not-false _ (c .before .before .before .before .before .if1 .left)),
+    )
+
+same-length-2 : tie.Need-same-length-2 Inv-loop μ-loop
+same-length-2 c = omega (arith, long (c .before))
+
+returns-2 : tie.Need-returns-2 Inv-loop μ-loop
+returns-2 c =
+    let a = c .before .before .before .before .before .args in
+    let b = now (a .block) in
+    let s = now (a .state) in
+    let list = now (a .list) in
+    let inv = c .before .loop .inv in
+    let all : take (c .before .loop .i) list ≡ list = take-all (c .before .loop .i) list (omega arith) in
+    let q = replay-done b s list (ap (applyInTurn b s) (sym all) ∙ inv .4) in
+    (ap done (inv .2 ∙ ap (totalCost b) all) ∙ sym (q .0), inv .3 ∙ ap (run b s) all ∙ sym (q .1))
+
+pub replay-in-spec : {M : Type 1} → statement M
+replay-in-spec =
+    tie.close
+    (tie.spec
+    Inv-loop
+    μ-loop
+    loop-holds
+    shared-slice-read-wide
+    wide-requires
+    applies-requires
+    same-length
+    returns
+    advance-requires
+    cost-requires
+    cast-cost
+    add-cost
+    add-i
+    loop-less
+    loop-again
+    same-length-2
+    returns-2)

@@ -1,0 +1,44 @@
+-- Replaying a recorded run, at most 4,096 rule numbers from a start: 'done', or 'stuck' at the first index whose rule does not apply (`replayEnding`);
+-- either way with the cost so far, and the state there written out (`replayState`). The public call to replay a run is stated with these.
+use Prim.Native.Nat.{ℕ, _<_}
+use mathlib.Core.Bool.{cond, not}
+use mathlib.Core.List.{List}
+use lib.Dec.{ltb}
+use lib.ListN.{length, getD, take}
+use Rattle.basics.specs.Bounded.{first}
+use Rattle.blocks.specs.Layout.{rules}
+use Rattle.psvn.specs.Rules.{applies}
+use Rattle.psvn.specs.Runs.{run, totalCost}
+use Rattle.runs.specs.declared.replay.Replayed.{Replayed}
+use Rattle.runs.specs.declared.replay.Replayed.the-variants.{Done, Stuck}
+
+-- 'done' with the cost; or 'stuck' at an index, with the cost so far
+pub data Ending : Type 0 where
+  done : ℕ → Ending
+  stuck : ℕ → ℕ → Ending
+
+abbrev pub endingOf : Replayed → Ending
+endingOf (Done cost) = done cost
+endingOf (Stuck index cost) = stuck index cost
+
+-- every number of the list is that of a rule
+abbrev pub RuleNumbers : List ℕ → List ℕ → Type 0
+RuleNumbers b rs = (i : ℕ) → i < length rs → getD rs i 0 < rules b
+
+-- the first index whose rule does not apply where the rules before it have led; or the length of the list
+unfoldable pub appliedCount : List ℕ → List ℕ → List ℕ → ℕ
+appliedCount b s rs = first (length rs) (λ i. not (applies b (getD rs i 0) (run b s (take i rs))))
+
+-- the rules before it
+abbrev pub applied : List ℕ → List ℕ → List ℕ → List ℕ
+applied b s rs = take (appliedCount b s rs) rs
+
+-- how the replay ends, and the state there
+unfoldable pub replayEnding : List ℕ → List ℕ → List ℕ → Ending
+replayEnding b s rs =
+    cond (ltb (appliedCount b s rs) (length rs))
+    (stuck (appliedCount b s rs) (totalCost b (applied b s rs)))
+    (done (totalCost b (applied b s rs)))
+
+unfoldable pub replayState : List ℕ → List ℕ → List ℕ → List ℕ
+replayState b s rs = run b s (applied b s rs)

@@ -1,0 +1,60 @@
+// Replaying a recorded run.
+ghost use mathlib.Core.Path.{_≡_};
+ghost use Prim.Native.Nat.{_≤_, _<_};
+ghost use lib.ListN.{length};
+ghost use Rattle.basics.specs.Lists.{atFront};
+ghost use Rattle.blocks.specs.Layout.{positions, rules};
+ghost use Rattle.blocks.specs.Validity.{Sized};
+ghost use Rattle.psvn.specs.Rules.{step};
+ghost use Rattle.runs.specs.Replay.{endingOf, RuleNumbers, replayEnding, replayState};
+use basics::copy;
+use basics::wide;
+use blocks::layout;
+use blocks::layout::MOST_POSITIONS;
+use psvn::rules;
+
+// How a replay ends: all rules applied, at this cost; or stuck at this index, with the cost so far.
+pub enum Replayed {
+    Done(u32),
+    Stuck(usize, u32),
+}
+
+// Replaces a state by the one that rule r makes of it.
+fn advance(block: &[u8], r: usize, state: &mut [u8])
+    requires { ⌜ Sized (now block) × (r < rules (now block)) × (length (now state) ≡ positions (now block)) ⌝ }
+    ensures { λ _. ⌜ now (state .exit) ≡ step (now (block .entry)) r (now (state .entry)) ⌝ }
+{
+    let n = state.len();
+    let mut old = [0u8; MOST_POSITIONS];
+    copy(state, n, &mut old);
+    rules::step(block, r, &old[..n], state);
+}
+
+// Replays the list from a state, which becomes the one where it ends.
+fn replay_in(block: &[u8], list: &[u8], state: &mut [u8]) -> Replayed
+    requires { ⌜ Sized (now block) × RuleNumbers (now block) (now list) × (length (now list) ≤ 4096) × (length (now state) ≡ positions (now block)) ⌝ }
+    ensures { λ r. ⌜ (endingOf r ≡ replayEnding (now (block .entry)) (now (state .entry)) (now (list .entry))) × (now (state .exit) ≡ replayState (now (block .entry)) (now (state .entry)) (now (list .entry))) ⌝ }
+{
+    let mut cost: u32 = 0;
+    let mut i: usize = 0;
+    while i < list.len() {
+        let rule = wide(list[i]);
+        if !rules::applies(block, rule, state) {
+            return Replayed::Stuck(i, cost);
+        }
+        advance(block, rule, state);
+        cost += layout::cost(block, rule) as u32;
+        i += 1;
+    }
+    Replayed::Done(cost)
+}
+
+// Replays the list from the start, and writes the state where it ends at the front of `out`.
+pub fn replay(block: &[u8], start: &[u8], list: &[u8], out: &mut [u8]) -> Replayed
+    requires { ⌜ Sized (now block) × RuleNumbers (now block) (now list) × (length (now list) ≤ 4096) × (length (now start) ≡ positions (now block)) × (positions (now block) ≤ length (now out)) ⌝ }
+    ensures { λ r. ⌜ (endingOf r ≡ replayEnding (now (block .entry)) (now (start .entry)) (now (list .entry))) × (now (out .exit) ≡ atFront (replayState (now (block .entry)) (now (start .entry)) (now (list .entry))) (now (out .entry))) ⌝ }
+{
+    let n = start.len();
+    copy(start, n, out);
+    replay_in(block, list, &mut out[..n])
+}
