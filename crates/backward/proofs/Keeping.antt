@@ -38,7 +38,7 @@ keeps-only y x e h = rw e (eq-eqb x y h)
 keeps-any : {w : Choice} (x : ℕ) → w ≡ Any → keepsOf w x ≡ true
 keeps-any x e = rw e
 
-only-keeps : {w : Choice} (y x : ℕ) → w ≡ only y → keepsOf w x ≡ true → x ≡ y
+pub only-keeps : {w : Choice} (y x : ℕ) → w ≡ only y → keepsOf w x ≡ true → x ≡ y
 only-keeps y x e h = eqb-true x y (rw e at h)
 
 -- where the new state shows a variable

@@ -7,3 +7,6 @@ pub mod Succession
 pub mod Completing
 pub mod NextState
 pub mod Candidates
+pub mod Enumeration
+pub mod OneToOne
+pub mod RelabelledForm

@@ -1,7 +1,7 @@
 -- Stepping back (document 01): the next state in base-L rank order that a rule takes to the given one, or 'none further': `stepBack`.
 -- The public calls for predecessors are stated with it.
 use mathlib.Core.Path.{_≡_}
-use Prim.Native.Nat.{ℕ, suc}
+use Prim.Native.Nat.{ℕ, zero, suc}
 use mathlib.Core.Bool.{Bool, true, false, cond, _&&_}
 use mathlib.Core.List.{List}
 use lib.Dec.{leb, ltb}
@@ -49,3 +49,13 @@ Answered next answer out out′ = (answer ≡ isFound next) × (out′ ≡ writt
 -- what a candidate u settles: it is the state found where rule r takes it to s, else there is none
 abbrev pub settled : List ℕ → ℕ → List ℕ → List ℕ → Predecessor
 settled b r s u = cond (leads b r u s) (found u) none-further
+
+-- go on from the state found, or tell 'none further' again
+abbrev pub afterCall : (List ℕ → Predecessor) → Predecessor → Predecessor
+afterCall further (found u) = further u
+afterCall further none-further = none-further
+
+-- the answer of call k, where the first call begins from `earlier` and each later one from the state found before it; 'none further' once that was told
+abbrev pub call : List ℕ → ℕ → List ℕ → Earlier → ℕ → Predecessor
+call b r s earlier zero = stepBack b r s earlier
+call b r s earlier (suc k) = afterCall (λ u. call b r s (after u) k) (stepBack b r s earlier)

@@ -1,19 +1,24 @@
--- What an accepting verdict on a call's conditions says: `state-accepted` and `apply-accepted`.
--- The calls rest on these once they have refused what is to be refused.
+-- What an accepting verdict on a call's conditions says: `state-accepted`, `apply-accepted`, `step-back-accepted`, `replay-accepted`;
+-- and that stepping back from 'first' is refused as applying the rule is (`first-conditions`). The calls rest on these once they have refused what is to be refused.
 use mathlib.Core.Path.{_≡_}
 use mathlib.Core.Bool.{true}
-use mathlib.Core.List.{List, [], _∷_}
+use mathlib.Core.List.{List, [], _∷_, _++_}
 use Prim.Native.Nat.{ℕ, _≤_, _<_}
 use lib.Dec.{leb, ltb}
+use lib.ListN.{length}
 use borrow.Author.Tests.{leb-true, ltb-true}
 use Rattle.refusals.specs.Answers.{told, verdict, _unless_}
-use Rattle.refusals.proofs.Verdicts.{verdict-told, verdict-parts}
+use Rattle.refusals.proofs.Verdicts.{verdict-told, verdict-parts, verdict-skip}
 use Rattle.blocks.specs.Layout.{positions, rules}
 use Rattle.blocks.specs.Validity.{blockConditions, Valid}
 use Rattle.blocks.specs.States.{stateOk}
 use Rattle.blocks.proofs.Accepted.{accepted-valid}
 use Rattle.engine.specs.Checking.{stateConditions}
+use Rattle.backward.specs.Predecessors.{Earlier, from-first}
+use Rattle.runs.specs.Replay.{numbersOk, longestList}
 use Rattle.engine.specs.Applying.{applyConditions}
+use Rattle.engine.specs.Predecessors.{earlierOk, stepBackConditions}
+use Rattle.engine.specs.Replaying.{replayConditions}
 
 module _ (b s : List ℕ) where
   pub record StateAccepted : Type 0 where
@@ -45,4 +50,60 @@ module _ (b s : List ℕ) where
           state = q .state;
           rule = ltb-true r (rules b) (p₉ .0);
           room-left = leb-true (positions b) room (verdict-told 11 (leb (positions b) room) [] (p₉ .1) .0);
+        }
+
+    -- from 'first' there is no earlier state to refuse
+    pub first-conditions : verdict (stepBackConditions b r s from-first room) ≡ verdict (applyConditions b r s room)
+    unfolding stepBackConditions applyConditions
+    first-conditions =
+        verdict-skip (stateConditions b s) (9 unless ltb r (rules b) ∷ 11 unless leb (positions b) room ∷ []) 8
+
+    module _ (earlier : Earlier) where
+      pub record StepBackAccepted : Type 0 where
+        pub valid : Valid b
+        pub state : stateOk b s ≡ true
+        pub earlier-state : earlierOk b earlier ≡ true
+        pub rule : r < rules b
+        pub room-left : positions b ≤ room
+
+      pub step-back-accepted : verdict (stepBackConditions b r s earlier room) ≡ told tt → StepBackAccepted
+      unfolding stepBackConditions
+      step-back-accepted h =
+          let c₁₁ = 11 unless leb (positions b) room in
+          let c₉ = 9 unless ltb r (rules b) in
+          let p = verdict-parts (stateConditions b s) (8 unless earlierOk b earlier ∷ c₉ ∷ c₁₁ ∷ []) h in
+          let q = state-accepted (p .0) in
+          let p₈ = verdict-told 8 (earlierOk b earlier) (c₉ ∷ c₁₁ ∷ []) (p .1) in
+          let p₉ = verdict-told 9 (ltb r (rules b)) (c₁₁ ∷ []) (p₈ .1) in
+          record {
+            valid = q .valid;
+            state = q .state;
+            earlier-state = p₈ .0;
+            rule = ltb-true r (rules b) (p₉ .0);
+            room-left = leb-true (positions b) room (verdict-told 11 (leb (positions b) room) [] (p₉ .1) .0);
+          }
+
+  module _ (rs : List ℕ) (room : ℕ) where
+    pub record ReplayAccepted : Type 0 where
+      pub valid : Valid b
+      pub state : stateOk b s ≡ true
+      pub numbers : numbersOk b rs ≡ true
+      pub short : length rs ≤ longestList
+      pub room-left : positions b ≤ room
+
+    pub replay-accepted : verdict (replayConditions b s rs room) ≡ told tt → ReplayAccepted
+    unfolding replayConditions
+    replay-accepted h =
+        let c₁₁ = 11 unless leb (positions b) room in
+        let c₁₀ = 10 unless leb (length rs) longestList in
+        let p = verdict-parts (stateConditions b s) (9 unless numbersOk b rs ∷ c₁₀ ∷ c₁₁ ∷ []) h in
+        let q = state-accepted (p .0) in
+        let p₉ = verdict-told 9 (numbersOk b rs) (c₁₀ ∷ c₁₁ ∷ []) (p .1) in
+        let p₁₀ = verdict-told 10 (leb (length rs) longestList) (c₁₁ ∷ []) (p₉ .1) in
+        record {
+          valid = q .valid;
+          state = q .state;
+          numbers = p₉ .0;
+          short = leb-true (length rs) longestList (p₁₀ .0);
+          room-left = leb-true (positions b) room (verdict-told 11 (leb (positions b) room) [] (p₁₀ .1) .0);
         }

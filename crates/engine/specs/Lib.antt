@@ -4,3 +4,6 @@ pub mod Checking
 pub mod Applying
 pub mod Goals
 pub mod Relabelling
+pub mod Predecessors
+pub mod Reversing
+pub mod Replaying

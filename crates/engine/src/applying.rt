@@ -14,8 +14,8 @@ pub enum Application {
     Refused(Refusal),
 }
 
-// Checks what applying a rule is handed; `room` is the length of the buffer.
-fn check_application(block: &[u8], rule: usize, state: &[u8], room: usize) -> Verdict
+// Checks a block, a state of it, one of its rules, and the room for a state; `room` is the length of the buffer.
+pub fn check_application(block: &[u8], rule: usize, state: &[u8], room: usize) -> Verdict
     ensures { λ r. ⌜ verdictOf r ≡ verdict (applyConditions (now (block .entry)) rule (now (state .entry)) room) ⌝ }
 {
     let checked = check_state(block, state);

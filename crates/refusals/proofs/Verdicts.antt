@@ -33,3 +33,9 @@ pub verdict-parts :
 verdict-parts [] ds h = (refl, h)
 verdict-parts (k unless true ∷ cs) ds h = verdict-parts cs ds h
 verdict-parts (k unless false ∷ cs) ds h = absurd (told-refused h refl)
+
+-- a condition that always holds
+pub verdict-skip : (cs ds : List Condition) (k : ℕ) → verdict (cs ++ (k unless true ∷ ds)) ≡ verdict (cs ++ ds)
+verdict-skip [] ds k = refl
+verdict-skip (j unless true ∷ cs) ds k = verdict-skip cs ds k
+verdict-skip (j unless false ∷ cs) ds k = refl

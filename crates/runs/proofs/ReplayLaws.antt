@@ -10,14 +10,14 @@ use lib.Dec.{ltb}
 use lib.ListN.{length, getD, take}
 use lib.Seq.{length-take-le, take-all, take-length, take-take, getD-take}
 use borrow.Author.Tests.{lt-ltb, le-ltb, ltb-true, ltb-false, not-true, not-false}
-use Rattle.basics.proofs.Bounded.{first-at, first-passed, first-least, first-holds, first-some, first-within}
-use Rattle.blocks.specs.Layout.{positions}
+use Rattle.basics.proofs.Bounded.{all-at, first-at, first-passed, first-least, first-holds, first-some, first-within}
+use Rattle.blocks.specs.Layout.{positions, rules}
 use Rattle.blocks.specs.Validity.{Valid}
 use Rattle.blocks.specs.States.{stateOk}
 use Rattle.psvn.specs.Rules.{applies}
 use Rattle.psvn.specs.Runs.{applyInTurn, run, totalCost}
 use Rattle.psvn.proofs.RunLaws.{in-turn-at, in-turn-intro, run-length, run-state}
-use Rattle.runs.specs.Replay.{Ending, done, stuck, RuleNumbers, appliedCount, applied, replayEnding, replayState}
+use Rattle.runs.specs.Replay.{Ending, done, stuck, numbersOk, RuleNumbers, appliedCount, applied, replayEnding, replayState}
 
 -- done with cost c: the rules apply in turn, and these are their cost and the last state
 pub record DoneWith (b s rs : List ℕ) (c : ℕ) : Type 0 where
@@ -32,6 +32,11 @@ pub record StuckAt (b s rs : List ℕ) (i c : ℕ) : Type 0 where
   pub does-not-apply : applies b (getD rs i 0) (run b s (take i rs)) ≡ false
   pub cost : c ≡ totalCost b (take i rs)
   pub state : replayState b s rs ≡ run b s (take i rs)
+
+-- each number by itself
+pub rule-numbers : (b rs : List ℕ) → numbersOk b rs ≡ true → RuleNumbers b rs
+unfolding numbersOk
+rule-numbers b rs h i l = ltb-true _ _ (all-at (λ i. ltb (getD rs i 0) (rules b)) (length rs) h i l)
 
 -- the rule at index i does not apply where those before it have led
 abbrev fails : List ℕ → List ℕ → List ℕ → ℕ → Bool

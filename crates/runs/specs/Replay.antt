@@ -1,11 +1,11 @@
 -- Replaying a recorded run, at most 4,096 rule numbers from a start: 'done', or 'stuck' at the first index whose rule does not apply (`replayEnding`);
 -- either way with the cost so far, and the state there written out (`replayState`). The public call to replay a run is stated with these.
 use Prim.Native.Nat.{ℕ, _<_}
-use mathlib.Core.Bool.{cond, not}
+use mathlib.Core.Bool.{Bool, cond, not}
 use mathlib.Core.List.{List}
 use lib.Dec.{ltb}
 use lib.ListN.{length, getD, take}
-use Rattle.basics.specs.Bounded.{first}
+use Rattle.basics.specs.Bounded.{all, first}
 use Rattle.blocks.specs.Layout.{rules}
 use Rattle.psvn.specs.Rules.{applies}
 use Rattle.psvn.specs.Runs.{run, totalCost}
@@ -21,9 +21,15 @@ abbrev pub endingOf : Replayed → Ending
 endingOf (Done cost) = done cost
 endingOf (Stuck index cost) = stuck index cost
 
--- every number of the list is that of a rule
+-- every number of the list is that of a rule; and how many there may be
+unfoldable pub numbersOk : List ℕ → List ℕ → Bool
+numbersOk b rs = all (length rs) (λ i. ltb (getD rs i 0) (rules b))
+
 abbrev pub RuleNumbers : List ℕ → List ℕ → Type 0
 RuleNumbers b rs = (i : ℕ) → i < length rs → getD rs i 0 < rules b
+
+abbrev pub longestList : ℕ
+longestList = 4096
 
 -- the first index whose rule does not apply where the rules before it have led; or the length of the list
 unfoldable pub appliedCount : List ℕ → List ℕ → List ℕ → ℕ

@@ -3,20 +3,39 @@ ghost use mathlib.Core.Path.{_≡_};
 ghost use Prim.Native.Nat.{_≤_, _<_};
 ghost use lib.ListN.{length};
 ghost use Rattle.basics.specs.Lists.{atFront};
-ghost use Rattle.blocks.specs.Layout.{positions, rules};
+ghost use Rattle.blocks.specs.Layout.{headLength, positions, rules};
 ghost use Rattle.blocks.specs.Validity.{Sized};
 ghost use Rattle.psvn.specs.Rules.{step};
-ghost use Rattle.runs.specs.Replay.{endingOf, RuleNumbers, replayEnding, replayState};
+ghost use Rattle.runs.specs.Replay.{endingOf, numbersOk, RuleNumbers, longestList, replayEnding, replayState};
 use basics::copy;
 use basics::wide;
 use blocks::layout;
 use blocks::layout::MOST_POSITIONS;
 use psvn::rules;
 
+// How many rule numbers a list may have.
+pub const LONGEST_LIST: usize = 4096;
+
 // How a replay ends: all rules applied, at this cost; or stuck at this index, with the cost so far.
 pub enum Replayed {
     Done(u32),
     Stuck(usize, u32),
+}
+
+// Whether every number of the list is that of a rule.
+pub fn numbers_ok(block: &[u8], list: &[u8]) -> bool
+    requires { ⌜ headLength ≤ length (now block) ⌝ }
+    ensures { λ r. ⌜ r ≡ numbersOk (now (block .entry)) (now (list .entry)) ⌝ }
+{
+    let rules = layout::rules(block);
+    let mut i: usize = 0;
+    while i < list.len() {
+        if rules <= wide(list[i]) {
+            return false;
+        }
+        i += 1;
+    }
+    true
 }
 
 // Replaces a state by the one that rule r makes of it.
@@ -32,7 +51,7 @@ fn advance(block: &[u8], r: usize, state: &mut [u8])
 
 // Replays the list from a state, which becomes the one where it ends.
 fn replay_in(block: &[u8], list: &[u8], state: &mut [u8]) -> Replayed
-    requires { ⌜ Sized (now block) × RuleNumbers (now block) (now list) × (length (now list) ≤ 4096) × (length (now state) ≡ positions (now block)) ⌝ }
+    requires { ⌜ Sized (now block) × RuleNumbers (now block) (now list) × (length (now list) ≤ longestList) × (length (now state) ≡ positions (now block)) ⌝ }
     ensures { λ r. ⌜ (endingOf r ≡ replayEnding (now (block .entry)) (now (state .entry)) (now (list .entry))) × (now (state .exit) ≡ replayState (now (block .entry)) (now (state .entry)) (now (list .entry))) ⌝ }
 {
     let mut cost: u32 = 0;
@@ -51,7 +70,7 @@ fn replay_in(block: &[u8], list: &[u8], state: &mut [u8]) -> Replayed
 
 // Replays the list from the start, and writes the state where it ends at the front of `out`.
 pub fn replay(block: &[u8], start: &[u8], list: &[u8], out: &mut [u8]) -> Replayed
-    requires { ⌜ Sized (now block) × RuleNumbers (now block) (now list) × (length (now list) ≤ 4096) × (length (now start) ≡ positions (now block)) × (positions (now block) ≤ length (now out)) ⌝ }
+    requires { ⌜ Sized (now block) × RuleNumbers (now block) (now list) × (length (now list) ≤ longestList) × (length (now start) ≡ positions (now block)) × (positions (now block) ≤ length (now out)) ⌝ }
     ensures { λ r. ⌜ (endingOf r ≡ replayEnding (now (block .entry)) (now (start .entry)) (now (list .entry))) × (now (out .exit) ≡ atFront (replayState (now (block .entry)) (now (start .entry)) (now (list .entry))) (now (out .entry))) ⌝ }
 {
     let n = start.len();
