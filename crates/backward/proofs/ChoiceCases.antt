@@ -14,7 +14,6 @@ use Rattle.blocks.specs.Terms.{termOf, isDash}
 use Rattle.blocks.proofs.TermCases.{View, label, variable, dash, refused, view, is-label, is-variable, is-dash, is-refused, dash-byte}
 use Rattle.backward.specs.Reversible.{shows}
 use Rattle.backward.specs.Choices.{only, variableChoice, termChoice, choice}
-use Rattle.backward.specs.declared.choices.Choice.{Choice}
 use Rattle.backward.specs.declared.choices.Choice.the-variants.{Any}
 
 -- position i: its right term is a dash; or its left term is a constant, a variable that the new state shows, one that it does not show but that stands further left already,

@@ -1,7 +1,7 @@
 // The states that a rule takes to a given one, in rank order. The next one after an earlier state is built position by position, never by counting through ranks.
 ghost use mathlib.Core.Path.{_≡_};
 ghost use mathlib.Core.Bool.{true};
-ghost use Prim.Native.Nat.{ℕ, _+_, _≤_, _<_};
+ghost use Prim.Native.Nat.{_+_, _≤_, _<_};
 ghost use lib.ListN.{length, getD};
 ghost use Rattle.basics.specs.Bounded.{last};
 ghost use Rattle.blocks.specs.Layout.{positions, rules, labelCount, sideAt};

@@ -2,7 +2,7 @@
 -- and that stepping back from 'first' is refused as applying the rule is (`first-conditions`). The calls rest on these once they have refused what is to be refused.
 use mathlib.Core.Path.{_≡_}
 use mathlib.Core.Bool.{true}
-use mathlib.Core.List.{List, [], _∷_, _++_}
+use mathlib.Core.List.{List, [], _∷_}
 use Prim.Native.Nat.{ℕ, _≤_, _<_}
 use lib.Dec.{leb, ltb}
 use lib.ListN.{length}

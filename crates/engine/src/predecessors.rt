@@ -1,6 +1,5 @@
 // Stepping back.
 ghost use mathlib.Core.Path.{_≡_};
-ghost use lib.ListN.{length};
 ghost use Rattle.refusals.specs.Answers.{verdict, outcome};
 ghost use Rattle.refusals.specs.Refusals.{verdictOf};
 ghost use Rattle.backward.specs.Predecessors.{from-first, after};

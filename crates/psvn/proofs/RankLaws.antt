@@ -8,7 +8,7 @@ use Prim.Native.Nat.{ℕ, _<_}
 use Rattle.basics.specs.Digits.{span}
 use Rattle.basics.proofs.Digits.{value-digits, span-power}
 use Rattle.basics.proofs.Order.{Before, before-value, value-before, value-injective}
-use Rattle.blocks.specs.Layout.{positions, labels, abstracts, labelCount, abstractCount, abstractStates}
+use Rattle.blocks.specs.Layout.{positions, abstracts, labelCount, abstractCount, abstractStates}
 use Rattle.blocks.specs.Validity.{Headed}
 use Rattle.blocks.specs.States.{stateOk, abstractOk}
 use Rattle.psvn.specs.Ranks.{rank, unrank, stateRank, unrankState, stateCount}

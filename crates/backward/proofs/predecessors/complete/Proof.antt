@@ -13,7 +13,6 @@ use Rattle.backward.specs.Predecessors.{after}
 use Rattle.backward.specs.declared.choices.Choice.{Choice}
 use Rattle.backward.proofs.ChoiceCases.{choice-local}
 use Rattle.backward.proofs.Completing.{complete-before, complete-after}
-use Rattle.backward.proofs.Candidates.{choices}
 use Rattle.backward.proofs.predecessors.complete.Statement.{statement}
 use Rattle.backward.proofs.predecessors.complete.Tie as tie
 

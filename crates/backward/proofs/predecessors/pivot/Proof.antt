@@ -15,7 +15,6 @@ use Rattle.blocks.specs.Layout.{labelCount, sideAt}
 use Rattle.backward.specs.Choices.{choice, risesOf, keepsOf, turnsAt}
 use Rattle.backward.specs.declared.choices.Choice.{Choice}
 use Rattle.backward.proofs.Completing.{rises-last, stays-last, keeps-more, stop-last}
-use Rattle.backward.proofs.Candidates.{choices}
 use Rattle.backward.proofs.predecessors.pivot.Statement.{statement}
 use Rattle.backward.proofs.predecessors.pivot.Tie as tie
 

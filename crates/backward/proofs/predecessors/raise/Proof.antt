@@ -12,7 +12,6 @@ use Rattle.blocks.specs.Layout.{sideAt}
 use Rattle.backward.specs.Choices.{choice, raisedOf}
 use Rattle.backward.specs.declared.choices.Choice.{Choice}
 use Rattle.backward.proofs.Completing.{raise-made}
-use Rattle.backward.proofs.Candidates.{choices}
 use Rattle.backward.proofs.predecessors.raise.Statement.{statement}
 use Rattle.backward.proofs.predecessors.raise.Tie as tie
 
