@@ -105,7 +105,7 @@ module _ (b : List ℕ) (va : Valid b) (r : ℕ) (lr : r < rules b) (s : List �
         record {
           state = uo;
           keeps = raised-keeps n (labelCount b) choices near small e u i be h t;
-          above = before-rank b e u eo uo (raised-above n (labelCount b) choices near small e u i be h t);
+          above = omega (arith, before-rank b e u eo uo (raised-above n (labelCount b) choices near small e u i be h t));
           least = λ v vo kv a.
               not-before u v uo vo
               (raised-least n (labelCount b) choices near small e u i be h t v kv (labelled-at n (labelCount b) v vo) (rank-before b e v eo vo a));

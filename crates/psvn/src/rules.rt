@@ -75,8 +75,8 @@ fn makes(block: &[u8], left: usize, right: usize, old: &[u8], new: &[u8]) -> boo
     let n = old.len();
     let mut i = 0;
     while i < n {
-        let byte = block[right + i];
-        let given = label_given(block, left, old, i, byte);
+        let written = block[right + i];
+        let given = label_given(block, left, old, i, written);
         if given.0 != new[i] {
             return false;
         }

@@ -41,11 +41,11 @@ abbrev μ-loop : tie.MeasureT-loop
 loop-holds : tie.Need-loop-holds Inv-loop μ-loop
 loop-holds c = (search needs, search needs, λ k l. absurd (omega arith))
 
-add-byte : tie.Need-add-byte Inv-loop μ-loop
-add-byte c = search needs
+add-written : tie.Need-add-written Inv-loop μ-loop
+add-written c = search needs
 
-shared-slice-read-byte : tie.Need-shared-slice-read-byte Inv-loop μ-loop
-shared-slice-read-byte c = search needs
+shared-slice-read-written : tie.Need-shared-slice-read-written Inv-loop μ-loop
+shared-slice-read-written c = search needs
 
 label-given-requires : tie.Need-label-given-requires Inv-loop μ-loop
 label-given-requires c κs = search needs
@@ -89,8 +89,8 @@ makes-spec =
     Inv-loop
     μ-loop
     loop-holds
-    add-byte
-    shared-slice-read-byte
+    add-written
+    shared-slice-read-written
     label-given-requires
     shared-slice-read-if1
     returns
