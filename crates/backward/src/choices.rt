@@ -21,7 +21,7 @@ pub enum Choice {
 }
 
 // Whether the new state shows the variable v at position j.
-pub fn shows(block: &[u8], left: usize, right: usize, v: u8, j: usize) -> bool
+fn shows(block: &[u8], left: usize, right: usize, v: u8, j: usize) -> bool
     requires { ⌜ (left + j < length (now block)) × (right + j < length (now block)) ⌝ }
     ensures { λ r. ⌜ r ≡ shows (sideAt (now (block .entry)) left) (sideAt (now (block .entry)) right) v j ⌝ }
 {
