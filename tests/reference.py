@@ -1,7 +1,8 @@
-"""An independent reading of the language: blocks, states, matching, applying, goals, relabelling.
+"""An independent reading of the language: blocks, states, matching, applying, goals, relabelling, stepping back, reversible rules, replay.
 
 It shares nothing with the crates. The expected outputs of the test programs are made from it (expected.py).
 """
+import math
 
 
 class Refused(Exception):
@@ -79,6 +80,57 @@ class Exercise:
         made = {'label': lambda t, old: t[1], 'variable': lambda t, old: bound[t[1]], 'dash': lambda t, old: old}
         return [made[term[0]](term, old) for term, old in zip(right, state)]
 
+    def leading_to(self, rule, state):
+        """The states that the rule takes to the given one: groups of positions, each with the labels that they may share."""
+        _, left, right = self.rules[rule]
+        allowed = {}
+        for i, term in enumerate(left):
+            group = term if term[0] == 'variable' else i
+            allowed.setdefault(group, ([], set(range(self.labels))))[0].append(i)
+        for i, (old, new) in enumerate(zip(left, right)):
+            group = allowed[old if old[0] == 'variable' else i][1]
+            if old[0] == 'label':
+                group &= {old[1]}
+            if new[0] == 'dash':
+                group &= {state[i]}
+            elif new[0] == 'variable':
+                allowed[new][1].intersection_update({state[i]})
+            elif new[1] != state[i]:
+                group.clear()
+        return [(positions, sorted(labels)) for positions, labels in allowed.values()]
+
+    def step_back(self, rule, state, earlier):
+        """The next state after the earlier one (None: from 'first') that the rule takes to the given one, or None.
+
+        Groups stand in the order of their first positions, so the k-th of these states has the digits of k as labels; the first above the
+        earlier one is found by halving.
+        """
+        groups = self.leading_to(rule, state)
+
+        def nth(k):
+            made = [0] * self.n
+            for positions, labels in reversed(groups):
+                k, digit = divmod(k, len(labels))
+                for i in positions:
+                    made[i] = labels[digit]
+            return made
+
+        low, high = 0, math.prod(len(labels) for _, labels in groups)
+        count = high
+        while earlier is not None and low < high:
+            middle = (low + high) // 2
+            if nth(middle) <= earlier:
+                low = middle + 1
+            else:
+                high = middle
+        return nth(low) if low < count else None
+
+    def reversible(self, rule):
+        _, left, right = self.rules[rule]
+        sides = list(zip(left, right))
+        kept = set(right) | {old for old, new in sides if new[0] == 'dash'}
+        return all(new[0] == 'dash' or old[0] == 'label' or (old[0] == 'variable' and old in kept) for old, new in sides)
+
     def meets(self, state):
         return any(self.match(goal, state) is not None for goal in self.goals)
 
@@ -137,5 +189,56 @@ def relabel_block(block, out):
         if len(out) < len(new):
             raise Refused(11)
         return ('done', len(new)), new + list(out[len(new) :])
+    except Refused as r:
+        return r.number, list(out)
+
+
+def step_back(block, rule, state, earlier, out):
+    """The answer and the contents of the buffer afterwards; the earlier state is None for 'first'."""
+    try:
+        exercise = Exercise(block)
+        given = exercise.state(state)
+        after = None if earlier is None else exercise.state(earlier)
+        if rule >= exercise.rule_count:
+            raise Refused(9)
+        if len(out) < exercise.n:
+            raise Refused(11)
+        found = exercise.step_back(rule, given, after)
+        if found is None:
+            return 'none further', list(out)
+        return 'found', found + list(out[len(found) :])
+    except Refused as r:
+        return r.number, list(out)
+
+
+def reversible(block, rule):
+    try:
+        exercise = Exercise(block)
+        if rule >= exercise.rule_count:
+            raise Refused(9)
+        return exercise.reversible(rule)
+    except Refused as r:
+        return r.number
+
+
+def replay(block, start, numbers, out):
+    """The answer, ('done', cost), ('stuck', index, cost) or a number, and the contents of the buffer afterwards."""
+    try:
+        exercise = Exercise(block)
+        state = exercise.state(start)
+        if any(number >= exercise.rule_count for number in numbers):
+            raise Refused(9)
+        if len(numbers) > 4096:
+            raise Refused(10)
+        if len(out) < exercise.n:
+            raise Refused(11)
+        cost = 0
+        for index, number in enumerate(numbers):
+            new = exercise.apply(number, state)
+            if new is None:
+                return ('stuck', index, cost), state + list(out[len(state) :])
+            state = new
+            cost += exercise.rules[number][0]
+        return ('done', cost), state + list(out[len(state) :])
     except Refused as r:
         return r.number, list(out)

@@ -1,10 +1,10 @@
 // The calls on input E, accepted and with every set of faults.
-use super::input::E_LENGTH;
-use super::input::fault;
-use super::input::input_e;
+use testing::E_LENGTH;
 use testing::application_number;
+use testing::fault;
 use testing::front;
 use testing::goal_test_number;
+use testing::input_e;
 use testing::put;
 use testing::relabelling_number;
 

@@ -1,8 +1,8 @@
 // Faults of a block, each alone and together with every other.
-use super::input::E_LENGTH;
-use super::input::fault;
-use super::input::input_e;
-use super::input::verdict;
+use super::verdicts::verdict;
+use testing::E_LENGTH;
+use testing::fault;
+use testing::input_e;
 use testing::put;
 
 // Input E with the faults of a set: 1 the head, 2 the length, 4 the map, 8 a goal's term, 16 a right variable of rule 0.

@@ -1,6 +1,6 @@
 // The head's limits.
 ghost use Prim.Native.Nat.{_≤_};
-use super::input::verdict;
+use super::verdicts::verdict;
 
 // The verdict on a block that has this head and zeros behind it: map bytes, costs and labels alike.
 fn verdict_of(n: u8, labels: u8, abstracts: u8, rules: u8, goals: u8, length: usize) -> u64 {

@@ -1,9 +1,9 @@
 // The worked exercises that concern blocks, through the public calls.
 mod calls;
 mod faults;
-mod input;
 mod limits;
 mod terms;
+mod verdicts;
 
 fn main() {
     limits::print_sizes();

@@ -1,7 +1,7 @@
 // Every byte as a term.
-use super::input::E_LENGTH;
-use super::input::input_e;
-use super::input::verdict;
+use super::verdicts::verdict;
+use testing::E_LENGTH;
+use testing::input_e;
 use testing::put;
 
 // Prints the number for one byte at one place of input E.

@@ -1,7 +1,10 @@
 // A number for each answer: the refusal's, or one from 100 on; 0 for an accepted block.
 use engine::Application;
 use engine::GoalTest;
+use engine::Predecessor;
 use engine::Relabelling;
+use engine::Replay;
+use engine::Reversibility;
 use refusals::Verdict;
 use refusals::number;
 
@@ -33,5 +36,47 @@ pub fn relabelling_number(answer: Relabelling) -> u64 {
     match answer {
         Relabelling::Done(length) => 100 + length as u64 % 65536,
         Relabelling::Refused(refusal) => number(refusal) as u64,
+    }
+}
+
+pub fn predecessor_number(answer: Predecessor) -> u64 {
+    match answer {
+        Predecessor::Found => 100,
+        Predecessor::NoneFurther => 101,
+        Predecessor::Refused(refusal) => number(refusal) as u64,
+    }
+}
+
+pub fn reversibility_number(answer: Reversibility) -> u64 {
+    match answer {
+        Reversibility::Reversible => 100,
+        Reversibility::NotReversible => 101,
+        Reversibility::Refused(refusal) => number(refusal) as u64,
+    }
+}
+
+pub fn replay_number(answer: Replay) -> u64 {
+    match answer {
+        Replay::Done(_) => 100,
+        Replay::Stuck(_, _) => 101,
+        Replay::Refused(refusal) => number(refusal) as u64,
+    }
+}
+
+// The index where a replay is stuck, or 0.
+pub fn replay_index(answer: Replay) -> u64 {
+    match answer {
+        Replay::Done(_) => 0,
+        Replay::Stuck(index, _) => index as u64,
+        Replay::Refused(_) => 0,
+    }
+}
+
+// The cost of a replay, or 0 where it is refused.
+pub fn replay_cost(answer: Replay) -> u64 {
+    match answer {
+        Replay::Done(cost) => cost as u64,
+        Replay::Stuck(_, cost) => cost as u64,
+        Replay::Refused(_) => 0,
     }
 }

@@ -8,6 +8,14 @@ pub fn front(buffer: &[u8], length: usize) -> &[u8] {
     buffer
 }
 
+// The same, to be written.
+pub fn front_mut(buffer: &mut [u8], length: usize) -> &mut [u8] {
+    if length <= buffer.len() {
+        return &mut buffer[..length];
+    }
+    buffer
+}
+
 // Writes a byte where there is room.
 pub fn put(buffer: &mut [u8], at: usize, byte: u8) {
     if at < buffer.len() {

@@ -1,18 +1,17 @@
 // One case: a block, a state, a rule number and a buffer, through every call.
-use super::choosing::byte_at;
-use super::choosing::chosen;
-use super::choosing::next;
-use super::choosing::place;
-use super::choosing::seed;
-use super::making::make_block;
-use super::making::make_state;
 use super::sums::Batch;
-use super::sums::counted;
-use super::sums::mixed;
-use super::sums::mixed_all;
-use engine::Application;
-use engine::Relabelling;
+use testing::byte_at;
+use testing::chosen;
+use testing::counted;
 use testing::front;
+use testing::front_mut;
+use testing::make_block;
+use testing::make_state;
+use testing::mixed;
+use testing::mixed_all;
+use testing::next;
+use testing::place;
+use testing::seed;
 
 // The calls that write no buffer.
 fn run_tests(batch: Batch, block: &[u8], state: &[u8]) -> Batch {
@@ -25,29 +24,15 @@ fn run_tests(batch: Batch, block: &[u8], state: &[u8]) -> Batch {
     next
 }
 
-// Applies a rule into the first bytes of a buffer, or into all of it.
-fn apply_into(block: &[u8], rule: usize, state: &[u8], out: &mut [u8], room: usize) -> Application {
-    if room <= out.len() {
-        return engine::apply_rule(block, rule, state, &mut out[..room]);
-    }
-    engine::apply_rule(block, rule, state, out)
-}
-
-// Relabels into the first bytes of a buffer, or into all of it.
-fn relabel_into(block: &[u8], out: &mut [u8], room: usize) -> Relabelling {
-    if room <= out.len() {
-        return engine::relabel_block(block, &mut out[..room]);
-    }
-    engine::relabel_block(block, out)
-}
-
 // The calls that write a buffer: the whole buffer goes into the sum, what was lent of it and what was not.
 fn run_writes(batch: Batch, block: &[u8], state: &[u8], rule: usize, room: usize) -> Batch {
     let mut out = [170u8; 40];
-    let applied = testing::application_number(apply_into(block, rule, state, &mut out, room % 40));
+    let application = engine::apply_rule(block, rule, state, front_mut(&mut out, room % 40));
+    let applied = testing::application_number(application);
     let sum = mixed_all(mixed(batch.sum, applied), &out);
     let mut copy = [187u8; 400];
-    let relabelled = testing::relabelling_number(relabel_into(block, &mut copy, room));
+    let relabelling = engine::relabel_block(block, front_mut(&mut copy, room));
+    let relabelled = testing::relabelling_number(relabelling);
     let mut next = batch;
     next.done = counted(batch.done, applied, 100);
     next.sum = mixed_all(mixed(sum, relabelled), &copy);

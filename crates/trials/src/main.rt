@@ -1,8 +1,6 @@
 // Random exercises, whole and damaged, through every public call.
 // Each line sums up a batch: how many blocks were accepted, rules applied and goals met, and a sum over all answers and all contents of the buffers.
 mod cases;
-mod choosing;
-mod making;
 mod sums;
 
 use cases::run_case;

@@ -1,0 +1,52 @@
+-- `back_trials::run_cases` meets its contract.
+-- The loop's invariant: at most 1,000 cases are done.
+use Prim.Native.Nat.{_≤_, _-_}
+use borrow.Author.Needs.{needs}
+use Rattle.back_trials.proofs.run_cases.Statement.{statement}
+use Rattle.back_trials.proofs.run_cases.Tie as tie
+
+abbrev Inv-loop : tie.InvT-loop
+Inv-loop seed batch₀ done₀ batch done =
+    done ≤ 1000
+
+abbrev μ-loop : tie.MeasureT-loop
+μ-loop seed batch₀ done₀ batch done = 1000 - done
+
+begin-calls-requires : tie.Need-begin-calls-requires Inv-loop μ-loop
+begin-calls-requires c κs = search needs
+
+loop-holds : tie.Need-loop-holds Inv-loop μ-loop
+loop-holds c = search needs
+
+run-case-requires : tie.Need-run-case-requires Inv-loop μ-loop
+run-case-requires c κs = search needs
+
+add-done : tie.Need-add-done Inv-loop μ-loop
+add-done c = search needs
+
+loop-less : tie.Need-loop-less Inv-loop μ-loop
+loop-less c = search needs
+
+loop-again : tie.Need-loop-again Inv-loop μ-loop
+loop-again c = search needs
+
+print-calls-requires : tie.Need-print-calls-requires Inv-loop μ-loop
+print-calls-requires c κs = search needs
+
+returns : tie.Need-returns Inv-loop μ-loop
+returns c = search needs
+
+pub run-cases-spec : {M : Type 1} → statement M
+run-cases-spec =
+    tie.close
+    (tie.spec
+    Inv-loop
+    μ-loop
+    begin-calls-requires
+    loop-holds
+    run-case-requires
+    add-done
+    loop-less
+    loop-again
+    print-calls-requires
+    returns)

@@ -1,0 +1,52 @@
+-- `retracing::calls::print_next_predecessors` meets its contract.
+-- The loop's invariant: at most 32 sets are passed.
+use Prim.Native.Nat.{_≤_, _-_}
+use borrow.Author.Needs.{needs}
+use Rattle.retracing.proofs.calls.print_next_predecessors.Statement.{statement}
+use Rattle.retracing.proofs.calls.print_next_predecessors.Tie as tie
+
+abbrev Inv-loop : tie.InvT-loop
+Inv-loop set₀ set =
+    set ≤ 32
+
+abbrev μ-loop : tie.MeasureT-loop
+μ-loop set₀ set = 32 - set
+
+slice-aggregate-title : tie.Need-slice-aggregate-title Inv-loop μ-loop
+slice-aggregate-title c = search needs
+
+title-requires : tie.Need-title-requires Inv-loop μ-loop
+title-requires c κs = search needs
+
+loop-holds : tie.Need-loop-holds Inv-loop μ-loop
+loop-holds c = search needs
+
+print-next-requires : tie.Need-print-next-requires Inv-loop μ-loop
+print-next-requires c κs = search needs
+
+add-set : tie.Need-add-set Inv-loop μ-loop
+add-set c = search needs
+
+loop-less : tie.Need-loop-less Inv-loop μ-loop
+loop-less c = search needs
+
+loop-again : tie.Need-loop-again Inv-loop μ-loop
+loop-again c = search needs
+
+returns : tie.Need-returns Inv-loop μ-loop
+returns c = search needs
+
+pub print-next-predecessors-spec : {M : Type 1} → statement M
+print-next-predecessors-spec =
+    tie.close
+    (tie.spec
+    Inv-loop
+    μ-loop
+    slice-aggregate-title
+    title-requires
+    loop-holds
+    print-next-requires
+    add-set
+    loop-less
+    loop-again
+    returns)

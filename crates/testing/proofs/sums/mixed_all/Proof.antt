@@ -1,0 +1,53 @@
+-- `testing::sums::mixed_all` meets its contract.
+-- The loop's invariant: the next place is in the buffer.
+use Prim.Native.Nat.{_≤_, _-_}
+use lib.ListN.{length}
+use borrow.Author.Needs.{needs}
+use Rattle.testing.proofs.sums.mixed_all.Statement.{statement}
+use Rattle.testing.proofs.sums.mixed_all.Tie as tie
+
+abbrev Inv-loop : tie.InvT-loop
+Inv-loop sum bytes total₀ i₀ total i =
+    i ≤ length bytes
+
+abbrev μ-loop : tie.MeasureT-loop
+μ-loop sum bytes total₀ i₀ total i = length bytes - i
+
+loop-holds : tie.Need-loop-holds Inv-loop μ-loop
+loop-holds c = search needs
+
+shared-slice-read-wide : tie.Need-shared-slice-read-wide Inv-loop μ-loop
+shared-slice-read-wide c = search needs
+
+wide-requires : tie.Need-wide-requires Inv-loop μ-loop
+wide-requires c κs = search needs
+
+mixed-requires : tie.Need-mixed-requires Inv-loop μ-loop
+mixed-requires c κs = search needs
+
+add-i : tie.Need-add-i Inv-loop μ-loop
+add-i c = search needs
+
+loop-less : tie.Need-loop-less Inv-loop μ-loop
+loop-less c = search needs
+
+loop-again : tie.Need-loop-again Inv-loop μ-loop
+loop-again c = search needs
+
+returns : tie.Need-returns Inv-loop μ-loop
+returns c = search needs
+
+pub mixed-all-spec : {M : Type 1} → statement M
+mixed-all-spec =
+    tie.close
+    (tie.spec
+    Inv-loop
+    μ-loop
+    loop-holds
+    shared-slice-read-wide
+    wide-requires
+    mixed-requires
+    add-i
+    loop-less
+    loop-again
+    returns)
