@@ -1,8 +1,8 @@
--- Laws of lists of rule numbers: one rule more at the end (`run-more`, `cost-more`), what it says of each rule that the rules apply in turn
+-- Laws of lists of rule numbers: one rule more at the end (`run-more`, `cost-more`, `in-turn-more`), what it says of each rule that the rules apply in turn
 -- (`in-turn-at`, `in-turn-intro`), how long the last state is (`run-length`), and that it is valid where the first one is (`run-state`).
 -- Replay, tables and the search rest on these.
-use mathlib.Core.Path.{_≡_, refl}
-use mathlib.Core.Bool.{true}
+use mathlib.Core.Path.{_≡_, refl, sym, ap, _∙_}
+use mathlib.Core.Bool.{Bool, true, _&&_, and-assoc, and-comm}
 use mathlib.Core.List.{List, [], _∷_, _++_}
 use Prim.Native.Nat.{ℕ, zero, suc, _+_, _<_}
 use native.Mathlib.Nat.{not-suc-le-zero, le-of-suc-le-suc}
@@ -27,6 +27,13 @@ module _ (b : List ℕ) where
   pub cost-more : (rs : List ℕ) (r : ℕ) → totalCost b (rs ++ (r ∷ [])) ≡ totalCost b rs + costOf b r
   cost-more [] r = omega arith
   cost-more (x ∷ rs) r = omega (arith, cost-more rs r)
+
+  pub in-turn-more :
+      (s rs : List ℕ) (r : ℕ) → applyInTurn b s (rs ++ (r ∷ [])) ≡ (applyInTurn b s rs && applies b r (run b s rs))
+  in-turn-more s [] r = and-comm (applies b r s) true
+  in-turn-more s (x ∷ rs) r =
+      ap (λ (t : Bool). applies b x s && t) (in-turn-more (step b x s) rs r)
+      ∙ sym (and-assoc (applies b x s) (applyInTurn b (step b x s) rs) (applies b r (run b (step b x s) rs)))
 
   -- each rule applies where the rules before it have led
   pub in-turn-at :
