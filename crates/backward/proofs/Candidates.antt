@@ -20,6 +20,7 @@ use Rattle.psvn.proofs.RankLaws.{before-rank, rank-before}
 use Rattle.backward.specs.Choices.{choice, leastOf, turnsAt, Completed, Raised}
 use Rattle.backward.specs.declared.choices.Choice.{Choice}
 use Rattle.backward.specs.Predecessors.{Earlier, from-first, after, fromRank, found, none-further, stepBack, settled}
+use Rattle.backward.proofs.Leading.{leads-by}
 use Rattle.backward.proofs.ChoiceCases.{choice-local}
 use Rattle.backward.proofs.Keeping.{Keeps, Proper, valid-proper, leads-keeps, keeps-leads, choice-below}
 use Rattle.backward.proofs.NextState.{next-found, none-found}
@@ -48,7 +49,7 @@ module _ (b : List ℕ) (va : Valid b) (r : ℕ) (lr : r < rules b) (s : List �
   candidate-settles earlier u c = go (leads b r u s) refl
     where
       keeping : (v : List ℕ) → leads b r v s ≡ true → KeepsTo v
-      keeping v h = leads-keeps (positions b) (leftOf b r) (rightOf b r) s v h
+      keeping v h = leads-keeps (positions b) (leftOf b r) (rightOf b r) s v (sym (leads-by b r v s) ∙ h)
 
       go : (t : Bool) → leads b r u s ≡ t → stepBack b r s earlier ≡ cond (leads b r u s) (found u) none-further
       go true e =
@@ -63,7 +64,7 @@ module _ (b : List ℕ) (va : Valid b) (r : ℕ) (lr : r < rules b) (s : List �
       go false e =
           rw e
           (none-found b (va .sized .head) r s earlier (λ v ok h a.
-          true-false (keeps-leads (positions b) (labelCount b) (leftOf b r) (rightOf b r) proper s v h u (c .keeps)) e))
+          true-false (leads-by b r u s ∙ keeps-leads (positions b) (labelCount b) (leftOf b r) (rightOf b r) proper s v (sym (leads-by b r v s) ∙ h) u (c .keeps)) e))
 
   near : (u v : List ℕ) (i : ℕ) → ((k : ℕ) → k < i → getD u k 0 ≡ getD v k 0) → choices u i ≡ choices v i
   near = choice-local (positions b) (leftOf b r) (rightOf b r) s
@@ -116,7 +117,7 @@ module _ (b : List ℕ) (va : Valid b) (r : ℕ) (lr : r < rules b) (s : List �
     no-candidate h =
         let n = positions b in
         none-found b (va .sized .head) r s (after e) (λ v vo k a.
-        none-after n (labelCount b) choices near small e v (leads-keeps n (leftOf b r) (rightOf b r) s v k) (labelled-at n (labelCount b) v vo) (rank-before b e v eo vo a) h)
+        none-after n (labelCount b) choices near small e v (leads-keeps n (leftOf b r) (rightOf b r) s v (sym (leads-by b r v s) ∙ k)) (labelled-at n (labelCount b) v vo) (rank-before b e v eo vo a) h)
 
   -- as the code finds the rule: its sides begin at `left` and `right`, and n is the length of the state
   module _ (n left right : ℕ) (en : n ≡ positions b) (el : left ≡ leftAt b r) (er : right ≡ rightAt b r) where

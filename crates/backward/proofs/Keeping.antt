@@ -17,7 +17,6 @@ use Rattle.blocks.specs.Layout.{positions, rules, labelCount, leftOf, rightOf}
 use Rattle.blocks.specs.Validity.{boundIn, Valid}
 use Rattle.blocks.proofs.TermCases.{View, label, variable, dash, refused, view, is-label, is-variable, is-refused, dash-byte}
 use Rattle.blocks.proofs.Accepted.{left-side, right-side, right-bound, side-term}
-use Rattle.psvn.specs.Rules.{leadsBy}
 use Rattle.psvn.proofs.Matching.{Matched, matched}
 use Rattle.psvn.proofs.RankLaws.{some-label}
 use Rattle.psvn.proofs.Stepping.{count-alike}
@@ -25,7 +24,7 @@ use Rattle.backward.specs.Reversible.{shows}
 use Rattle.backward.specs.Choices.{only, choice, leastOf, keepsOf}
 use Rattle.backward.specs.declared.choices.Choice.{Choice}
 use Rattle.backward.specs.declared.choices.Choice.the-variants.{Any}
-use Rattle.backward.proofs.Leading.{leads-matches, made, making}
+use Rattle.backward.proofs.Leading.{leadsBy, leads-matches, made, making}
 use Rattle.backward.proofs.ChoiceCases.{Case, kept, constant, shown, again, new, other, case, choice-dash, choice-label, choice-shown, choice-again, choice-new, choice-other}
 
 -- u keeps to the choices at each position

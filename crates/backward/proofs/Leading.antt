@@ -1,8 +1,8 @@
 -- What it says that a rule takes u to s: it applies to u, and the state it makes is s (`leads-exactly`); position by position, what the right terms say of s (`Made`, `made`, `making`).
 -- The theorems on predecessors and on one-to-one rules rest on these.
-use mathlib.Core.Path.{_≡_, sym, ap, _∙_}
+use mathlib.Core.Path.{_≡_, refl, sym, ap, _∙_}
 use mathlib.Core.Logic.{_↔_}
-use mathlib.Core.Bool.{true}
+use mathlib.Core.Bool.{Bool, true, _&&_}
 use mathlib.Core.List.{List}
 use Prim.Native.Nat.{ℕ, _≤_, _<_}
 use native.Mathlib.Omega.{arith}
@@ -15,9 +15,18 @@ use Rattle.basics.proofs.Bounded.{all-at, all-intro}
 use Rattle.basics.proofs.Lists.{length-tabulate, getD-tabulate}
 use Rattle.basics.proofs.Order.{same-list}
 use Rattle.blocks.specs.Terms.{termOf}
+use Rattle.blocks.specs.Layout.{positions, leftOf, rightOf}
 use Rattle.blocks.proofs.TermCases.{View, label, variable, dash, refused, view, is-label, is-variable, is-dash, is-refused}
-use Rattle.psvn.specs.Rules.{bound, given, matches, rewritten, same, leadsBy}
+use Rattle.psvn.specs.Rules.{bound, given, matches, rewritten, applies, step, same, leads}
 use Rattle.psvn.proofs.Matching.{Matched, matching}
+
+-- the rule with these sides takes u to s
+unfoldable pub leadsBy : ℕ → (ℕ → ℕ) → (ℕ → ℕ) → List ℕ → List ℕ → Bool
+leadsBy n left right u s = matches n left u && same n (rewritten n left right u) s
+
+pub leads-by : (b : List ℕ) (r : ℕ) (u s : List ℕ) → leads b r u s ≡ leadsBy (positions b) (leftOf b r) (rightOf b r) u s
+unfolding leads leadsBy applies step
+leads-by b r u s = refl
 
 -- what each position of the new state says, by its right term
 pub record Made (n : ℕ) (left right : ℕ → ℕ) (u s : List ℕ) : Type 0 where
@@ -48,16 +57,6 @@ module _ (n : ℕ) (left right : ℕ → ℕ) (u s : List ℕ) where
   leading m h =
       and-intro (matches n left u) (same n (rewritten n left right u) s) m
       (all-intro (λ i. eqb (getD (rewritten n left right u) i 0) (getD s i 0)) n (λ i l. eq-eqb (getD (rewritten n left right u) i 0) (getD s i 0) (h i l)))
-
-  -- in the document's words, both ways
-  pub leads-exactly :
-      length s ≡ n → (leadsBy n left right u s ≡ true) ↔ ((matches n left u ≡ true) × (rewritten n left right u ≡ s))
-  unfolding rewritten
-  leads-exactly ls = (
-    λ h.
-        (leads-matches h, same-list n (rewritten n left right u) s (length-tabulate n (λ i. given n left u i (termOf (right i)))) ls (leads-image h)),
-    λ h. leading (h .0) (λ i l. ap (λ (t : List ℕ). getD t i 0) (h .1)),
-  )
 
   -- and by the right terms
   given-other : (i : ℕ) → 32 ≤ right i → given n left u i (termOf (right i)) ≡ getD u i 0
@@ -90,3 +89,20 @@ module _ (n : ℕ) (left right : ℕ → ℕ) (u s : List ℕ) where
       go i l (variable a b) = d .variable-at i l a b ∙ ap (given n left u i) (sym (is-variable (right i) a b))
       go i l (dash e) = d .other-at i l (omega arith) ∙ sym (given-other i (omega arith))
       go i l (refused a b) = d .other-at i l a ∙ sym (given-other i a)
+
+-- in the document's words, both ways
+pub leads-exactly :
+    (b : List ℕ) (r : ℕ) (u s : List ℕ) → length s ≡ positions b
+    → (leads b r u s ≡ true) ↔ ((applies b r u ≡ true) × (step b r u ≡ s))
+unfolding applies step rewritten
+leads-exactly b r u s ls =
+    let n = positions b in
+    let left = leftOf b r in
+    let right = rightOf b r in (
+      λ h.
+          let k = sym (leads-by b r u s) ∙ h in (
+            leads-matches n left right u s k,
+            same-list n (step b r u) s (length-tabulate n (λ i. given n left u i (termOf (right i)))) ls (leads-image n left right u s k),
+          ),
+      λ h. leads-by b r u s ∙ leading n left right u s (h .0) (λ i l. ap (λ (t : List ℕ). getD t i 0) (h .1)),
+    )

@@ -22,11 +22,12 @@ use Rattle.blocks.specs.States.{labelled, stateOk}
 use Rattle.blocks.specs.Validity.{Valid}
 use Rattle.blocks.proofs.TermCases.{View, label, variable, dash, refused, view, is-label, is-variable, is-dash, is-refused, dash-byte}
 use Rattle.blocks.proofs.StateLaws.{labelled-length, labelled-at, labelled-intro}
-use Rattle.psvn.specs.Rules.{bound, given, rewritten, applies, step, leadsBy, leads}
+use Rattle.psvn.specs.Rules.{bound, given, rewritten, applies, step, leads}
 use Rattle.psvn.proofs.Matching.{Matched, matching}
+use Rattle.psvn.proofs.RunLaws.{step-length}
 use Rattle.backward.specs.Reversible.{shows, kept as keptTerm, formAt, reversible, OneToOne}
 use Rattle.backward.specs.Choices.{only, choice}
-use Rattle.backward.proofs.Leading.{leading}
+use Rattle.backward.proofs.Leading.{leadsBy, leads-by, leads-exactly}
 use Rattle.backward.proofs.ChoiceCases.{Case, kept, constant, shown, again, new, other, case, choice-dash, choice-label, choice-shown}
 use Rattle.backward.proofs.Keeping.{only-keeps, shows-right, shows-left, leads-keeps, Proper, valid-proper}
 
@@ -220,15 +221,14 @@ module _ (b : List ℕ) (r : ℕ) where
       → leads b r u s ≡ true → leads b r v s ≡ true → u ≡ v
   unfolding reversible
   one-predecessor h s u v uo vo lu lv =
-      same-state u v uo vo (form-tells (positions b) (leftOf b r) (rightOf b r) h s u v lu lv)
+      same-state u v uo vo
+      (form-tells (positions b) (leftOf b r) (rightOf b r) h s u v (sym (leads-by b r u s) ∙ lu) (sym (leads-by b r v s) ∙ lv))
 
   pub reversible-one : reversible b r ≡ true → OneToOne b r
-  unfolding applies step
   reversible-one h u v uo vo au av e =
-      let n = positions b in
-      one-predecessor h (step b r v) u v uo vo
-      (leading n (leftOf b r) (rightOf b r) u (step b r v) au (λ i l. ap (λ (t : List ℕ). getD t i 0) e))
-      (leading n (leftOf b r) (rightOf b r) v (step b r v) av (λ i l. refl))
+      let s = step b r v in
+      let long = step-length b r v in
+      one-predecessor h s u v uo vo (leads-exactly b r u s long .1 (au, e)) (leads-exactly b r v s long .1 (av, refl))
 
   pub one-label : labels b ≡ 1 → OneToOne b r
   unfolding labelCount

@@ -12,7 +12,7 @@ use Rattle.blocks.specs.Layout.{labels, rules, headByte, labelCount, abstractSt
 use Rattle.blocks.specs.Validity.{sizesOk, headOk, lengthOk, mapOk, sideOk, ruleTermsOk, goalTermsOk, termsOk, ruleBound, boundOk, blockConditions, Valid}
 use Rattle.blocks.specs.States.{labelled, stateOk}
 use Rattle.blocks.proofs.Accepted.{accepted-valid}
-use Rattle.psvn.specs.Rules.{bound, matches, rewritten, applies, step, leadsBy, leads}
+use Rattle.psvn.specs.Rules.{bound, matches, rewritten, applies, step, leads}
 use Rattle.backward.specs.Predecessors.{Predecessor, from-first, after, found, none-further, isFound, writtenOut, stepBack}
 use Rattle.backward.specs.Reversible.{reversible}
 use Rattle.backward.proofs.NextState.{next-found, none-found}
@@ -25,7 +25,7 @@ use Rattle.exercises.specs.Starred.{Starred, exampleBlock, exampleState,
 
 -- what the definitions are opened for
 computing : Unit {0}
-unfolding exampleBlock exampleState exampleImage pairBlock headByte labelCount abstractStates mapByte ruleWidth ruleAt leftAt rightAt goalAt blockLength sizesOk headOk lengthOk mapOk sideOk ruleTermsOk goalTermsOk termsOk ruleBound boundOk blockConditions labelled bound matches rewritten applies step leadsBy stateConditions applyConditions applyRule stepBackConditions reversible reversibleConditions testReversible
+unfolding exampleBlock exampleState exampleImage pairBlock headByte labelCount abstractStates mapByte ruleWidth ruleAt leftAt rightAt goalAt blockLength sizesOk headOk lengthOk mapOk sideOk ruleTermsOk goalTermsOk termsOk ruleBound boundOk blockConditions labelled bound matches rewritten applies step leads stateConditions applyConditions applyRule stepBackConditions reversible reversibleConditions testReversible
 computing = tt
 
 -- the example block, its rule, and the two states

@@ -42,15 +42,13 @@ applies b r s = matches (positions b) (leftOf b r) s
 unfoldable pub step : List ℕ → ℕ → List ℕ → List ℕ
 step b r s = rewritten (positions b) (leftOf b r) (rightOf b r) s
 
--- rule r takes the state u to s: it applies to u, and the state it makes is s
+-- two states hold the same n labels
 abbrev pub same : ℕ → List ℕ → List ℕ → Bool
 same n s t = all n (λ i. eqb (getD s i 0) (getD t i 0))
 
-unfoldable pub leadsBy : ℕ → (ℕ → ℕ) → (ℕ → ℕ) → List ℕ → List ℕ → Bool
-leadsBy n left right u s = matches n left u && same n (rewritten n left right u) s
-
-abbrev pub leads : List ℕ → ℕ → List ℕ → List ℕ → Bool
-leads b r u s = leadsBy (positions b) (leftOf b r) (rightOf b r) u s
+-- rule r takes the state u to s: it applies to u, and the state it makes is s
+unfoldable pub leads : List ℕ → ℕ → List ℕ → List ℕ → Bool
+leads b r u s = applies b r u && same (positions b) (step b r u) s
 
 -- the state matches goal g; it meets a goal
 unfoldable pub goalMet : List ℕ → ℕ → List ℕ → Bool

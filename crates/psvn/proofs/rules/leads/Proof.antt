@@ -8,7 +8,7 @@ use native.Mathlib.Omega.{arith}
 use denote.Ref.{now}
 use borrow.Author.Needs.{needs}
 use Rattle.blocks.specs.Layout.{positions, leftAt, rightAt, sideAt}
-use Rattle.psvn.specs.Rules.{matches, rewritten, same, leadsBy}
+use Rattle.psvn.specs.Rules.{matches, rewritten, applies, step, same, leads}
 use Rattle.blocks.proofs.Offsets.{left-inside, right-inside}
 use Rattle.psvn.proofs.rules.leads.Statement.{statement}
 use Rattle.psvn.proofs.rules.leads.Tie as tie
@@ -41,7 +41,7 @@ makes-requires c κs =
     )
 
 returns : tie.Need-returns
-unfolding leadsBy
+unfolding leads applies step
 returns c =
     let a = c .before .before .before .before .before .before .before .before .args in
     let b = now (a .block) in
@@ -54,7 +54,7 @@ returns c =
     ∙ sym (ap (λ (t : Bool). t && made (positions b) (leftAt b (a .r)) (rightAt b (a .r))) m)
 
 returns-2 : tie.Need-returns-2
-unfolding leadsBy
+unfolding leads applies step
 returns-2 c =
     let a = c .before .before .before .before .before .before .args in
     let b = now (a .block) in
