@@ -11,7 +11,7 @@ import reference
 
 
 class Random:
-    """The seeds of crates/testing/src/choosing.rt."""
+    """The seeds of crates/generating/src/choosing.rt."""
 
     def __init__(self):
         self.seed = 1
@@ -253,6 +253,30 @@ def retracing():
     back(twelve, 10, [0, 1, 1])
     after(twelve, 10, [0, 1, 1], '001', '010')
 
+    def step_back(faults, earlier):
+        if earlier and 'earlier' in faults:
+            earlier = [3, *earlier[1:]]
+        state = [1, 0, 3 if 'state' in faults else 2]
+        room = 2 if 'buffer' in faults else 5
+        value, out = reference.step_back(faulty(faults), 6 if 'rule' in faults else 2, state, earlier, [170] * room)
+        numbers([answer(value), *out, *[170] * (5 - room)])
+
+    print("rule 2 back from <1,0,2>, 'first', with every set of faults 7, 8, 9, 11")
+    for k in range(16):
+        step_back(subset(k, ['variable', 'state', 'rule', 'buffer']), None)
+    print('rule 2 back from <1,0,2> after <1,0,0>, with every set of faults 7, 8, 8 of the earlier state, 9, 11')
+    for k in range(32):
+        step_back(subset(k, ['variable', 'state', 'earlier', 'rule', 'buffer']), [1, 0, 0])
+    print('the state with two, three, four labels, and the earlier state with none, two, three, four')
+    lengths = [(count, earlier) for count in (2, 3, 4) for earlier in (0, 2, 3, 4)]
+    states = [([1, 0, 2, 0][:count], [1, 0, 0, 0][:earlier]) for count, earlier in lengths]
+    numbers(answer(reference.step_back(E, 2, state, earlier, [170] * 5)[0]) for state, earlier in states)
+    print('rule 2 reversible, with every set of faults 7, 9')
+    sets = [subset(k, ['variable', 'rule']) for k in range(4)]
+    numbers(answer(reference.reversible(faulty(faults), 6 if 'rule' in faults else 2)) for faults in sets)
+
+
+def recorded_runs():
     def replay(block, start, *lists):
         for rules in lists:
             value, out = reference.replay(block, start, rules, [170] * 5)
@@ -278,25 +302,6 @@ def retracing():
     long(4097, 4096, 6)
     print('4,096 rules of cost 255')
     replay(block_of(1, 1, [(255, '-', '-')]), [0], [0] * 4096)
-
-    def step_back(faults, earlier):
-        if earlier and 'earlier' in faults:
-            earlier = [3, *earlier[1:]]
-        state = [1, 0, 3 if 'state' in faults else 2]
-        room = 2 if 'buffer' in faults else 5
-        value, out = reference.step_back(faulty(faults), 6 if 'rule' in faults else 2, state, earlier, [170] * room)
-        numbers([answer(value), *out, *[170] * (5 - room)])
-
-    print("rule 2 back from <1,0,2>, 'first', with every set of faults 7, 8, 9, 11")
-    for k in range(16):
-        step_back(subset(k, ['variable', 'state', 'rule', 'buffer']), None)
-    print('rule 2 back from <1,0,2> after <1,0,0>, with every set of faults 7, 8, 8 of the earlier state, 9, 11')
-    for k in range(32):
-        step_back(subset(k, ['variable', 'state', 'earlier', 'rule', 'buffer']), [1, 0, 0])
-    print('the state with two, three, four labels, and the earlier state with none, two, three, four')
-    lengths = [(count, earlier) for count in (2, 3, 4) for earlier in (0, 2, 3, 4)]
-    states = [([1, 0, 2, 0][:count], [1, 0, 0, 0][:earlier]) for count, earlier in lengths]
-    numbers(answer(reference.step_back(E, 2, state, earlier, [170] * 5)[0]) for state, earlier in states)
     print('2 0 5 from <1,2,0>, with every set of faults 7, 8, 9, 10, 11')
     for k in range(32):
         faults = subset(k, ['variable', 'state', 'rule', 'limit', 'buffer'])
@@ -305,9 +310,6 @@ def retracing():
         room = 2 if 'buffer' in faults else 5
         value, out = reference.replay(faulty(faults), [1, 2, 3 if 'state' in faults else 0], rules, [170] * room)
         numbers([*replay_answer(value), *out, *[170] * (5 - room)])
-    print('rule 2 reversible, with every set of faults 7, 9')
-    sets = [subset(k, ['variable', 'rule']) for k in range(4)]
-    numbers(answer(reference.reversible(faulty(faults), 6 if 'rule' in faults else 2)) for faults in sets)
 
 
 def compare_rule(random, total):
@@ -351,6 +353,10 @@ def back_trials():
         counts = [compare_rule(random, total) for _ in range(250)]
         accepted, reversible, comparisons, found = map(sum, zip(*counts))
         numbers([accepted, reversible, 0, 0, comparisons, 0, found, total.total])
+
+
+def back_calls():
+    random = Random()
     print('found from first, found after a state, reversible; sum')
     for _ in range(16):
         total, first, further, reversible = Sum(), 0, 0, 0
@@ -478,5 +484,5 @@ def replay_trials():
 
 
 if __name__ == '__main__':
-    programs = [back_trials, exercises, replay_trials, retracing, trials, wide_states]
+    programs = [back_calls, back_trials, exercises, recorded_runs, replay_trials, retracing, trials, wide_states]
     {program.__name__: program for program in programs}[sys.argv[1]]()

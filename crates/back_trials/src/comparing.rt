@@ -3,7 +3,7 @@ use super::states::Sizes;
 use super::states::leads;
 use super::states::same;
 use super::states::write_state;
-use super::sums::RuleBatch;
+use super::sums::Batch;
 use testing::counted;
 use testing::front;
 use testing::mixed;
@@ -11,7 +11,7 @@ use testing::mixed_all;
 use testing::predecessor_number;
 
 // One comparison more. The expected buffer begins with 170 where there is none further.
-fn compared(batch: RuleBatch, answer: u64, out: &[u8], expected: &[u8]) -> RuleBatch {
+fn compared(batch: Batch, answer: u64, out: &[u8], expected: &[u8]) -> Batch {
     let mut next = batch;
     next.comparisons = counted(batch.comparisons, 1, 1);
     next.differences = counted(batch.differences, differs(answer, out, expected), 1);
@@ -39,25 +39,25 @@ fn answer_for(expected: &[u8]) -> u64 {
 }
 
 fn compare_after(
-    batch: RuleBatch,
+    batch: Batch,
     block: &[u8],
     state: &[u8],
     earlier: &[u8],
     expected: &[u8; 6],
-) -> RuleBatch {
+) -> Batch {
     let mut out = [170u8; 6];
     let answer = engine::next_predecessor(block, 0, state, earlier, &mut out);
     compared(batch, predecessor_number(answer), &out, expected)
 }
 
-fn compare_first(batch: RuleBatch, block: &[u8], state: &[u8], expected: &[u8; 6]) -> RuleBatch {
+fn compare_first(batch: Batch, block: &[u8], state: &[u8], expected: &[u8; 6]) -> Batch {
     let mut out = [170u8; 6];
     let answer = engine::first_predecessor(block, 0, state, &mut out);
     compared(batch, predecessor_number(answer), &out, expected)
 }
 
 // Goes from the last rank down, so that the next predecessor after a state is the last that the walk met.
-pub fn compare_all(batch: RuleBatch, block: &[u8], state: &[u8], sizes: Sizes) -> RuleBatch {
+pub fn compare_all(batch: Batch, block: &[u8], state: &[u8], sizes: Sizes) -> Batch {
     let mut next = batch;
     let mut expected = [170u8; 6];
     let mut rank = sizes.states;

@@ -5,18 +5,18 @@ use super::states::rank_of;
 use super::states::sizes_of;
 use super::states::write_image;
 use super::states::write_state;
-use super::sums::RuleBatch;
+use super::sums::Batch;
+use generating::chosen;
+use generating::make_small_block;
+use generating::next;
+use generating::place;
+use generating::seed;
 use testing::byte_at;
-use testing::chosen;
 use testing::counted;
 use testing::front;
-use testing::make_small_block;
 use testing::mixed;
-use testing::next;
-use testing::place;
 use testing::put;
 use testing::reversibility_number;
-use testing::seed;
 use testing::verdict_number;
 
 // Whether two states have the same image.
@@ -44,7 +44,7 @@ fn image_place(block: &[u8], rank: u64, sizes: Sizes) -> usize {
 }
 
 // The form against the images of all states.
-fn test_form(batch: RuleBatch, block: &[u8], sizes: Sizes) -> RuleBatch {
+fn test_form(batch: Batch, block: &[u8], sizes: Sizes) -> Batch {
     let answer = reversibility_number(engine::test_reversible(block, 0));
     let mut next = batch;
     next.accepted = counted(batch.accepted, 1, 1);
@@ -77,7 +77,7 @@ fn write_next_image(out: &mut [u8], block: &[u8], from: u64, sizes: Sizes) {
     }
 }
 
-fn run_accepted(batch: RuleBatch, cursor: u64, block: &[u8]) -> RuleBatch {
+fn run_accepted(batch: Batch, cursor: u64, block: &[u8]) -> Batch {
     let sizes = sizes_of(block);
     let mut state = [0u8; 4];
     write_target(&mut state, cursor, block, sizes);
@@ -113,7 +113,7 @@ fn change_right(block: &mut [u8], cursor: u64, n: u64, labels: u64) -> u64 {
 }
 
 // One rule more; it is passed over where a right variable is unbound.
-pub fn run_rule(batch: RuleBatch) -> RuleBatch {
+pub fn run_rule(batch: Batch) -> Batch {
     let mut block = [0u8; 32];
     let end = make_small_block(&mut block, batch.seed);
     let n = byte_at(&block, 0);

@@ -1,7 +1,7 @@
 // What a batch sums up.
 
 // Small rules. `collided` counts rules that are reversible by form though two states share an image, `missed` those that are not though there are two labels and none do.
-pub struct RuleBatch {
+pub struct Batch {
     pub seed: u64,
     pub accepted: u64,
     pub reversible: u64,
@@ -13,8 +13,8 @@ pub struct RuleBatch {
     pub sum: u64,
 }
 
-pub fn begin_rules(seed: u64) -> RuleBatch {
-    RuleBatch {
+pub fn begin(seed: u64) -> Batch {
+    Batch {
         seed,
         accepted: 0,
         reversible: 0,
@@ -27,7 +27,7 @@ pub fn begin_rules(seed: u64) -> RuleBatch {
     }
 }
 
-pub fn print_rules(batch: RuleBatch) {
+pub fn print(batch: Batch) {
     testing::number(batch.accepted);
     testing::number(batch.reversible);
     testing::number(batch.collided);
@@ -35,33 +35,6 @@ pub fn print_rules(batch: RuleBatch) {
     testing::number(batch.comparisons);
     testing::number(batch.differences);
     testing::number(batch.found);
-    testing::number(batch.sum);
-    testing::end();
-}
-
-// Calls on blocks whole and damaged.
-pub struct CallBatch {
-    pub seed: u64,
-    pub first: u64,
-    pub further: u64,
-    pub reversible: u64,
-    pub sum: u64,
-}
-
-pub fn begin_calls(seed: u64) -> CallBatch {
-    CallBatch {
-        seed,
-        first: 0,
-        further: 0,
-        reversible: 0,
-        sum: 0,
-    }
-}
-
-pub fn print_calls(batch: CallBatch) {
-    testing::number(batch.first);
-    testing::number(batch.further);
-    testing::number(batch.reversible);
     testing::number(batch.sum);
     testing::end();
 }

@@ -3,21 +3,21 @@ use super::lists::Held;
 use super::lists::make_list;
 use super::sums::Batch;
 use engine::Replay;
+use generating::chosen;
+use generating::make_block;
+use generating::make_state;
+use generating::next;
+use generating::place;
+use generating::seed;
 use testing::byte_at;
-use testing::chosen;
 use testing::counted;
 use testing::front;
 use testing::front_mut;
-use testing::make_block;
-use testing::make_state;
 use testing::mixed;
 use testing::mixed_all;
-use testing::next;
-use testing::place;
 use testing::replay_cost;
 use testing::replay_index;
 use testing::replay_number;
-use testing::seed;
 
 // The batch with one answer more; `applied` is how many rules were applied.
 fn added(batch: Batch, answer: u64, applied: u64) -> Batch {

@@ -1,13 +1,13 @@
 // Lists of rule numbers, mostly such that each rule applies to the state that those before it lead to.
 use engine::Application;
-use testing::begin;
+use generating::begin;
+use generating::chosen;
+use generating::next;
+use generating::seed;
+use generating::write;
 use testing::byte_at;
-use testing::chosen;
 use testing::front;
-use testing::next;
 use testing::put;
-use testing::seed;
-use testing::write;
 
 // A state in a buffer, and how many labels it has.
 pub struct Held {

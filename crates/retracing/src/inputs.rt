@@ -31,10 +31,3 @@ const FORMS: [u8; 94] =
 pub fn forms() -> [u8; 94] {
     FORMS
 }
-
-// One position, one label, one rule that changes nothing and costs 255.
-const DEAREST: [u8; 10] = *b"\x01\x01\x01\x01\x01\x00\xFF\xFF\xFF\xFF";
-
-pub fn dearest() -> [u8; 10] {
-    DEAREST
-}

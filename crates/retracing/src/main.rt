@@ -1,7 +1,6 @@
-// The worked exercises of stepping back, reversible rules and replaying, through the public calls.
+// The worked exercises of stepping back and of reversible rules, through the public calls.
 mod calls;
 mod inputs;
-mod replays;
 mod steps;
 
 fn main() {
@@ -10,11 +9,8 @@ fn main() {
     steps::print_afters();
     steps::print_one_label();
     steps::print_forms();
-    replays::print_short();
-    replays::print_long();
     calls::print_first_predecessors();
     calls::print_next_predecessors();
     calls::print_lengths();
-    calls::print_replays();
     calls::print_reversible();
 }

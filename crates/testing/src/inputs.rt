@@ -1,4 +1,5 @@
 // Input E's block, and faults.
+use super::parts::put;
 
 // How many bytes input E's block has.
 pub const E_LENGTH: usize = 53;
@@ -20,4 +21,11 @@ pub fn fault(set: u8, bit: u8, bad: u8, good: u8) -> u8 {
         return bad;
     }
     good
+}
+
+// Input E, with the fault of a right variable where the set has 1.
+pub fn faulty_e(set: u8) -> [u8; 54] {
+    let mut block = E;
+    put(&mut block, 12, fault(set, 1, 17, 0));
+    block
 }

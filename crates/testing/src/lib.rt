@@ -1,8 +1,6 @@
-// What the test programs share: parts of buffers, the numbers they print for answers, printing itself, input E, random blocks and states, and sums.
+// What the test programs share: parts of buffers, the numbers they print for answers, printing itself, input E, and sums.
 mod answers;
-mod choosing;
 mod inputs;
-mod making;
 mod parts;
 mod printing;
 mod sums;
@@ -16,19 +14,11 @@ pub use answers::replay_index;
 pub use answers::replay_number;
 pub use answers::reversibility_number;
 pub use answers::verdict_number;
-pub use choosing::begin;
-pub use choosing::byte_at;
-pub use choosing::chosen;
-pub use choosing::next;
-pub use choosing::place;
-pub use choosing::seed;
-pub use choosing::write;
 pub use inputs::E_LENGTH;
 pub use inputs::fault;
+pub use inputs::faulty_e;
 pub use inputs::input_e;
-pub use making::make_block;
-pub use making::make_small_block;
-pub use making::make_state;
+pub use parts::byte_at;
 pub use parts::front;
 pub use parts::front_mut;
 pub use parts::put;

@@ -1,4 +1,4 @@
-// Parts of buffers, with no demand on the caller.
+// Parts and bytes of buffers, with no demand on the caller.
 
 // The first bytes of a buffer, or all of it where it has fewer.
 pub fn front(buffer: &[u8], length: usize) -> &[u8] {
@@ -22,4 +22,17 @@ pub fn put(buffer: &mut [u8], at: usize, byte: u8) {
         buffer[at] = byte;
         return;
     }
+}
+
+// A byte as a number.
+pub fn wide(byte: u8) -> u64 {
+    byte as u64
+}
+
+// The byte at a place as a number, or 0 behind the buffer.
+pub fn byte_at(buffer: &[u8], at: usize) -> u64 {
+    if at < buffer.len() {
+        return wide(buffer[at]);
+    }
+    0
 }

@@ -1,5 +1,5 @@
 // Sums over answers and buffers, and counts.
-use super::choosing::wide;
+use super::parts::wide;
 
 // The sum with one number more.
 pub fn mixed(sum: u64, x: u64) -> u64 {

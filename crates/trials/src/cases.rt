@@ -1,17 +1,17 @@
 // One case: a block, a state, a rule number and a buffer, through every call.
 use super::sums::Batch;
+use generating::chosen;
+use generating::make_block;
+use generating::make_state;
+use generating::next;
+use generating::place;
+use generating::seed;
 use testing::byte_at;
-use testing::chosen;
 use testing::counted;
 use testing::front;
 use testing::front_mut;
-use testing::make_block;
-use testing::make_state;
 use testing::mixed;
 use testing::mixed_all;
-use testing::next;
-use testing::place;
-use testing::seed;
 
 // The calls that write no buffer.
 fn run_tests(batch: Batch, block: &[u8], state: &[u8]) -> Batch {

@@ -1,0 +1,31 @@
+// Stepping back and the test for reversible rules on random exercises, whole and damaged.
+// Each line sums up a batch: how many states were found from 'first' and after a state, how many rules were reversible, and a sum over all answers and contents of the buffers.
+mod cases;
+mod sums;
+
+use cases::run_case;
+
+const CASES: u64 = 1000;
+
+const BATCHES: u64 = 16;
+
+fn run_batch(seed: u64) -> u64 {
+    let mut batch = sums::begin(seed);
+    let mut done: u64 = 0;
+    while done < CASES {
+        batch = run_case(batch);
+        done += 1;
+    }
+    sums::print(batch);
+    batch.seed
+}
+
+fn main() {
+    testing::title(b"found from first, found after a state, reversible; sum");
+    let mut seed: u64 = 1;
+    let mut done: u64 = 0;
+    while done < BATCHES {
+        seed = run_batch(seed);
+        done += 1;
+    }
+}
