@@ -1,14 +1,14 @@
 -- Ranks: a rank is below the number of states, and rank and state undo one another, for abstract states (`rank-below`, `unrank-rank`, `unrank-state`, `rank-unrank`; their
--- number is K to the power n) and for states (`state-rank-below`, `unrank-state-rank`, `unranked-state`, `state-rank-unrank`). The rank order of states is the order of their
+-- number is K to the power n) and for states (`state-rank-below`, `unrank-state-rank`, `unranked-state`, `state-rank-unrank`; L to the power n, `state-count-power`). The rank order of states is the order of their
 -- labels, position 0 deciding first (`rank-before`, `before-rank`), and states of one rank are equal (`same-rank`). Tables and predecessors rest on these.
 use mathlib.Core.Path.{_≡_, refl, sym}
 use mathlib.Core.Bool.{true}
 use mathlib.Core.List.{List}
-use Prim.Native.Nat.{ℕ, _<_}
+use Prim.Native.Nat.{ℕ, _^_, _<_}
 use Rattle.basics.specs.Digits.{span}
 use Rattle.basics.proofs.Digits.{value-digits, span-power}
 use Rattle.basics.proofs.Order.{Before, before-value, value-before, value-injective}
-use Rattle.blocks.specs.Layout.{positions, abstracts, labelCount, abstractCount, abstractStates}
+use Rattle.blocks.specs.Layout.{positions, labels, abstracts, labelCount, abstractCount, abstractStates}
 use Rattle.blocks.specs.Validity.{Headed}
 use Rattle.blocks.specs.States.{stateOk, abstractOk}
 use Rattle.psvn.specs.Ranks.{rank, unrank, stateRank, unrankState, stateCount}
@@ -42,7 +42,11 @@ module _ (b : List ℕ) where
     unfolding rank unrank
     rank-unrank k l = value-digits (abstractCount b) some-abstract (positions b) k (rw states-span l)
 
-  -- states
+  -- states: there are L to the power n
+  pub state-count-power : stateCount b ≡ labels b ^ positions b
+  unfolding labelCount stateCount
+  state-count-power = span-power (labelCount b) (labels b) (λ i. refl) (positions b)
+
   module _ (s : List ℕ) (ok : stateOk b s ≡ true) where
     pub state-rank-below : stateRank b s < stateCount b
     unfolding stateRank stateCount
