@@ -60,6 +60,13 @@ class Exercise:
             raise Refused(8)
         return list(bytes_)
 
+    def accept(self, rule, out):
+        """Turns back a rule number that is none, and a buffer with no room for a state."""
+        if rule >= self.rule_count:
+            raise Refused(9)
+        if len(out) < self.n:
+            raise Refused(11)
+
     @staticmethod
     def match(side, state):
         """The variables' labels, or None where the side does not match."""
@@ -148,6 +155,11 @@ class Exercise:
         return block
 
 
+def written(new, out):
+    """The buffer with the new bytes at its front, or as it was where there are none."""
+    return list(out) if new is None else new + list(out[len(new) :])
+
+
 def check_block(block):
     """0, or the number that turns the block back."""
     try:
@@ -162,14 +174,9 @@ def apply_rule(block, rule, state, out):
     try:
         exercise = Exercise(block)
         old = exercise.state(state)
-        if rule >= exercise.rule_count:
-            raise Refused(9)
-        if len(out) < exercise.n:
-            raise Refused(11)
+        exercise.accept(rule, out)
         new = exercise.apply(rule, old)
-        if new is None:
-            return 'does not apply', list(out)
-        return 'done', new + list(out[len(new) :])
+        return ('does not apply' if new is None else 'done'), written(new, out)
     except Refused as r:
         return r.number, list(out)
 
@@ -188,7 +195,7 @@ def relabel_block(block, out):
         new = Exercise(block).relabelled()
         if len(out) < len(new):
             raise Refused(11)
-        return ('done', len(new)), new + list(out[len(new) :])
+        return ('done', len(new)), written(new, out)
     except Refused as r:
         return r.number, list(out)
 
@@ -199,14 +206,9 @@ def step_back(block, rule, state, earlier, out):
         exercise = Exercise(block)
         given = exercise.state(state)
         after = None if earlier is None else exercise.state(earlier)
-        if rule >= exercise.rule_count:
-            raise Refused(9)
-        if len(out) < exercise.n:
-            raise Refused(11)
+        exercise.accept(rule, out)
         found = exercise.step_back(rule, given, after)
-        if found is None:
-            return 'none further', list(out)
-        return 'found', found + list(out[len(found) :])
+        return ('none further' if found is None else 'found'), written(found, out)
     except Refused as r:
         return r.number, list(out)
 
@@ -236,9 +238,9 @@ def replay(block, start, numbers, out):
         for index, number in enumerate(numbers):
             new = exercise.apply(number, state)
             if new is None:
-                return ('stuck', index, cost), state + list(out[len(state) :])
+                return ('stuck', index, cost), written(state, out)
             state = new
             cost += exercise.rules[number][0]
-        return ('done', cost), state + list(out[len(state) :])
+        return ('done', cost), written(state, out)
     except Refused as r:
         return r.number, list(out)

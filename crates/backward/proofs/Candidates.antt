@@ -64,7 +64,7 @@ module _ (b : List ℕ) (va : Valid b) (r : ℕ) (lr : r < rules b) (s : List �
       go false e =
           rw e
           (none-found b (va .sized .head) r s earlier (λ v ok h a.
-          true-false (leads-by b r u s ∙ keeps-leads (positions b) (labelCount b) (leftOf b r) (rightOf b r) proper s v (sym (leads-by b r v s) ∙ h) u (c .keeps)) e))
+          true-false (leads-by b r u s ∙ keeps-leads (positions b) (leftOf b r) (rightOf b r) s v (sym (leads-by b r v s) ∙ h) u (c .keeps) (labelCount b) proper) e))
 
   near : (u v : List ℕ) (i : ℕ) → ((k : ℕ) → k < i → getD u k 0 ≡ getD v k 0) → choices u i ≡ choices v i
   near = choice-local (positions b) (leftOf b r) (rightOf b r) s

@@ -37,7 +37,7 @@ keeps-only y x e h = rw e (eq-eqb x y h)
 keeps-any : {w : Choice} (x : ℕ) → w ≡ Any → keepsOf w x ≡ true
 keeps-any x e = rw e
 
-pub only-keeps : {w : Choice} (y x : ℕ) → w ≡ only y → keepsOf w x ≡ true → x ≡ y
+only-keeps : {w : Choice} (y x : ℕ) → w ≡ only y → keepsOf w x ≡ true → x ≡ y
 only-keeps y x e h = eqb-true x y (rw e at h)
 
 -- where the new state shows a variable
@@ -122,19 +122,19 @@ pub record Proper (n : ℕ) (count : ℕ → ℕ) (left right : ℕ → ℕ) : T
   pub right-bound :
       (i : ℕ) → i < n → 16 ≤ right i → right i < 32 → some n (λ j. eqb (left j) (right i)) ≡ true
 
--- where there is a state w that the rule takes to s, each state u that keeps to its choices is one
+-- where there is a state w that the rule takes to s, each state u that keeps to its choices is alike where s tells the label, and is one too
 module _
-    (n : ℕ) (count left right : ℕ → ℕ) (proper : Proper n count left right) (s w : List ℕ)
-    (h : leadsBy n left right w s ≡ true) (u : List ℕ) (keeps : Keeps n left right s u) where
+    (n : ℕ) (left right : ℕ → ℕ) (s w : List ℕ) (h : leadsBy n left right w s ≡ true) (u : List ℕ)
+    (keeps : Keeps n left right s u) where
   alike-only :
       (i y : ℕ) → i < n → choice n left right s u i ≡ only y → choice n left right s w i ≡ only y → getD u i 0 ≡ getD w i 0
   alike-only i y l a b =
       only-keeps y (getD u i 0) a (keeps i l) ∙ sym (only-keeps y (getD w i 0) b (leads-keeps n left right s w h i l))
 
-  at-kept : (i : ℕ) → i < n → right i ≡ 255 → getD u i 0 ≡ getD w i 0
+  pub at-kept : (i : ℕ) → i < n → right i ≡ 255 → getD u i 0 ≡ getD w i 0
   at-kept i l e = alike-only i (getD s i 0) l (choice-dash n left right s u i e) (choice-dash n left right s w i e)
 
-  at-constant : (i : ℕ) → i < n → left i < 16 → getD u i 0 ≡ getD w i 0
+  pub at-constant : (i : ℕ) → i < n → left i < 16 → getD u i 0 ≡ getD w i 0
   at-constant i l a = go (eqb (right i) 255) refl
     where
       go : (t : Bool) → eqb (right i) 255 ≡ t → getD u i 0 ≡ getD w i 0
@@ -142,7 +142,7 @@ module _
       go false e =
           alike-only i (left i) l (choice-label n left right s u i (eqb-false _ _ e) a) (choice-label n left right s w i (eqb-false _ _ e) a)
 
-  at-shown :
+  pub at-shown :
       (i : ℕ) → i < n → 16 ≤ left i → left i < 32 → some n (shows left right (left i)) ≡ true → getD u i 0 ≡ getD w i 0
   at-shown i l a b d = go (eqb (right i) 255) refl
     where
@@ -189,29 +189,30 @@ module _
           at-home i li a b d ∙ ap (λ (v : ℕ). getD u (first n (λ j. eqb (left j) v)) 0) (sym e)
           ∙ sym (at-home j lj (omega arith) (omega arith) (shown-too d))
 
-  variable-label :
-      (i : ℕ) → i < n → 16 ≤ right i → right i < 32 → getD s i 0 ≡ getD u (first n (λ j. eqb (left j) (right i))) 0
-  variable-label i l a b =
-      let f = first n (λ j. eqb (left j) (right i)) in
-      let g = first-holds (λ j. eqb (left j) (right i)) n (proper .right-bound i l a b) in
-      let e : left f ≡ right i = eqb-true (left f) (right i) (g .1) in
-      let d : some n (shows left right (left f)) ≡ true = some-intro (shows left right (left f)) n i l (shows-right left right (left f) i (sym e)) in
-      made n left right w s h .variable-at i l a b ∙ sym (at-shown f (g .0) (omega arith) (omega arith) d)
+  module _ (count : ℕ → ℕ) (proper : Proper n count left right) where
+    variable-label :
+        (i : ℕ) → i < n → 16 ≤ right i → right i < 32 → getD s i 0 ≡ getD u (first n (λ j. eqb (left j) (right i))) 0
+    variable-label i l a b =
+        let f = first n (λ j. eqb (left j) (right i)) in
+        let g = first-holds (λ j. eqb (left j) (right i)) n (proper .right-bound i l a b) in
+        let e : left f ≡ right i = eqb-true (left f) (right i) (g .1) in
+        let d : some n (shows left right (left f)) ≡ true = some-intro (shows left right (left f)) n i l (shows-right left right (left f) i (sym e)) in
+        made n left right w s h .variable-at i l a b ∙ sym (at-shown f (g .0) (omega arith) (omega arith) d)
 
-  pub keeps-leads : leadsBy n left right u s ≡ true
-  keeps-leads =
-      making n left right u s
-      (record {
-        constant = λ i l a. at-constant i l a ∙ matched n left w (leads-matches n left right w s h) .constant i l a;
-        same = same-variable;
-      })
-      (record {
-        label-at = made n left right w s h .label-at;
-        variable-at = variable-label;
-        other-at =
-            λ i l a.
-            sym (only-keeps (getD s i 0) (getD u i 0) (choice-dash n left right s u i (proper .right-dash i l a)) (keeps i l));
-      })
+    pub keeps-leads : leadsBy n left right u s ≡ true
+    keeps-leads =
+        making n left right u s
+        (record {
+          constant = λ i l a. at-constant i l a ∙ matched n left w (leads-matches n left right w s h) .constant i l a;
+          same = same-variable;
+        })
+        (record {
+          label-at = made n left right w s h .label-at;
+          variable-at = variable-label;
+          other-at =
+              λ i l a.
+              sym (only-keeps (getD s i 0) (getD u i 0) (choice-dash n left right s u i (proper .right-dash i l a)) (keeps i l));
+        })
 
 -- the choices allow labels below the counts
 module _

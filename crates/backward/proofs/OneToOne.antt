@@ -26,10 +26,9 @@ use Rattle.psvn.specs.Rules.{bound, given, rewritten, applies, step, leads}
 use Rattle.psvn.proofs.Matching.{Matched, matching}
 use Rattle.psvn.proofs.RunLaws.{step-length}
 use Rattle.backward.specs.Reversible.{shows, kept as keptTerm, formAt, reversible, OneToOne}
-use Rattle.backward.specs.Choices.{only, choice}
 use Rattle.backward.proofs.Leading.{leadsBy, leads-by, leads-exactly}
-use Rattle.backward.proofs.ChoiceCases.{Case, kept, constant, shown, again, new, other, case, choice-dash, choice-label, choice-shown}
-use Rattle.backward.proofs.Keeping.{only-keeps, shows-right, shows-left, leads-keeps, Proper, valid-proper}
+use Rattle.backward.proofs.ChoiceCases.{Case, kept, constant, shown, again, new, other, case}
+use Rattle.backward.proofs.Keeping.{Keeps, shows-right, shows-left, leads-keeps, at-kept, at-constant, at-shown, Proper, valid-proper}
 
 -- the form at one position, by its terms
 module _ (n : ℕ) (left right : ℕ → ℕ) (i : ℕ) where
@@ -61,11 +60,8 @@ module _ (n : ℕ) (left right : ℕ → ℕ) (i : ℕ) where
 module _
     (n : ℕ) (left right : ℕ → ℕ) (form : all n (formAt n left right) ≡ true) (s u v : List ℕ)
     (hu : leadsBy n left right u s ≡ true) (hv : leadsBy n left right v s ≡ true) where
-  alike-only :
-      (i y : ℕ) → i < n → choice n left right s u i ≡ only y → choice n left right s v i ≡ only y → getD u i 0 ≡ getD v i 0
-  alike-only i y l a b =
-      only-keeps y (getD u i 0) a (leads-keeps n left right s u hu i l)
-      ∙ sym (only-keeps y (getD v i 0) b (leads-keeps n left right s v hv i l))
+  keeps : Keeps n left right s u
+  keeps = leads-keeps n left right s u hu
 
   form-tells : (i : ℕ) → i < n → getD u i 0 ≡ getD v i 0
   form-tells i l = go (case n left right i)
@@ -74,10 +70,9 @@ module _
       f = all-at (formAt n left right) n form i l
 
       go : Case n left right i → getD u i 0 ≡ getD v i 0
-      go (kept e) = alike-only i (getD s i 0) l (choice-dash n left right s u i e) (choice-dash n left right s v i e)
-      go (constant a b) = alike-only i (left i) l (choice-label n left right s u i a b) (choice-label n left right s v i a b)
-      go (shown a b c d) =
-          alike-only i (getD s (first n (shows left right (left i))) 0) l (choice-shown n left right s u i a b c d) (choice-shown n left right s v i a b c d)
+      go (kept e) = at-kept n left right s v hv u keeps i l e
+      go (constant a b) = at-constant n left right s v hv u keeps i l b
+      go (shown a b c d) = at-shown n left right s v hv u keeps i l b c d
       go (again a b c d e) = absurd (true-false f (form-variable n left right i a b c ∙ d))
       go (new a b c d e) = absurd (true-false f (form-variable n left right i a b c ∙ d))
       go (other a b) = absurd (true-false f (form-other n left right i a b))

@@ -14,7 +14,7 @@ use borrow.Author.Tests.{eqb-true, ltb-true, ltb-false, lt-ltb, eq-eqb}
 use Rattle.basics.specs.Bounded.{all, last}
 use Rattle.basics.proofs.Truth.{and-true, and-intro}
 use Rattle.basics.proofs.Bounded.{all-at, all-intro, last-above, last-holds}
-use Rattle.basics.proofs.Order.{Before}
+use Rattle.basics.proofs.Order.{Before, trichotomy}
 use Rattle.backward.specs.Choices.{leastOf, raisedOf, risesOf, keepsOf, turnsAt, Completed, Raised}
 use Rattle.backward.specs.declared.choices.Choice.{Choice}
 use Rattle.backward.specs.declared.choices.Choice.the-variants.{Only, Any}
@@ -47,15 +47,6 @@ raised-lowest Any x z h l = omega arith
 rises-to : (count : ℕ) (w : Choice) (x z : ℕ) → keepsOf w z ≡ true → x < z → z < count → risesOf count w x ≡ true
 rises-to count (Only label) x z h l b = let e : z ≡ label .0 = eqb-true _ _ h in lt-ltb x (label .0) (omega arith)
 rises-to count Any x z h l b = lt-ltb (x + 1) count (omega arith)
-
--- how two numbers stand to one another
-side : (x y : ℕ) → (x < y) ⊎ ((x ≡ y) ⊎ (y < x))
-side x y = go (ltb x y) refl (ltb y x) refl
-  where
-    go : (a : Bool) → ltb x y ≡ a → (d : Bool) → ltb y x ≡ d → (x < y) ⊎ ((x ≡ y) ⊎ (y < x))
-    go true a d z = inl (ltb-true _ _ a)
-    go false a true z = inr (inr (ltb-true _ _ z))
-    go false a false z = inr (inl (let m : y ≤ x = ltb-false _ _ a in let o : x ≤ y = ltb-false _ _ z in omega arith))
 
 -- n positions with `count i` labels at position i, and a choice at each that goes by the labels before it
 module _
@@ -139,7 +130,7 @@ module _
         }
 
     pub raised-keeps : Kept u
-    raised-keeps k l = go (side k i)
+    raised-keeps k l = go (trichotomy k i)
       where
         here : keepsOf (choices u i) (getD u i 0) ≡ true
         here = rw (near u e i (t .before), t .here) (raised-kept (choices e i) (getD e i 0))
@@ -201,5 +192,5 @@ module _
 
       pub raised-least : ⊥
       raised-least =
-          ⊎-elim (λ q. late q (side (c .place) i)) (λ l. early l (side (c .place) (b .place)))
+          ⊎-elim (λ q. late q (trichotomy (c .place) i)) (λ l. early l (trichotomy (c .place) (b .place)))
           (eq-or-lt-of-le (le-of-suc-le-suc reach))

@@ -1,5 +1,6 @@
 -- The order of lists of digits, the first digit deciding (`Before`), is the order of the numbers they write (`before-value`, `value-before`), and lists of
--- one length with digits below their bases are equal where their numbers are (`value-injective`). The rank order of states rests on these.
+-- one length with digits below their bases are equal where their numbers are (`value-injective`); two numbers compare in one of three ways (`trichotomy`).
+-- The rank order of states rests on these.
 use mathlib.Core.Path.{_≡_, refl, sym, ap, _∙_, subst}
 use mathlib.Core.Logic.{_⊎_, inl, inr, ⊎-elim}
 use mathlib.Core.Bool.{Bool, true, false, not}
@@ -15,6 +16,16 @@ use Rattle.basics.specs.Bounded.{some, first}
 use Rattle.basics.specs.Digits.{valueTo, digits}
 use Rattle.basics.proofs.Bounded.{some-false, first-holds, first-least}
 use Rattle.basics.proofs.Digits.{value-ext, digits-value}
+
+-- how two numbers stand to one another
+pub trichotomy : (x y : ℕ) → (x < y) ⊎ ((x ≡ y) ⊎ (y < x))
+trichotomy x y = go (ltb x y) refl (ltb y x) refl
+  where
+    go : (a : Bool) → ltb x y ≡ a → (b : Bool) → ltb y x ≡ b → (x < y) ⊎ ((x ≡ y) ⊎ (y < x))
+    go true e b f = inl (ltb-true x y e)
+    go false e true f = inr (inr (ltb-true y x f))
+    go false e false f =
+        inr (inl (let l : y ≤ x = ltb-false x y e in let m : x ≤ y = ltb-false y x f in omega arith))
 
 -- u comes before v: up to some place they agree, and there u has the lower element
 pub record Before (n : ℕ) (u v : List ℕ) : Type 0 where
@@ -35,17 +46,12 @@ module _ (n : ℕ) (u v : List ℕ) where
   pub compare : ((k : ℕ) → k < n → getD u k 0 ≡ getD v k 0) ⊎ (Before n u v ⊎ Before n v u)
   compare = go (some n differs) refl
     where
-      side :
+      part :
           (d : ℕ) → d < n → (getD u d 0 ≡ getD v d 0 → ⊥) → ((k : ℕ) → k < d → getD u k 0 ≡ getD v k 0)
-          → (t : Bool) → ltb (getD u d 0) (getD v d 0) ≡ t → Before n u v ⊎ Before n v u
-      side d l h a true e = inl (record { place = d; within = l; agree = a; lower = ltb-true _ _ e })
-      side d l h a false e =
-          inr (record {
-            place = d;
-            within = l;
-            agree = λ k m. sym (a k m);
-            lower = let x : getD v d 0 ≤ getD u d 0 = ltb-false _ _ e in omega arith;
-          })
+          → (getD u d 0 < getD v d 0) ⊎ ((getD u d 0 ≡ getD v d 0) ⊎ (getD v d 0 < getD u d 0)) → Before n u v ⊎ Before n v u
+      part d l h a (inl x) = inl (record { place = d; within = l; agree = a; lower = x })
+      part d l h a (inr (inl x)) = absurd (h x)
+      part d l h a (inr (inr x)) = inr (record { place = d; within = l; agree = λ k m. sym (a k m); lower = x })
 
       equal : (k : ℕ) → differs k ≡ false → getD u k 0 ≡ getD v k 0
       equal k h = eqb-true _ _ (not-false _ h)
@@ -55,7 +61,7 @@ module _ (n : ℕ) (u v : List ℕ) where
       go true e =
           let h = first-holds differs n e in
           let d = first n differs in
-          inr (side d (h .0) (eqb-false _ _ (not-true _ (h .1))) (λ k l. equal k (first-least differs n k l)) (ltb (getD u d 0) (getD v d 0)) refl)
+          inr (part d (h .0) (eqb-false _ _ (not-true _ (h .1))) (λ k l. equal k (first-least differs n k l)) (trichotomy (getD u d 0) (getD v d 0)))
 
 module _ (base : ℕ → ℕ) where
   -- the lower front stays lower, whatever digits follow
