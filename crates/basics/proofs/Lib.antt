@@ -5,3 +5,4 @@ pub mod Bounded
 pub mod Lists
 pub mod Digits
 pub mod Order
+pub mod Pigeonhole

@@ -1,8 +1,8 @@
 -- The order of lists of digits, the first digit deciding (`Before`), is the order of the numbers they write (`before-value`, `value-before`), and lists of
--- one length with digits below their bases are equal where their numbers are (`value-injective`); two numbers compare in one of three ways (`trichotomy`).
--- The rank order of states rests on these.
+-- one length with digits below their bases are equal where their numbers are (`value-injective`); how two numbers compare (`below?`, `same?`, `trichotomy`).
+-- The rank order of states and the tables of least costs rest on these.
 use mathlib.Core.Path.{_≡_, refl, sym, ap, _∙_, subst}
-use mathlib.Core.Logic.{_⊎_, inl, inr, ⊎-elim}
+use mathlib.Core.Logic.{_⊎_, inl, inr, ⊎-elim, _≢_}
 use mathlib.Core.Bool.{Bool, true, false, not}
 use mathlib.Core.List.{List}
 use Prim.Native.Nat.{ℕ, zero, suc, _+_, _-_, _*_, _≤_, _<_}
@@ -17,15 +17,25 @@ use Rattle.basics.specs.Digits.{valueTo, digits}
 use Rattle.basics.proofs.Bounded.{some-false, first-holds, first-least}
 use Rattle.basics.proofs.Digits.{value-ext, digits-value}
 
+-- a is below b or not, and is b or not
+pub below? : (a b : ℕ) → (a < b) ⊎ (b ≤ a)
+below? a b = go (ltb a b) refl
+  where
+    go : (x : Bool) → ltb a b ≡ x → (a < b) ⊎ (b ≤ a)
+    go true e = inl (ltb-true a b e)
+    go false e = inr (ltb-false a b e)
+
+pub same? : (a b : ℕ) → (a ≡ b) ⊎ (a ≢ b)
+same? a b = go (eqb a b) refl
+  where
+    go : (x : Bool) → eqb a b ≡ x → (a ≡ b) ⊎ (a ≢ b)
+    go true e = inl (eqb-true a b e)
+    go false e = inr (eqb-false a b e)
+
 -- how two numbers stand to one another
 pub trichotomy : (x y : ℕ) → (x < y) ⊎ ((x ≡ y) ⊎ (y < x))
-trichotomy x y = go (ltb x y) refl (ltb y x) refl
-  where
-    go : (a : Bool) → ltb x y ≡ a → (b : Bool) → ltb y x ≡ b → (x < y) ⊎ ((x ≡ y) ⊎ (y < x))
-    go true e b f = inl (ltb-true x y e)
-    go false e true f = inr (inr (ltb-true y x f))
-    go false e false f =
-        inr (inl (let l : y ≤ x = ltb-false x y e in let m : x ≤ y = ltb-false y x f in omega arith))
+trichotomy x y =
+    ⊎-elim inl (λ l. ⊎-elim (λ m. inr (inr m)) (λ m. inr (inl (omega arith))) (below? y x)) (below? x y)
 
 -- u comes before v: up to some place they agree, and there u has the lower element
 pub record Before (n : ℕ) (u v : List ℕ) : Type 0 where

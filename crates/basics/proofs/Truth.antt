@@ -1,10 +1,14 @@
--- Laws of truth values: a test is not both true and false, and what `&&` and `||` say of their parts.
+-- Laws of truth values: a test is true or false and not both, and what `&&` and `||` say of their parts.
 -- The laws of bounded tests and the layers above rest on these.
 use mathlib.Core.Path.{_≡_, refl, sym, _∙_}
 use mathlib.Core.Bool.{Bool, true, false, _&&_, _||_, true≢false}
 
 pub true-false : {t : Bool} → t ≡ true → t ≡ false → ⊥
 true-false p q = true≢false (sym p ∙ q)
+
+pub not-so : (t : Bool) → (t ≡ true → ⊥) → t ≡ false
+not-so true h = absurd (h refl)
+not-so false h = refl
 
 pub and-true : (a b : Bool) → (a && b) ≡ true → (a ≡ true) × (b ≡ true)
 and-true true b h = (refl, h)

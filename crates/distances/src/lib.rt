@@ -1,0 +1,1 @@
+// Least costs over a finite graph: definitions and theorems only.
