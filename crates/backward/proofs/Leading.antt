@@ -12,13 +12,14 @@ use borrow.Author.Tests.{eqb-true, eq-eqb}
 use Rattle.basics.specs.Bounded.{first}
 use Rattle.basics.proofs.Truth.{and-true, and-intro}
 use Rattle.basics.proofs.Bounded.{all-at, all-intro}
-use Rattle.basics.proofs.Lists.{length-tabulate, getD-tabulate}
+use Rattle.basics.proofs.Lists.{length-tabulate}
 use Rattle.basics.proofs.Order.{same-list}
 use Rattle.blocks.specs.Terms.{termOf}
 use Rattle.blocks.specs.Layout.{positions, leftOf, rightOf}
-use Rattle.blocks.proofs.TermCases.{View, label, variable, dash, refused, view, is-label, is-variable, is-dash, is-refused}
+use Rattle.blocks.proofs.TermCases.{View, label, variable, dash, refused, view, is-label, is-variable}
 use Rattle.psvn.specs.Rules.{bound, given, matches, rewritten, applies, step, same, leads}
 use Rattle.psvn.proofs.Matching.{Matched, matching}
+use Rattle.psvn.proofs.Making.{rewritten-at, given-other}
 
 -- the rule with these sides takes u to s
 unfoldable pub leadsBy : ℕ → (ℕ → ℕ) → (ℕ → ℕ) → List ℕ → List ℕ → Bool
@@ -36,10 +37,6 @@ pub record Made (n : ℕ) (left right : ℕ → ℕ) (u s : List ℕ) : Type 0 w
   pub other-at : (i : ℕ) → i < n → 32 ≤ right i → getD s i 0 ≡ getD u i 0
 
 module _ (n : ℕ) (left right : ℕ → ℕ) (u s : List ℕ) where
-  rewritten-at : (i : ℕ) → i < n → getD (rewritten n left right u) i 0 ≡ given n left u i (termOf (right i))
-  unfolding rewritten
-  rewritten-at i l = getD-tabulate n (λ i. given n left u i (termOf (right i))) i l
-
   pub leads-matches : leadsBy n left right u s ≡ true → matches n left u ≡ true
   unfolding leadsBy
   leads-matches h = and-true (matches n left u) _ h .0
@@ -59,36 +56,27 @@ module _ (n : ℕ) (left right : ℕ → ℕ) (u s : List ℕ) where
       (all-intro (λ i. eqb (getD (rewritten n left right u) i 0) (getD s i 0)) n (λ i l. eq-eqb (getD (rewritten n left right u) i 0) (getD s i 0) (h i l)))
 
   -- and by the right terms
-  given-other : (i : ℕ) → 32 ≤ right i → given n left u i (termOf (right i)) ≡ getD u i 0
-  given-other i a = go (view (right i))
-    where
-      go : View (right i) → given n left u i (termOf (right i)) ≡ getD u i 0
-      go (label b) = absurd (omega arith)
-      go (variable b c) = absurd (omega arith)
-      go (dash e) = ap (given n left u i) (is-dash (right i) e)
-      go (refused b c) = ap (given n left u i) (is-refused (right i) b c)
-
   pub made : leadsBy n left right u s ≡ true → Made n left right u s
   unfolding bound
   made h =
       record {
         label-at = λ i l a. at i l ∙ ap (given n left u i) (is-label (right i) a);
         variable-at = λ i l a b. at i l ∙ ap (given n left u i) (is-variable (right i) a b);
-        other-at = λ i l a. at i l ∙ given-other i a;
+        other-at = λ i l a. at i l ∙ given-other n left right u i a;
       }
     where
       at : (i : ℕ) → i < n → getD s i 0 ≡ given n left u i (termOf (right i))
-      at i l = sym (leads-image h i l) ∙ rewritten-at i l
+      at i l = sym (leads-image h i l) ∙ rewritten-at n left right u i l
 
   pub making : Matched n left u → Made n left right u s → leadsBy n left right u s ≡ true
   unfolding bound
-  making m d = leading (matching n left u m) (λ i l. rewritten-at i l ∙ sym (go i l (view (right i))))
+  making m d = leading (matching n left u m) (λ i l. rewritten-at n left right u i l ∙ sym (go i l (view (right i))))
     where
       go : (i : ℕ) → i < n → View (right i) → getD s i 0 ≡ given n left u i (termOf (right i))
       go i l (label a) = d .label-at i l a ∙ ap (given n left u i) (sym (is-label (right i) a))
       go i l (variable a b) = d .variable-at i l a b ∙ ap (given n left u i) (sym (is-variable (right i) a b))
-      go i l (dash e) = d .other-at i l (omega arith) ∙ sym (given-other i (omega arith))
-      go i l (refused a b) = d .other-at i l a ∙ sym (given-other i a)
+      go i l (dash e) = d .other-at i l (omega arith) ∙ sym (given-other n left right u i (omega arith))
+      go i l (refused a b) = d .other-at i l a ∙ sym (given-other n left right u i a)
 
 -- in the document's words, both ways
 pub leads-exactly :

@@ -9,7 +9,7 @@ use native.Mathlib.Omega.{arith}
 use lib.Dec.{leb}
 use borrow.Author.Tests.{lt-ltb, le-ltb, leb-true, le-leb}
 use Rattle.basics.specs.Bounded.{some, first}
-use Rattle.basics.proofs.Truth.{true-false, and-true, and-intro}
+use Rattle.basics.proofs.Truth.{true-false, and-true, and-intro, not-so}
 use Rattle.basics.proofs.Bounded.{some-none, some-intro, first-none, first-holds, first-least, first-at}
 use Rattle.blocks.specs.States.{stateOk}
 use Rattle.blocks.specs.Validity.{Headed}
@@ -63,13 +63,6 @@ module _ (b : List ℕ) (h : Headed b) (r : ℕ) (s : List ℕ) (earlier : Earli
       and-intro (leb (fromRank b earlier) (stateRank b v)) (leads b r (unrankState b (stateRank b v)) s)
       (le-leb (fromRank b earlier) (stateRank b v) a) (rw (unrank-state-rank b v ok) l)
 
-  counts-not : (k : ℕ) → (counts k ≡ true → ⊥) → counts k ≡ false
-  counts-not k e = go (counts k) refl
-    where
-      go : (t : Bool) → counts k ≡ t → counts k ≡ false
-      go true x = absurd (e x)
-      go false x = x
-
   -- the answer, by the rank
   at-rank : (k : ℕ) → nextRank b r s earlier ≡ k → k < stateCount b → stepBack b r s earlier ≡ found (unrankState b k)
   unfolding stepBack
@@ -85,7 +78,7 @@ module _ (b : List ℕ) (h : Headed b) (r : ℕ) (s : List ℕ) (earlier : Earli
       let top = state-rank-below b u (n .state) in
       at-rank (stateRank b u)
       (first-at counts (stateCount b) (stateRank b u) top (state-counts u (n .state) (n .leads-there) (n .above)) (λ k l.
-      counts-not k (λ e.
+      not-so (counts k) (λ e.
       let m = counts-state k e in
       let q = state-rank-unrank b h k (omega arith) in
       let x = n .least (unrankState b k) (unranked-state b h k) (m .1) (rw q (m .0)) in
@@ -97,7 +90,7 @@ module _ (b : List ℕ) (h : Headed b) (r : ℕ) (s : List ℕ) (earlier : Earli
   unfolding nextRank
   none-found none =
       at-end (first-none counts (stateCount b) (some-none counts (stateCount b) (λ k l.
-      counts-not k (λ e.
+      not-so (counts k) (λ e.
       let m = counts-state k e in
       none (unrankState b k) (unranked-state b h k) (m .1) (rw (state-rank-unrank b h k l) (m .0))))))
 

@@ -6,3 +6,5 @@ pub mod Lists
 pub mod Digits
 pub mod Order
 pub mod Pigeonhole
+pub mod Bits
+pub mod Frames

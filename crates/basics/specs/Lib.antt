@@ -1,5 +1,6 @@
 -- The definitions that every layer uses, a file for each idea.
--- They know nothing of exercises: bounded tests, lists by index, digits.
+-- They know nothing of exercises: bounded tests, lists by index, digits, parts of arrays.
 pub mod Bounded
 pub mod Lists
 pub mod Digits
+pub mod Frames

@@ -5,7 +5,7 @@ ghost use lib.Dec.{eqb};
 ghost use lib.ListN.{length};
 ghost use lib.Seq.{sets};
 ghost use Rattle.basics.specs.Bounded.{first};
-ghost use Rattle.blocks.specs.Layout.{sideAt, headByte, positions, labels, abstracts, rules, goals, labelCount, headLength, mapByte, mapAt, ruleWidth, ruleAt, leftAt, rightAt, goalAt, blockLength, costOf, relabelHead, relabelledLength};
+ghost use Rattle.blocks.specs.Layout.{sideAt, headByte, positions, labels, abstracts, rules, goals, labelCount, abstractCount, headLength, mapByte, mapAt, ruleWidth, ruleAt, leftAt, rightAt, goalAt, blockLength, costOf, relabelHead, relabelledLength};
 ghost use Rattle.blocks.specs.Validity.{Headed, Sized};
 use super::labels::AbstractLabel;
 use super::labels::ConcreteLabel;
@@ -72,6 +72,14 @@ pub fn label_count(block: &[u8], i: usize) -> usize
     ensures { λ r. ⌜ r ≡ labelCount (now (block .entry)) i ⌝ }
 {
     labels(block)
+}
+
+// How many abstract labels there are at position i.
+pub fn abstract_count(block: &[u8], i: usize) -> usize
+    requires { ⌜ Headed (now block) × (i < positions (now block)) ⌝ }
+    ensures { λ r. ⌜ (r ≡ abstractCount (now (block .entry)) i) × (1 ≤ r) × (r ≤ 16) ⌝ }
+{
+    abstracts(block)
 }
 
 // Byte x of the map.

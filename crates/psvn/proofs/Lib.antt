@@ -1,6 +1,7 @@
 -- The theorems on the language.
--- Matching in words, relabelling, the homomorphism, states that stay states, ranks, runs of rules.
+-- Matching in words, what a side makes, relabelling, the homomorphism, states that stay states, ranks, runs of rules.
 pub mod Matching
+pub mod Making
 pub mod Relabelled
 pub mod Homomorphism
 pub mod Stepping

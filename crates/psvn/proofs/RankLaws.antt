@@ -15,7 +15,7 @@ use Rattle.psvn.specs.Ranks.{rank, unrank, stateRank, unrankState, state
 use Rattle.blocks.proofs.StateLaws.{labelled-length, labelled-at, labelled-below, labelled-digits, digits-labelled}
 
 module _ (b : List ℕ) where
-  states-span : span (abstractCount b) (positions b) ≡ abstractStates b
+  pub states-span : span (abstractCount b) (positions b) ≡ abstractStates b
   unfolding abstractCount abstractStates
   states-span = span-power (abstractCount b) (abstracts b) (λ i. refl) (positions b)
 
@@ -30,7 +30,7 @@ module _ (b : List ℕ) where
     unrank-rank = labelled-digits (positions b) (abstractCount b) u ok
 
   module _ (h : Headed b) where
-    some-abstract : (i : ℕ) → 0 < abstractCount b i
+    pub some-abstract : (i : ℕ) → 0 < abstractCount b i
     unfolding abstractCount
     some-abstract i = h .sizes .k-low
 

@@ -1,0 +1,138 @@
+-- What compiled arrays mean: a rule applies to a word, and what it makes of it, as the language says of the word's state (`applies-word`, `step-word`, `step-small`, `cost-word`),
+-- goals likewise (`meets-word`), and the rank of the relabelled state (`rank-word`). The words of states and of ranks hold those states (`state-word`, `unpack-word-of`).
+-- The layers that search on words rest on these alone.
+use mathlib.Core.Path.{_≡_, refl, sym, ap, ap₂, _∙_}
+use mathlib.Core.Bool.{Bool, true, false}
+use mathlib.Core.List.{List}
+use Prim.Native.Nat.{ℕ, zero, suc, _+_, _-_, _*_, _^_, _≤_, _<_}
+use native.Mathlib.Nat.{mul-assoc, add-mul, mul-one, zero-mul}
+use native.Mathlib.Omega.{arith}
+use lib.Bits.{bitAnd}
+use lib.Dec.{eqb}
+use lib.ListN.{getD}
+use borrow.Author.Tests.{eq-eqb, eqb-true}
+use Rattle.basics.specs.Digits.{valueTo}
+use Rattle.basics.proofs.Truth.{true-false, and-true, and-intro, not-so}
+use Rattle.basics.proofs.Bounded.{some-ext}
+use Rattle.basics.proofs.Lists.{getD-tabulate}
+use Rattle.blocks.specs.Layout.{positions, rules, goals, labelCount, abstractCount, mapAt, costOf, goalOf}
+use Rattle.blocks.specs.Validity.{Headed}
+use Rattle.blocks.specs.States.{stateOk}
+use Rattle.blocks.proofs.StateLaws.{labelled-length, labelled-at, label-below}
+use Rattle.psvn.specs.Rules.{matches, applies, step, goalMet, meets}
+use Rattle.psvn.specs.Relabelling.{relabelState}
+use Rattle.psvn.specs.Ranks.{rank, unrank}
+use Rattle.psvn.proofs.Making.{matches-itself, itself-matches}
+use Rattle.psvn.proofs.RankLaws.{unrank-state}
+use Rattle.words.specs.Packing.{digit, pack, unpack}
+use Rattle.words.specs.Sides.{maskAt, valueAt, goalPlace, rewrittenWord, matchesWord, appliesWord, stepWord, costWord, meetsWord}
+use Rattle.words.specs.Ranking.{rankWord, wordOf, placeValue}
+use Rattle.words.specs.Compiled.{Sided, Compiled}
+use Rattle.words.proofs.WordDigits.{Small, pack-below, unpack-pack, unpack-injective, unpack-length, unpack-at}
+use Rattle.words.proofs.WordRanks.{place-more, place-last}
+
+-- a side of its own: a word matches it as the word's state does
+matches-word :
+    (n : ℕ) (side : ℕ → ℕ) (m v : List ℕ) (x : ℕ) → Sided n side side m v x
+    → (w : ℕ) → w < 16 ^ n → matchesWord m v x w ≡ matches n side (unpack n w)
+unfolding matchesWord
+matches-word n side m v x s w l = go (matches n side (unpack n w)) refl
+  where
+    go : (t : Bool) → matches n side (unpack n w) ≡ t → matchesWord m v x w ≡ matches n side (unpack n w)
+    go true e =
+        let self = matches-itself n side (unpack n w) (unpack-length n w) e in
+        and-intro (eqb (bitAnd w (maskAt m x)) (valueAt m x)) (eqb (rewrittenWord m v x w) w)
+        (eq-eqb _ _ (s .mask w l self))
+        (eq-eqb _ _ (unpack-injective n (rewrittenWord m v x w) w (s .small w l) l (s .makes w l ∙ self)))
+        ∙ sym e
+    go false e =
+        not-so (matchesWord m v x w) (λ q.
+        let same = eqb-true (rewrittenWord m v x w) w (and-true (eqb (bitAnd w (maskAt m x)) (valueAt m x)) _ q .1) in
+        true-false (itself-matches n side (unpack n w) (sym (s .makes w l) ∙ ap (unpack n) same)) e)
+        ∙ sym e
+
+module _ {b m v q : List ℕ} (c : Compiled b m v q) where
+  pub applies-word :
+      (r w : ℕ) → r < rules b → w < 16 ^ positions b → appliesWord m v r w ≡ applies b r (unpack (positions b) w)
+  unfolding applies
+  applies-word r w lr l = matches-word (positions b) _ m v _ (c .rule r lr .left) w l
+
+  pub step-word :
+      (r w : ℕ) → r < rules b → w < 16 ^ positions b → unpack (positions b) (stepWord m v r w) ≡ step b r (unpack (positions b) w)
+  unfolding step
+  step-word r w lr l = c .rule r lr .right .makes w l
+
+  pub step-small : (r w : ℕ) → r < rules b → w < 16 ^ positions b → stepWord m v r w < 16 ^ positions b
+  step-small r w lr l = c .rule r lr .right .small w l
+
+  pub cost-word : (r : ℕ) → r < rules b → costWord m r ≡ costOf b r
+  cost-word r lr = c .rule r lr .cost
+
+  pub meets-word : (w : ℕ) → w < 16 ^ positions b → meetsWord m v (goals b) w ≡ meets b (unpack (positions b) w)
+  unfolding meets goalMet
+  meets-word w l =
+      some-ext (λ g. matchesWord m v (goalPlace g) w) (λ g. matches (positions b) (goalOf b g) (unpack (positions b) w)) (goals b) (λ g lg.
+      matches-word (positions b) (goalOf b g) m v (goalPlace g) (c .goal g lg) w l)
+
+  -- the sum of weights: the number of the labels before position j, times what they count
+  module _ (w : ℕ) (ok : stateOk b (unpack (positions b) w) ≡ true) where
+    label-of : (j : ℕ) → j < positions b → getD (relabelState b (unpack (positions b) w)) j 0 ≡ mapAt b j (digit w j)
+    unfolding relabelState
+    label-of j l =
+        getD-tabulate (positions b) (λ i. mapAt b i (getD (unpack (positions b) w) i 0)) j l
+        ∙ ap (mapAt b j) (unpack-at (positions b) w j l)
+
+    sum-placed :
+        (j : ℕ) → j ≤ positions b
+        → rankWord q j w
+        ≡ valueTo (abstractCount b) (relabelState b (unpack (positions b) w)) j * placeValue (abstractCount b) j (positions b - j)
+    unfolding rankWord
+    sum-placed zero l = sym (zero-mul (placeValue (abstractCount b) 0 (positions b - 0)))
+    sum-placed (suc j) l =
+        let n = positions b in
+        let base = abstractCount b in
+        let u = relabelState b (unpack n w) in
+        let low : digit w j < labelCount b j =
+        omega (arith, labelled-at n (labelCount b) (unpack n w) ok j l, unpack-at n w j l) in
+        let p = placeValue base (suc j) (n - suc j) in
+        ap₂ _+_
+        (sum-placed j (omega arith) ∙ ap (λ (y : ℕ). valueTo base u j * y) (place-more base n j l)
+        ∙ sym (mul-assoc (valueTo base u j) (base j) p))
+        (c .weighted .weight j (digit w j) l low ∙ ap (λ (y : ℕ). y * p) (sym (label-of j l)))
+        ∙ sym (add-mul (valueTo base u j * base j) (getD u j 0) p)
+
+    pub rank-word : rankWord q (positions b) w ≡ rank b (relabelState b (unpack (positions b) w))
+    unfolding rank
+    rank-word =
+        let n = positions b in
+        let value = valueTo (abstractCount b) (relabelState b (unpack n w)) n in
+        sum-placed n (omega arith) ∙ ap (λ (y : ℕ). value * y) (place-last (abstractCount b) n) ∙ mul-one value
+
+-- the words of states and of ranks
+module _ {b : List ℕ} (h : Headed b) where
+  pub state-word : (s : List ℕ) → stateOk b s ≡ true → (unpack (positions b) (pack s) ≡ s) × (pack s < 16 ^ positions b)
+  state-word s ok =
+      let e = labelled-length (positions b) (labelCount b) s ok in
+      let small : Small s = λ k l. label-below b h s ok k (omega arith) in
+      (unpack-pack (positions b) s e small, rw (sym e) (pack-below s small))
+
+  unrank-small : (k : ℕ) → Small (unrank b k)
+  unfolding abstractCount
+  unrank-small k i l =
+      let ok = unrank-state b h k in
+      omega (
+        arith,
+        labelled-at (positions b) (abstractCount b) (unrank b k) ok i (omega (arith, labelled-length (positions b) (abstractCount b) (unrank b k) ok)),
+        h .sizes .k-high,
+        h .sizes .l-high,
+      )
+
+  pub word-of-small : (k : ℕ) → wordOf b k < 16 ^ positions b
+  unfolding wordOf
+  word-of-small k =
+      rw (sym (labelled-length (positions b) (abstractCount b) (unrank b k) (unrank-state b h k))) (pack-below (unrank b k) (unrank-small k))
+
+  pub unpack-word-of : (k : ℕ) → unpack (positions b) (wordOf b k) ≡ unrank b k
+  unfolding wordOf
+  unpack-word-of k =
+      unpack-pack (positions b) (unrank b k) (labelled-length (positions b) (abstractCount b) (unrank b k) (unrank-state b h k)) (unrank-small k)

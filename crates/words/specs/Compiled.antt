@@ -1,0 +1,36 @@
+-- What the arrays say of the block that they are compiled from (`Compiled`): each side makes of every word what the language's side makes of its state.
+-- The parts of compiling leave these; the leaves on words and the layers above them rest on them.
+use mathlib.Core.Path.{_≡_}
+use mathlib.Core.List.{List}
+use Prim.Native.Nat.{ℕ, _+_, _*_, _^_, _≤_, _<_}
+use lib.Bits.{bitAnd}
+use lib.ListN.{getD}
+use Rattle.blocks.specs.Layout.{positions, rules, goals, labelCount, costOf, leftOf, rightOf, goalOf}
+use Rattle.blocks.specs.Validity.{Valid}
+use Rattle.psvn.specs.Rules.{rewritten}
+use Rattle.words.specs.Packing.{unpack}
+use Rattle.words.specs.Sides.{maskAt, valueAt, countAt, rewrittenWord, costWord, leftPlace, rightPlace, goalPlace}
+use Rattle.words.specs.Ranking.{weightOf}
+
+-- the side at place x, under a left side, for words of n labels: what it makes of a word, that a word which it makes itself passes the mask, and a move at most for each position
+pub record Sided (n : ℕ) (left side : ℕ → ℕ) (words moves : List ℕ) (x : ℕ) : Type 0 where
+  pub makes : (w : ℕ) → w < 16 ^ n → unpack n (rewrittenWord words moves x w) ≡ rewritten n left side (unpack n w)
+  pub small : (w : ℕ) → w < 16 ^ n → rewrittenWord words moves x w < 16 ^ n
+  pub mask : (w : ℕ) → w < 16 ^ n → rewritten n left side (unpack n w) ≡ unpack n w → bitAnd w (maskAt words x) ≡ valueAt words x
+  pub few : countAt words x ≤ 16
+
+-- a rule: both its sides, and its cost
+pub record RuleAt (b words moves : List ℕ) (r : ℕ) : Type 0 where
+  pub left : Sided (positions b) (leftOf b r) (leftOf b r) words moves (leftPlace r)
+  pub right : Sided (positions b) (leftOf b r) (rightOf b r) words moves (rightPlace r)
+  pub cost : costWord words r ≡ costOf b r
+
+-- the weight of each label at each position
+pub record Weighted (b weights : List ℕ) : Type 0 where
+  pub weight : (i x : ℕ) → i < positions b → x < labelCount b i → getD weights (16 * i + x) 0 ≡ weightOf b i x
+
+pub record Compiled (b words moves weights : List ℕ) : Type 0 where
+  pub valid : Valid b
+  pub rule : (r : ℕ) → r < rules b → RuleAt b words moves r
+  pub goal : (g : ℕ) → g < goals b → Sided (positions b) (goalOf b g) (goalOf b g) words moves (goalPlace g)
+  pub weighted : Weighted b weights

@@ -1,0 +1,67 @@
+-- What the parts of compiling leave in the arrays: a side begun (`Begun`), a side, a rule, all rules, all goals and weights placed, and what else is kept.
+-- The functions that compile a block are stated with these; together they make the arrays `Compiled`.
+use mathlib.Core.Path.{_≡_}
+use mathlib.Core.List.{List}
+use Prim.Native.Nat.{ℕ, zero, suc, _+_, _*_, _^_, _≤_, _<_}
+use lib.Bits.{bitAnd, bitOr}
+use lib.ListN.{length, getD}
+use Rattle.basics.specs.Frames.{Outside}
+use Rattle.blocks.specs.Terms.{termOf}
+use Rattle.blocks.specs.Layout.{positions, rules, goals, labelCount, mapAt, goalOf}
+use Rattle.psvn.specs.Rules.{given}
+use Rattle.words.specs.Packing.{digit, unpack}
+use Rattle.words.specs.Sides.{moved, goalPlace}
+use Rattle.words.specs.Compiled.{Sided, RuleAt}
+use Rattle.words.specs.declared.compiling.Side.{Side}
+
+-- the labels that the first j moves at place x write
+unfoldable pub movedTo : List ℕ → ℕ → ℕ → ℕ → ℕ
+movedTo moves x w zero = 0
+movedTo moves x w (suc j) =
+    bitOr (movedTo moves x w j) (moved w (getD moves (32 * x + 2 * j) 0) (getD moves (32 * x + 2 * j + 1) 0))
+
+-- what a side on the way makes of a word
+unfoldable pub madeBy : Side → List ℕ → ℕ → ℕ → ℕ
+madeBy s moves x w = bitOr (bitOr (bitAnd w (s .keep)) (s .value)) (movedTo moves x w (s .count))
+
+-- a side whose first i positions are compiled: what it makes there, what passes its mask there, and nothing from there on
+pub record Begun (n : ℕ) (left side : ℕ → ℕ) (s : Side) (moves : List ℕ) (x i : ℕ) : Type 0 where
+  pub makes : (w k : ℕ) → k < i → digit (madeBy s moves x w) k ≡ given n left (unpack n w) k (termOf (side k))
+  pub passes :
+      (w k : ℕ) → k < i → digit w k ≡ given n left (unpack n w) k (termOf (side k))
+      → bitAnd (digit w k) (digit (s .mask) k) ≡ digit (s .value) k
+  pub small-mask : s .mask < 16 ^ i
+  pub small-value : s .value < 16 ^ i
+  pub small-keep : s .keep < 16 ^ i
+  pub small-moves : (w : ℕ) → movedTo moves x w (s .count) < 16 ^ i
+  pub few : s .count ≤ i
+
+-- a side at place x
+pub record SidePlaced (n : ℕ) (left side : ℕ → ℕ) (x : ℕ) (words₀ moves₀ words₁ moves₁ : List ℕ) : Type 0 where
+  pub sided : Sided n left side words₁ moves₁ x
+  pub words : Outside (4 * x) (4 * x + 4) words₀ words₁
+  pub moves : Outside (32 * x) (32 * x + 32) moves₀ moves₁
+
+-- rule r; the rules before it stay
+pub record RulePlaced (b : List ℕ) (r : ℕ) (words₀ moves₀ words₁ moves₁ : List ℕ) : Type 0 where
+  pub rule : RuleAt b words₁ moves₁ r
+  pub others : (k : ℕ) → k < r → RuleAt b words₀ moves₀ k → RuleAt b words₁ moves₁ k
+  pub words : length words₁ ≡ length words₀
+  pub moves : length moves₁ ≡ length moves₀
+
+-- all rules
+pub record RulesPlaced (b words₀ moves₀ words₁ moves₁ : List ℕ) : Type 0 where
+  pub rule : (r : ℕ) → r < rules b → RuleAt b words₁ moves₁ r
+  pub words : length words₁ ≡ length words₀
+  pub moves : length moves₁ ≡ length moves₀
+
+-- all goals; what stands at other places stays
+pub record GoalsPlaced (b words₀ moves₀ words₁ moves₁ : List ℕ) : Type 0 where
+  pub goal : (g : ℕ) → g < goals b → Sided (positions b) (goalOf b g) (goalOf b g) words₁ moves₁ (goalPlace g)
+  pub words : Outside 512 544 words₀ words₁
+  pub moves : Outside 4096 4352 moves₀ moves₁
+
+-- the weights of the labels at position i, where an abstract label counts p
+pub record RowPlaced (b : List ℕ) (i p : ℕ) (weights₀ weights₁ : List ℕ) : Type 0 where
+  pub weight : (x : ℕ) → x < labelCount b i → getD weights₁ (16 * i + x) 0 ≡ mapAt b i x * p
+  pub weights : Outside (16 * i) (16 * i + 16) weights₀ weights₁

@@ -1,0 +1,43 @@
+// A state as one word: its labels are digits in base 16, position 0 lowest.
+ghost use mathlib.Core.Path.{_≡_};
+ghost use Prim.Native.Nat.{ℕ, _≤_, _<_};
+ghost use lib.ListN.{length, getD};
+ghost use Rattle.words.specs.Packing as packing;
+use blocks::labels::ConcreteLabel;
+
+// The digit at position i.
+pub fn digit(word: u64, i: usize) -> u64
+    requires { ⌜ i < 16 ⌝ }
+    ensures { λ r. ⌜ (r ≡ packing.digit word i) × (r < 16) ⌝ }
+{
+    (word >> (4 * i)) % 16
+}
+
+// The label at position i.
+pub fn label_at(word: u64, i: usize) -> ConcreteLabel
+    requires { ⌜ i < 16 ⌝ }
+    ensures { λ r. ⌜ (r .0 ≡ packing.digit word i) × (r .0 < 16) ⌝ }
+{
+    ConcreteLabel(digit(word, i) as u8)
+}
+
+// The word of a state.
+pub fn pack(state: &[u8]) -> u64
+    requires { ⌜ (length (now state) ≤ 16) × ((i : ℕ) → i < length (now state) → getD (now state) i 0 < 16) ⌝ }
+    ensures { λ r. ⌜ r ≡ packing.pack (now (state .entry)) ⌝ }
+{
+    let mut word: u64 = 0;
+    let mut i = state.len();
+    while i > 0 {
+        i -= 1;
+        word = word * 16 + wide(state[i]);
+    }
+    word
+}
+
+// A byte as a word.
+fn wide(byte: u8) -> u64
+    ensures { λ r. ⌜ r ≡ byte ⌝ }
+{
+    byte as u64
+}

@@ -1,0 +1,58 @@
+// Ranks of abstract states, by words: the sum of what each position's label adds, and the word of a rank.
+ghost use mathlib.Core.Path.{_≡_};
+ghost use Prim.Native.Nat.{_+_, _*_, _≤_, _<_};
+ghost use lib.ListN.{getD};
+ghost use Rattle.blocks.specs.Layout.{abstractStates};
+ghost use Rattle.blocks.specs.Validity.{Headed};
+ghost use Rattle.words.specs.Ranking.{rankWord, wordOf};
+use blocks::labels::ConcreteLabel;
+use blocks::layout;
+
+// What a label adds to the rank at position i: the map has made it an abstract label, and that one's weight is stored.
+fn weight(weights: &[u16; 256], i: usize, label: ConcreteLabel) -> usize
+    requires { ⌜ (i < 16) × (label .0 < 16) ⌝ }
+    ensures { λ r. ⌜ (r ≡ getD (now (weights .entry)) (16 * i + label .0) 0) × (r ≤ 65535) ⌝ }
+{
+    wide(weights[16 * i + label.0 as usize])
+}
+
+// A weight as an index.
+fn wide(weight: u16) -> usize
+    ensures { λ r. ⌜ (r ≡ weight) × (r ≤ 65535) ⌝ }
+{
+    weight as usize
+}
+
+// The rank of the relabelled state of a word of n labels.
+pub fn rank_word(weights: &[u16; 256], n: usize, word: u64) -> usize
+    requires { ⌜ n ≤ 16 ⌝ }
+    ensures { λ r. ⌜ r ≡ rankWord (now (weights .entry)) n word ⌝ }
+{
+    let mut rank: usize = 0;
+    let mut rest = word;
+    let mut i: usize = 0;
+    while i < n {
+        let label = ConcreteLabel((rest % 16) as u8);
+        rank += weight(weights, i, label);
+        rest = rest / 16;
+        i += 1;
+    }
+    rank
+}
+
+// The word of the abstract state of rank k.
+pub fn word_of(block: &[u8], k: usize) -> u64
+    requires { ⌜ Headed (now block) × (k < abstractStates (now block)) ⌝ }
+    ensures { λ r. ⌜ r ≡ wordOf (now (block .entry)) k ⌝ }
+{
+    let mut word: u64 = 0;
+    let mut rest = k;
+    let mut i = layout::positions(block);
+    while i > 0 {
+        i -= 1;
+        let base = layout::abstract_count(block, i);
+        word = word * 16 + (rest % base) as u64;
+        rest = rest / base;
+    }
+    word
+}

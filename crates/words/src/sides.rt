@@ -1,0 +1,79 @@
+// Matching and applying on words. A side stands at a place of two arrays: the mask and the value of its constants, the mask of the positions
+// that keep their label, the number of its moves, and the moves, each a position to read and a position to write.
+ghost use mathlib.Core.Path.{_≡_};
+ghost use Prim.Native.Nat.{_≤_, _<_};
+ghost use Rattle.words.specs.Sides.{moved, rewrittenWord, matchesWord, appliesWord, stepWord, meetsWord, costWord};
+use super::packing::digit;
+
+// The label read at `from`, at the position `to`.
+fn move_label(word: u64, from: u8, to: u8) -> u64
+    ensures { λ r. ⌜ r ≡ moved word from to ⌝ }
+{
+    digit(word, (from % 16) as usize) << (4 * ((to % 16) as usize))
+}
+
+// What the side at place x makes of a word.
+pub fn rewritten_word(words: &[u64; 608], moves: &[u8; 4384], x: usize, word: u64) -> u64
+    requires { ⌜ x < 136 ⌝ }
+    ensures { λ r. ⌜ r ≡ rewrittenWord (now (words .entry)) (now (moves .entry)) x word ⌝ }
+{
+    let mut made = (word & words[4 * x + 2]) | words[4 * x + 1];
+    let count = (words[4 * x + 3] % 32) as usize;
+    let at = 32 * x;
+    let mut j: usize = 0;
+    while j < count {
+        made = made | move_label(word, moves[at + 2 * j], moves[at + 2 * j + 1]);
+        j += 1;
+    }
+    made
+}
+
+// Whether a word matches the side at place x. Most fail on a constant, which one comparison tells.
+pub fn matches_word(words: &[u64; 608], moves: &[u8; 4384], x: usize, word: u64) -> bool
+    requires { ⌜ x < 136 ⌝ }
+    ensures { λ r. ⌜ r ≡ matchesWord (now (words .entry)) (now (moves .entry)) x word ⌝ }
+{
+    if word & words[4 * x] != words[4 * x + 1] {
+        return false;
+    }
+    rewritten_word(words, moves, x, word) == word
+}
+
+// Whether rule r applies to a word.
+pub fn applies_word(words: &[u64; 608], moves: &[u8; 4384], r: usize, word: u64) -> bool
+    requires { ⌜ r < 64 ⌝ }
+    ensures { λ answer. ⌜ answer ≡ appliesWord (now (words .entry)) (now (moves .entry)) r word ⌝ }
+{
+    matches_word(words, moves, 2 * r, word)
+}
+
+// The word that rule r makes of a word.
+pub fn step_word(words: &[u64; 608], moves: &[u8; 4384], r: usize, word: u64) -> u64
+    requires { ⌜ r < 64 ⌝ }
+    ensures { λ made. ⌜ made ≡ stepWord (now (words .entry)) (now (moves .entry)) r word ⌝ }
+{
+    rewritten_word(words, moves, 2 * r + 1, word)
+}
+
+// The cost of rule r.
+pub fn cost_word(words: &[u64; 608], r: usize) -> u64
+    requires { ⌜ r < 64 ⌝ }
+    ensures { λ c. ⌜ (c ≡ costWord (now (words .entry)) r) × (c ≤ 255) ⌝ }
+{
+    words[544 + r] % 256
+}
+
+// Whether a word meets one of the goals.
+pub fn meets_word(words: &[u64; 608], moves: &[u8; 4384], goals: usize, word: u64) -> bool
+    requires { ⌜ goals ≤ 8 ⌝ }
+    ensures { λ answer. ⌜ answer ≡ meetsWord (now (words .entry)) (now (moves .entry)) goals word ⌝ }
+{
+    let mut g: usize = 0;
+    while g < goals {
+        if matches_word(words, moves, 128 + g, word) {
+            return true;
+        }
+        g += 1;
+    }
+    false
+}
