@@ -1,10 +1,11 @@
--- Digits and numbers: digits below their bases make a number below `span`, and the number of digits and the digits of a number undo one another.
+-- Digits and numbers: digits below their bases make a number below `span`, no less than that of the first of them (`value-grows`), and the number of digits and the
+-- digits of a number undo one another.
 -- Ranks of states rest on these.
 use mathlib.Core.Path.{_≡_, refl, sym, ap, ap₂, _∙_}
 use mathlib.Core.Logic.{⊎-elim}
 use mathlib.Core.List.{List, [], _∷_, _++_}
 use Prim.Native.Nat.{ℕ, zero, suc, _+_, _*_, _/_, _%_, _^_, _≤_, _<_}
-use native.Mathlib.Nat.{eq-or-lt-of-le, le-of-suc-le-suc, not-suc-le-zero, add-zero, mul-add-div-right, div-eq-of-lt, mul-add-mod-self-right, mod-eq-of-lt, mod-lt, mul-le-mul-right, suc-mul, pow-zero, pow-suc, div-lt-iff-lt-mul, div-add-mod'}
+use native.Mathlib.Nat.{eq-or-lt-of-le, le-of-suc-le-suc, not-suc-le-zero, add-zero, mul-add-div-right, div-eq-of-lt, mul-add-mod-self-right, mod-eq-of-lt, mod-lt, mul-le-mul-right, le-mul-of-pos-right, suc-mul, pow-zero, pow-suc, div-lt-iff-lt-mul, div-add-mod'}
 use native.Mathlib.Omega.{arith}
 use lib.ListN.{length, getD, take, length-append, List·getD-append}
 use lib.Seq.{getD-at, take-suc, take-all}
@@ -19,6 +20,16 @@ module _ (base : ℕ → ℕ) where
   value-below s (suc n) h =
       let l = mul-le-mul-right (base n) (value-below s n (λ i l. h i (omega arith))) in
       omega (arith, suc-mul (valueTo base s n) (base n), h n (omega arith))
+
+  -- the first digits alone write no greater number
+  pub value-grows : (s : List ℕ) (i n : ℕ) → i ≤ n → ((j : ℕ) → j < n → getD s j 0 < base j) → valueTo base s i ≤ valueTo base s n
+  value-grows s i zero l h = let e : i ≡ 0 = omega arith in rw e (omega arith)
+  value-grows s i (suc n) l h =
+      ⊎-elim (λ e. rw e (omega arith))
+      (λ k.
+      let d = h n (omega arith) in
+      omega (arith, value-grows s i n (le-of-suc-le-suc k) (λ j l. h j (omega arith)), le-mul-of-pos-right {m = base n} (valueTo base s n) (omega arith)))
+      (eq-or-lt-of-le l)
 
   -- a number goes by its n digits alone
   pub value-ext : (s t : List ℕ) (n : ℕ) → ((i : ℕ) → i < n → getD s i 0 ≡ getD t i 0) → valueTo base s n ≡ valueTo base t n

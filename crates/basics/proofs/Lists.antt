@@ -8,7 +8,8 @@ use native.Mathlib.Nat.{eq-or-lt-of-le, le-of-suc-le-suc, not-suc-le-zero, add-z
 use native.Mathlib.Omega.{arith}
 use native.Mathlib.Numerals.{add-one}
 use lib.ListN.{length, getD, set, take, drop, length-append, List·getD-append, drop-of-length-le}
-use lib.Seq.{ext-getD, getD-append-add, take-length, sets, sets-eq}
+use lib.Seq.{ext-getD, getD-append-add, getD-set-same, getD-set-other, take-length, take-at, sets, sets-eq}
+use borrow.Author.Count.{below-more}
 use Rattle.basics.specs.Lists.{tabulateFrom, tabulate, joined, atFront}
 
 length-from : (n i : ℕ) (f : ℕ → ℕ) → length (tabulateFrom i n f) ≡ n
@@ -85,6 +86,14 @@ pub joined-ext : (f g : ℕ → List ℕ) (n : ℕ) → ((r : ℕ) → r < n →
 joined-ext f g zero h = refl
 joined-ext f g (suc n) h = ap₂ _++_ (joined-ext f g n (λ r l. h r (omega arith))) (h n (omega arith))
 
+-- a loop stores the values of f from the front on: one element more
+pub set-more :
+    (f : ℕ → ℕ) (l : List ℕ) (i x : ℕ) → ((k : ℕ) → k < i → getD l k 0 ≡ f k) → i < length l → x ≡ f i
+    → (k : ℕ) → k < i + 1 → getD (set l i x) k 0 ≡ f k
+set-more f l i x h b e =
+    below-more (λ k. getD (set l i x) k 0 ≡ f k) i (λ k m. getD-set-other l i k x 0 (λ q. omega arith) ∙ h k m)
+    (getD-set-same l i x 0 b ∙ e)
+
 -- stores one after the other are one run of stores
 pub sets-append : (l : List ℕ) (i : ℕ) (a b : List ℕ) → sets (sets l i a) (i + length a) b ≡ sets l i (a ++ b)
 sets-append l i [] b = ap (λ (k : ℕ). sets l k b) (add-zero i)
@@ -116,6 +125,10 @@ sets-front l new h =
 -- a list at the front of one that is no longer
 pub front-whole : (new old : List ℕ) → length old ≤ length new → atFront new old ≡ new
 front-whole new old h = ap (λ (l : List ℕ). new ++ l) (drop-of-length-le old h) ∙ append-nil new
+
+-- what is read back of a list at the front
+pub front-taken : (new old : List ℕ) (n : ℕ) → n ≡ length new → take n (atFront new old) ≡ new
+front-taken new old n e = take-at new (drop (length new) old) n (sym e)
 
 -- what is written where all elements of a list are copied
 pub copied-whole : (s l : List ℕ) → atFront (take (length s) s) l ≡ atFront s l

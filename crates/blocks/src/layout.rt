@@ -5,7 +5,7 @@ ghost use lib.Dec.{eqb};
 ghost use lib.ListN.{length};
 ghost use lib.Seq.{sets};
 ghost use Rattle.basics.specs.Bounded.{first};
-ghost use Rattle.blocks.specs.Layout.{sideAt, headByte, positions, labels, abstracts, rules, goals, labelCount, abstractCount, headLength, mapByte, mapAt, ruleWidth, ruleAt, leftAt, rightAt, goalAt, blockLength, costOf, relabelHead, relabelledLength};
+ghost use Rattle.blocks.specs.Layout.{sideAt, headByte, positions, labels, abstracts, rules, goals, labelCount, abstractCount, abstractStates, headLength, mapByte, mapAt, ruleWidth, ruleAt, leftAt, rightAt, goalAt, blockLength, costOf, relabelHead, relabelledLength};
 ghost use Rattle.blocks.specs.Validity.{Headed, Sized};
 use super::labels::AbstractLabel;
 use super::labels::ConcreteLabel;
@@ -80,6 +80,22 @@ pub fn abstract_count(block: &[u8], i: usize) -> usize
     ensures { λ r. ⌜ (r ≡ abstractCount (now (block .entry)) i) × (1 ≤ r) × (r ≤ 16) ⌝ }
 {
     abstracts(block)
+}
+
+// How many abstract states there are: K to the power n.
+pub fn abstract_states(block: &[u8]) -> usize
+    requires { ⌜ Headed (now block) ⌝ }
+    ensures { λ r. ⌜ (r ≡ abstractStates (now (block .entry))) × (r ≤ 16384) ⌝ }
+{
+    let n = positions(block);
+    let k = abstracts(block);
+    let mut power: usize = 1;
+    let mut i: usize = 0;
+    while i < n {
+        power = power * k;
+        i += 1;
+    }
+    power
 }
 
 // Byte x of the map.

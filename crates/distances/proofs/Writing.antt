@@ -11,7 +11,6 @@ use lib.Dec.{ltb}
 use lib.ListN.{length, getD, set, length-set}
 use lib.Seq.{getD-set-same, getD-set-other}
 use borrow.Author.Tests.{lt-ltb, le-ltb}
-use borrow.Author.Count.{below-more}
 use Rattle.basics.proofs.Order.{below?, same?}
 use Rattle.distances.specs.Graphs.{Graph, mark, Achieved}
 use Rattle.distances.specs.Filling.{Cheap, unmarked, total, Good}
@@ -126,14 +125,6 @@ module _
 -- The table before the first write, its entries below u: 0 at the goals, the mark elsewhere.
 abbrev pub Cleared : Graph → List ℕ → ℕ → Type 0
 Cleared g t u = (w : ℕ) → w < u → getD t w 0 ≡ cond (g .goal w) 0 mark
-
-pub clear-more :
-    (g : Graph) (t : List ℕ) (u x : ℕ)
-    → Cleared g t u → u < length t → x ≡ cond (g .goal u) 0 mark → Cleared g (set t u x) (u + 1)
-clear-more g t u x c l e =
-    below-more (λ w. getD (set t u x) w 0 ≡ cond (g .goal w) 0 mark) u
-    (λ w h. getD-set-other t u w x 0 (λ q. omega arith) ∙ c w h)
-    (getD-set-same t u x 0 l ∙ e)
 
 pub good-clear : (g : Graph) (t : List ℕ) → length t ≡ g .states → Cleared g t (g .states) → Good g t
 good-clear g t l c =

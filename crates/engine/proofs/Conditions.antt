@@ -1,4 +1,4 @@
--- What an accepting verdict on a call's conditions says: `state-accepted`, `apply-accepted`, `step-back-accepted`, `replay-accepted`;
+-- What an accepting verdict on a call's conditions says: `state-accepted`, `apply-accepted`, `step-back-accepted`, `replay-accepted`, `table-accepted`;
 -- and that stepping back from 'first' is refused as applying the rule is (`first-conditions`). The calls rest on these once they have refused what is to be refused.
 use mathlib.Core.Path.{_≡_}
 use mathlib.Core.Bool.{true}
@@ -9,7 +9,7 @@ use lib.ListN.{length}
 use borrow.Author.Tests.{leb-true, ltb-true}
 use Rattle.refusals.specs.Answers.{told, verdict, _unless_}
 use Rattle.refusals.proofs.Verdicts.{verdict-told, verdict-parts, verdict-skip}
-use Rattle.blocks.specs.Layout.{positions, rules}
+use Rattle.blocks.specs.Layout.{positions, rules, abstractStates}
 use Rattle.blocks.specs.Validity.{blockConditions, Valid}
 use Rattle.blocks.specs.States.{stateOk}
 use Rattle.blocks.proofs.Accepted.{accepted-valid}
@@ -19,6 +19,7 @@ use Rattle.runs.specs.Replay.{numbersOk, longestList}
 use Rattle.engine.specs.Applying.{applyConditions}
 use Rattle.engine.specs.Predecessors.{earlierOk, stepBackConditions}
 use Rattle.engine.specs.Replaying.{replayConditions}
+use Rattle.engine.specs.TableCalls.{tableConditions}
 
 module _ (b s : List ℕ) where
   pub record StateAccepted : Type 0 where
@@ -107,3 +108,17 @@ module _ (b s : List ℕ) where
           short = leb-true (length rs) longestList (p₁₀ .0);
           room-left = leb-true (positions b) room (verdict-told 11 (leb (positions b) room) [] (p₁₀ .1) .0);
         }
+
+module _ (b : List ℕ) (room : ℕ) where
+  pub record TableAccepted : Type 0 where
+    pub valid : Valid b
+    pub room-left : abstractStates b ≤ room
+
+  pub table-accepted : verdict (tableConditions b room) ≡ told tt → TableAccepted
+  unfolding tableConditions
+  table-accepted h =
+      let p = verdict-parts (blockConditions b) (12 unless leb (abstractStates b) room ∷ []) h in
+      record {
+        valid = accepted-valid b (p .0);
+        room-left = leb-true (abstractStates b) room (verdict-told 12 (leb (abstractStates b) room) [] (p .1) .0);
+      }

@@ -7,3 +7,5 @@ pub mod Relabelling
 pub mod Predecessors
 pub mod Reversing
 pub mod Replaying
+pub mod Estimating
+pub mod TableCalls

@@ -1,15 +1,19 @@
 // The public calls. Each asks nothing of its caller: it refuses first, with the number and in the order of document 01, and then calls the layer below.
 mod applying;
 mod checking;
+mod estimating;
 mod goals;
 mod predecessors;
 mod relabelling;
 mod replaying;
 mod reversing;
+mod table_calls;
 
 pub use applying::Application;
 pub use applying::apply_rule;
 pub use checking::check_block;
+pub use estimating::Estimate;
+pub use estimating::look_up_estimate;
 pub use goals::GoalTest;
 pub use goals::test_goals;
 pub use predecessors::Predecessor;
@@ -21,3 +25,7 @@ pub use replaying::Replay;
 pub use replaying::replay_run;
 pub use reversing::Reversibility;
 pub use reversing::test_reversible;
+pub use table_calls::Filling;
+pub use table_calls::TableTest;
+pub use table_calls::fill_table;
+pub use table_calls::test_table;

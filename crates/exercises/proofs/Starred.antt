@@ -1,18 +1,31 @@
 -- The starred exercises, proved together: `starred`.
--- antt computes what can be computed from the definitions, which `computing` opens; that there is no other predecessor follows from the rule's form.
-use mathlib.Core.Path.{_≡_, refl, ap}
+-- antt computes what can be computed from the definitions, which `computing` opens; that there is no other predecessor follows from the rule's form, and that
+-- no list costs less than input E's table says from the certificate.
+use mathlib.Core.Path.{_≡_, refl, sym, ap}
 use mathlib.Core.Bool.{true, false}
 use mathlib.Core.List.{List, [], _∷_}
 use Prim.Native.Nat.{ℕ, _≤_, _<_}
 use native.Mathlib.Omega.{arith}
 use lib.Dec.{lit<, lit≤}
+use lib.ListN.{getD}
 use Rattle.basics.proofs.Truth.{true-false}
 use Rattle.refusals.specs.Answers.{told, outcome}
-use Rattle.blocks.specs.Layout.{labels, rules, headByte, labelCount, abstractStates, mapByte, ruleWidth, ruleAt, leftAt, rightAt, goalAt, blockLength}
+use Rattle.blocks.specs.Layout.{labels, rules, headByte, labelCount, abstractCount, abstractStates, mapByte, mapAt, ruleWidth, ruleAt, leftAt, rightAt, goalAt, blockLength, costOf, relabelHead}
 use Rattle.blocks.specs.Validity.{sizesOk, headOk, lengthOk, mapOk, sideOk, ruleTermsOk, goalTermsOk, termsOk, ruleBound, boundOk, blockConditions, Valid}
 use Rattle.blocks.specs.States.{labelled, stateOk}
 use Rattle.blocks.proofs.Accepted.{accepted-valid}
-use Rattle.psvn.specs.Rules.{bound, matches, rewritten, applies, step, leads}
+use Rattle.psvn.specs.Rules.{bound, matches, rewritten, applies, step, leads, goalMet, meets}
+use Rattle.psvn.specs.Relabelling.{relabelSide, relabelRule, relabelGoal, relabelBlock}
+use Rattle.psvn.specs.Ranks.{rank, unrank}
+use Rattle.psvn.proofs.RankLaws.{unrank-state, rank-unrank}
+use Rattle.distances.specs.Graphs.{LeastTable}
+use Rattle.distances.specs.LowerBounds.{passesAt, passes}
+use Rattle.distances.specs.LeastCosts.{leastBy, leastWithin, leastCosts}
+use Rattle.distances.specs.Certificates.{certifies}
+use Rattle.distances.proofs.Certificate.{certified}
+use Rattle.tables.specs.Abstraction.{stepRank, graphOf}
+use Rattle.tables.specs.Tables.{entry, passesTest, filled, LeastCost}
+use Rattle.tables.proofs.Promises.{zeros-pass-test, least-entry}
 use Rattle.backward.specs.Predecessors.{Predecessor, from-first, after, found, none-further, isFound, writtenOut, stepBack}
 use Rattle.backward.specs.Reversible.{reversible}
 use Rattle.backward.proofs.NextState.{next-found, none-found}
@@ -21,11 +34,12 @@ use Rattle.engine.specs.Checking.{stateConditions}
 use Rattle.engine.specs.Applying.{applyConditions, applyRule}
 use Rattle.engine.specs.Predecessors.{stepBackConditions, stepBackFrom}
 use Rattle.engine.specs.Reversing.{reversibleConditions, testReversible}
-use Rattle.exercises.specs.Starred.{Starred, exampleBlock, exampleState, exampleImage, pairBlock}
+use Rattle.engine.specs.TableCalls.{tableConditions, fillTable, testTable}
+use Rattle.exercises.specs.Starred.{Starred, exampleBlock, exampleState, exampleImage, pairBlock, inputE, tableE}
 
 -- what the definitions are opened for
 computing : Unit {0}
-unfolding exampleBlock exampleState exampleImage pairBlock headByte labelCount abstractStates mapByte ruleWidth ruleAt leftAt rightAt goalAt blockLength sizesOk headOk lengthOk mapOk sideOk ruleTermsOk goalTermsOk termsOk ruleBound boundOk blockConditions labelled bound matches rewritten applies step leads stateConditions applyConditions applyRule stepBackConditions reversible reversibleConditions testReversible
+unfolding exampleBlock exampleState exampleImage pairBlock inputE tableE headByte labelCount abstractCount abstractStates mapByte mapAt costOf relabelHead ruleWidth ruleAt leftAt rightAt goalAt blockLength sizesOk headOk lengthOk mapOk sideOk ruleTermsOk goalTermsOk termsOk ruleBound boundOk blockConditions labelled bound matches rewritten applies step leads stateConditions applyConditions applyRule stepBackConditions reversible reversibleConditions testReversible goalMet meets relabelSide relabelRule relabelGoal relabelBlock rank unrank stepRank passesAt passes certifies passesTest leastBy leastWithin leastCosts filled tableConditions fillTable testTable
 computing = tt
 
 -- the example block, its rule, and the two states
@@ -98,6 +112,24 @@ unfolding computing stepBackFrom
 step-back-none =
     ap (λ (next : Predecessor). outcome (told (isFound next)) (writtenOut next (9 ∷ 9 ∷ 9 ∷ 9 ∷ 9 ∷ 9 ∷ 9 ∷ []))) example-none
 
+-- the table of input E
+e-valid : Valid inputE
+e-valid = accepted-valid inputE (unfold computing in refl)
+
+e-least : LeastTable (graphOf (relabelBlock inputE)) tableE
+e-least = certified (graphOf (relabelBlock inputE)) tableE (unfold computing in refl)
+
+e-states : abstractStates inputE ≡ 8
+unfolding computing
+e-states = refl
+
+e-entry : (k : ℕ) → k < 8 → LeastCost (relabelBlock inputE) (unrank inputE k) (getD tableE k 0)
+unfolding entry
+e-entry k l =
+    let h = e-valid .sized .head in
+    rw (sym (ap (λ (i : ℕ). getD tableE i 0) (rank-unrank inputE h k (omega (arith, e-states)))))
+    (least-entry inputE e-valid tableE e-least (unrank inputE k) (unrank-state inputE h k))
+
 pub starred : Starred
 unfolding computing
 starred =
@@ -110,4 +142,9 @@ starred =
       pair-one-to-one = reversible-one pairBlock 0 pair-form;
       pair-not-reversible = refl;
       pair-not-one-to-one = λ one. true-false (reversible-exactly pairBlock 1 pair-valid pair-rule pair-labels .1 one) pair-no-form;
+      table-filled = refl;
+      table-least = e-entry;
+      table-passes = refl;
+      zeros-pass = refl;
+      zeros-always-pass = zeros-pass-test;
     }

@@ -1,17 +1,25 @@
 -- The starred exercises of document 01, as one list of statements on the definitions: `Starred`.
 -- They are proved together in proofs/Starred.antt.
 use mathlib.Core.Path.{_≡_}
-use Prim.Native.Nat.{ℕ}
+use Prim.Native.Nat.{ℕ, _<_}
 use mathlib.Core.Bool.{true, false}
 use mathlib.Core.List.{List, [], _∷_}
+use lib.ListN.{getD}
 use Rattle.refusals.specs.Answers.{told, outcome}
+use Rattle.blocks.specs.Layout.{abstractStates}
+use Rattle.blocks.specs.Validity.{Valid}
 use Rattle.blocks.specs.States.{stateOk}
 use Rattle.psvn.specs.Rules.{applies, step}
+use Rattle.psvn.specs.Relabelling.{relabelBlock}
+use Rattle.psvn.specs.Ranks.{unrank}
+use Rattle.distances.specs.Graphs.{mark}
+use Rattle.tables.specs.Tables.{passesTest, LeastCost}
 use Rattle.backward.specs.Predecessors.{from-first, after}
 use Rattle.backward.specs.Reversible.{OneToOne}
 use Rattle.engine.specs.Applying.{done, applyRule}
 use Rattle.engine.specs.Predecessors.{stepBackFrom}
 use Rattle.engine.specs.Reversing.{testReversible}
+use Rattle.engine.specs.TableCalls.{fillTable, testTable}
 
 -- one rule, <A,A,1,-,B,C> to <2,-,-,-,C,B>, over eight labels; the map sends all labels to one, and every state is a goal
 unfoldable pub exampleBlock : List ℕ
@@ -37,6 +45,22 @@ pairBlock =
     1 ∷ 16 ∷ 16 ∷ 255 ∷ 255 ∷ 255 ∷ 255 ∷ 16 ∷ 255 ∷
     255 ∷ 255 ∷ 255 ∷ 255 ∷ []
 
+-- input E's block, a line of the document's text a line, and its table
+unfoldable pub inputE : List ℕ
+inputE =
+    3 ∷ 3 ∷ 2 ∷ 6 ∷ 1 ∷
+    0 ∷ 1 ∷ 1 ∷
+    1 ∷ 16 ∷ 0 ∷ 255 ∷ 0 ∷ 16 ∷ 255 ∷
+    1 ∷ 0 ∷ 16 ∷ 255 ∷ 16 ∷ 0 ∷ 255 ∷
+    1 ∷ 255 ∷ 16 ∷ 0 ∷ 255 ∷ 0 ∷ 16 ∷
+    1 ∷ 255 ∷ 0 ∷ 16 ∷ 255 ∷ 16 ∷ 0 ∷
+    3 ∷ 16 ∷ 255 ∷ 0 ∷ 0 ∷ 255 ∷ 16 ∷
+    3 ∷ 0 ∷ 255 ∷ 16 ∷ 16 ∷ 255 ∷ 0 ∷
+    2 ∷ 1 ∷ 0 ∷ []
+
+unfoldable pub tableE : List ℕ
+tableE = mark ∷ mark ∷ mark ∷ 2 ∷ mark ∷ 1 ∷ 0 ∷ mark ∷ []
+
 pub record Starred : Type 0 where
   -- the example rule takes <4,4,1,7,5,6> to <2,4,1,7,6,5>, written at the front of the buffer
   pub example-step :
@@ -58,3 +82,14 @@ pub record Starred : Type 0 where
   -- <A,A,-,-> to <-,-,A,-> is not
   pub pair-not-reversible : testReversible pairBlock 1 ≡ told false
   pub pair-not-one-to-one : OneToOne pairBlock 1 → ⊥
+  -- the table of input E: filling writes it, and leaves what stands behind it
+  pub table-filled :
+      fillTable inputE (7 ∷ 7 ∷ 7 ∷ 7 ∷ 7 ∷ 7 ∷ 7 ∷ 7 ∷ 7 ∷ 8 ∷ [])
+      ≡ outcome (told tt) (mark ∷ mark ∷ mark ∷ 2 ∷ mark ∷ 1 ∷ 0 ∷ mark ∷ 7 ∷ 8 ∷ [])
+  -- each entry is the least total cost of a list of relabelled rules from its state to a relabelled goal, or the mark and there is none
+  pub table-least : (k : ℕ) → k < 8 → LeastCost (relabelBlock inputE) (unrank inputE k) (getD tableE k 0)
+  pub table-passes : testTable inputE tableE ≡ told true
+  -- the table of zeros passes, of input E and of every exercise
+  pub zeros-pass : testTable inputE (0 ∷ 0 ∷ 0 ∷ 0 ∷ 0 ∷ 0 ∷ 0 ∷ 0 ∷ []) ≡ told true
+  pub zeros-always-pass :
+      (b : List ℕ) → Valid b → (t : List ℕ) → ((k : ℕ) → k < abstractStates b → getD t k 0 ≡ 0) → passesTest b t ≡ true

@@ -1,10 +1,11 @@
--- Lists of rule numbers from a state: whether their rules apply in turn (`applyInTurn`), the last state (`run`), and their cost (`totalCost`).
+-- Lists of rule numbers from a state: whether their rules apply in turn (`applyInTurn`), the last state (`run`), their cost (`totalCost`), and whether they reach a goal (`reaches`).
 -- Replay, tables and the search are stated with these.
 use Prim.Native.Nat.{ℕ, _+_}
 use mathlib.Core.Bool.{Bool, true, _&&_}
 use mathlib.Core.List.{List, [], _∷_}
-use Rattle.blocks.specs.Layout.{costOf}
-use Rattle.psvn.specs.Rules.{applies, step}
+use lib.Dec.{ltb}
+use Rattle.blocks.specs.Layout.{rules, costOf}
+use Rattle.psvn.specs.Rules.{applies, step, meets}
 
 -- the rules apply in turn from the state s
 abbrev pub applyInTurn : List ℕ → List ℕ → List ℕ → Bool
@@ -20,3 +21,8 @@ run b s (r ∷ rs) = run b (step b r s) rs
 abbrev pub totalCost : List ℕ → List ℕ → ℕ
 totalCost b [] = 0
 totalCost b (r ∷ rs) = costOf b r + totalCost b rs
+
+-- the list reaches a goal from s: its rules apply in turn, and the last state, s itself for the empty list, meets a goal
+abbrev pub reaches : List ℕ → List ℕ → List ℕ → Bool
+reaches b s [] = meets b s
+reaches b s (r ∷ rs) = ltb r (rules b) && (applies b r s && reaches b (step b r s) rs)

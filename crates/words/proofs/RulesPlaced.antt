@@ -1,5 +1,5 @@
--- Rules and goals placed one after another: a rule stays while others are placed (`rule-placed`, `rule-kept`), so do goals (`goal-kept`), and rules while the goals are.
--- The loops over rules and goals, and compiling as a whole, rest on these.
+-- Rules and goals placed one after another: a rule with its cost, which keeps the rules before it (`rule-placed`), a goal, which keeps those before it (`goal-kept`),
+-- and the whole (`compiled`). The loops over rules and goals, and compiling a block, rest on these.
 use mathlib.Core.Path.{_≡_, refl, ap, _∙_, subst}
 use mathlib.Core.List.{List}
 use Prim.Native.Nat.{ℕ, _+_, _*_, _%_, _≤_, _<_}

@@ -1,5 +1,5 @@
--- One term more of a side on the way, in its five cases: a constant (`constant-more`), a position that keeps its label (`kept-more`, `own-more`), a move (`move-more`), and
--- a variable that stands nowhere on the left (`unbound-more`). The function that adds a term rests on these.
+-- Where a term takes its label from (`taken-other`, `taken-variable`), and one term more of a side on the way, in four cases: a constant (`constant-more`), a position
+-- that keeps its label (`kept-more`), a move (`move-more`), and a variable that stands nowhere on the left (`unbound-more`). The functions that add a term rest on these.
 use mathlib.Core.Path.{_≡_, refl, sym, ap, ap₂, _∙_}
 use mathlib.Core.Logic.{_⊎_, ⊎-elim}
 use mathlib.Core.List.{List}
@@ -20,9 +20,23 @@ use Rattle.psvn.specs.Rules.{bound, given}
 use Rattle.psvn.proofs.Making.{given-other}
 use Rattle.words.specs.Packing.{digit, unpack}
 use Rattle.words.specs.Sides.{moved}
-use Rattle.words.specs.Placing.{movedTo, madeBy, Begun}
+use Rattle.words.specs.Placing.{TakenFrom, movedTo, madeBy, Begun}
 use Rattle.words.specs.declared.compiling.Side.{Side}
 use Rattle.words.proofs.WordDigits.{shifted, digit-lt, digit-and, digit-or, joined-before, joined-at, joined-below, unpack-length, unpack-at}
+
+-- where a term takes its label from
+pub taken-other : (n : ℕ) (left : ℕ → ℕ) (i byte : ℕ) → 32 ≤ byte → TakenFrom n left i byte i
+taken-other n left i byte h = record { label = λ s. given-other n left (λ j. byte) s i h }
+
+pub taken-variable :
+    (n : ℕ) (left : ℕ → ℕ) (i byte from : ℕ) → 16 ≤ byte → byte < 32 → from ≡ first n (λ j. eqb (left j) byte)
+    → TakenFrom n left i byte from
+unfolding bound
+taken-variable n left i byte from low high e =
+    record {
+      label = λ s.
+          ap (given n left s i) (is-variable byte low high) ∙ ap (λ (k : ℕ). getD s k 0) (sym e);
+    }
 
 -- the parts at one position
 abbrev parts : ℕ → ℕ → ℕ → ℕ → ℕ
@@ -204,34 +218,26 @@ module _
       gives : (w : ℕ) → given n left (unpack n w) i (termOf (side i)) ≡ side i
       gives w = ap (given n left (unpack n w) i) (is-label (side i) h)
 
-  kept-at : ((w : ℕ) → given n left (unpack n w) i (termOf (side i)) ≡ digit w i) → Begun n left side (withKept s i) v x (i + 1)
-  kept-at gives =
-      term-more n left side s (withKept s i) v v x i 0 0 15 (λ w. 0) b
-      (record {
-        mask-is = unchanged (s .mask) i;
-        value-is = unchanged (s .value) i;
-        keep-is = ap (bitOr (s .keep)) (shifted 15 i (lit< tt) (omega arith));
-        moves-are = λ w. unchanged (movedTo v x w (s .count)) i;
-        mask-lt = lit< tt;
-        value-lt = lit< tt;
-        keep-lt = lit< tt;
-        move-lt = λ w. lit< tt;
-        count-le = omega arith;
-      })
-      (λ w. parts-kept (digit w i) (digit-lt w i) ∙ sym (gives w))
-      (λ w e. and-zero-r (digit w i))
-
-  pub kept-more : 32 ≤ side i → Begun n left side (withKept s i) v x (i + 1)
-  kept-more h = kept-at (λ w. given-other n left side (unpack n w) i h ∙ unpack-at n w i li)
-
-  -- a variable, by the first position under the left side where it stands
-  module _ (low : 16 ≤ side i) (high : side i < 32) (from : ℕ) (e : from ≡ first n (λ j. eqb (left j) (side i))) where
-    bound-at : (w : ℕ) → given n left (unpack n w) i (termOf (side i)) ≡ getD (unpack n w) from 0
-    unfolding bound
-    bound-at w = ap (given n left (unpack n w) i) (is-variable (side i) low high) ∙ ap (λ (k : ℕ). getD (unpack n w) k 0) (sym e)
-
-    pub own-more : from ≡ i → Begun n left side (withKept s i) v x (i + 1)
-    own-more q = kept-at (λ w. bound-at w ∙ ap (λ (k : ℕ). getD (unpack n w) k 0) q ∙ unpack-at n w i li)
+  -- any other term, by where it takes its label from
+  module _ (from : ℕ) (source : TakenFrom n left i (side i) from) where
+    pub kept-more : from ≡ i → Begun n left side (withKept s i) v x (i + 1)
+    kept-more e =
+        term-more n left side s (withKept s i) v v x i 0 0 15 (λ w. 0) b
+        (record {
+          mask-is = unchanged (s .mask) i;
+          value-is = unchanged (s .value) i;
+          keep-is = ap (bitOr (s .keep)) (shifted 15 i (lit< tt) (omega arith));
+          moves-are = λ w. unchanged (movedTo v x w (s .count)) i;
+          mask-lt = lit< tt;
+          value-lt = lit< tt;
+          keep-lt = lit< tt;
+          move-lt = λ w. lit< tt;
+          count-le = omega arith;
+        })
+        (λ w.
+        parts-kept (digit w i) (digit-lt w i)
+        ∙ sym (source .label (unpack n w) ∙ ap (λ (k : ℕ). getD (unpack n w) k 0) e ∙ unpack-at n w i li))
+        (λ w e. and-zero-r (digit w i))
 
     moved-at :
         (t : Side) (u : List ℕ) (move : ℕ → ℕ) → t .mask ≡ s .mask → t .value ≡ s .value → t .keep ≡ s .keep → t .count ≤ s .count + 1
@@ -250,7 +256,7 @@ module _
           move-lt = l;
           count-le = k;
         })
-        (λ w. parts-move (digit w i) (move w) ∙ sym (bound-at w ∙ gives w))
+        (λ w. parts-move (digit w i) (move w) ∙ sym (source .label (unpack n w) ∙ gives w))
         (λ w e. and-zero-r (digit w i))
 
     pub unbound-more : n ≤ from → Begun n left side s v x (i + 1)

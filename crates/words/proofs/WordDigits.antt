@@ -170,7 +170,3 @@ pub unpack-pack : (n : ℕ) (s : List ℕ) → length s ≡ n → Small s → un
 unpack-pack n s e h =
     same-list n (unpack n (pack s)) s (unpack-length n (pack s)) e (λ i l.
     unpack-at n (pack s) i l ∙ digit-pack s h i (omega arith))
-
-pub pack-injective :
-    (n : ℕ) (s t : List ℕ) → length s ≡ n → length t ≡ n → Small s → Small t → pack s ≡ pack t → s ≡ t
-pack-injective n s t d e g h q = sym (unpack-pack n s d g) ∙ ap (unpack n) q ∙ unpack-pack n t e h

@@ -1,5 +1,5 @@
--- Ranks by words: one digit more of the word of a rank (`word-more`), and place values: they stay below the number of states (`place-below`), and the digits
--- times their place values make the number that the digits write (`value-placed`). The proofs of ranking, the weights, and what they mean rest on these.
+-- Ranks by words: one digit more of the word of a rank (`word-more`); place values, from the last position on (`place-last`, `place-more`), stay within the number
+-- of states (`place-below`); and the weights of one position more (`rows-more`). The proofs of ranking, the weights, and what they mean rest on these.
 use mathlib.Core.Path.{_≡_, sym, ap, _∙_, subst}
 use mathlib.Core.Logic.{⊎-elim}
 use mathlib.Core.List.{List}
@@ -65,9 +65,9 @@ pub rows-more :
     → ((j x : ℕ) → suc i ≤ j → j < positions b → x < labelCount b j → getD q (16 * j + x) 0 ≡ weightOf b j x)
     → (j x : ℕ) → i ≤ j → j < positions b → x < labelCount b j → getD q′ (16 * j + x) 0 ≡ weightOf b j x
 rows-more {b} {q} {q′} i e row rest j x h lj lx =
-    ⊎-elim (λ k. go j k h lj lx) (λ k. row .weights .behind (16 * j + x) (omega arith) ∙ rest j x k lj lx) (eq-or-lt-of-le h)
+    ⊎-elim (λ k. at j k lx) (λ k. row .weights .behind (16 * j + x) (omega arith) ∙ rest j x k lj lx) (eq-or-lt-of-le h)
   where
-    go : (j : ℕ) → i ≡ j → i ≤ j → j < positions b → x < labelCount b j → getD q′ (16 * j + x) 0 ≡ weightOf b j x
-    go j k h lj lx =
+    at : (j : ℕ) → i ≡ j → x < labelCount b j → getD q′ (16 * j + x) 0 ≡ weightOf b j x
+    at j k =
         subst (λ (j : ℕ). x < labelCount b j → getD q′ (16 * j + x) 0 ≡ weightOf b j x) k
-        (λ l. row .weight x l ∙ ap (λ (y : ℕ). mapAt b i x * y) e) lx
+        (λ l. row .weight x l ∙ ap (λ (y : ℕ). mapAt b i x * y) e)

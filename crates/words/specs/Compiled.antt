@@ -12,7 +12,7 @@ use Rattle.words.specs.Packing.{unpack}
 use Rattle.words.specs.Sides.{maskAt, valueAt, countAt, rewrittenWord, costWord, leftPlace, rightPlace, goalPlace}
 use Rattle.words.specs.Ranking.{weightOf}
 
--- the side at place x, under a left side, for words of n labels: what it makes of a word, that a word which it makes itself passes the mask, and a move at most for each position
+-- the side at place x, under a left side, for words of n labels: what it makes of a word, that a word which it makes of itself passes the mask, and at most 16 moves
 pub record Sided (n : ℕ) (left side : ℕ → ℕ) (words moves : List ℕ) (x : ℕ) : Type 0 where
   pub makes : (w : ℕ) → w < 16 ^ n → unpack n (rewrittenWord words moves x w) ≡ rewritten n left side (unpack n w)
   pub small : (w : ℕ) → w < 16 ^ n → rewrittenWord words moves x w < 16 ^ n

@@ -1,5 +1,5 @@
--- What the parts of compiling leave in the arrays: a side begun (`Begun`), a side, a rule, all rules, all goals and weights placed, and what else is kept.
--- The functions that compile a block are stated with these; together they make the arrays `Compiled`.
+-- What the parts of compiling find and leave: where a term takes its label from (`TakenFrom`), a side begun (`Begun`), and a side, a rule, all rules,
+-- all goals and a row of weights placed, each with what it keeps of the arrays. The functions that compile a block are stated with these; together they make the arrays `Compiled`.
 use mathlib.Core.Path.{_≡_}
 use mathlib.Core.List.{List}
 use Prim.Native.Nat.{ℕ, zero, suc, _+_, _*_, _^_, _≤_, _<_}
@@ -13,6 +13,10 @@ use Rattle.words.specs.Packing.{digit, unpack}
 use Rattle.words.specs.Sides.{moved, goalPlace}
 use Rattle.words.specs.Compiled.{Sided, RuleAt}
 use Rattle.words.specs.declared.compiling.Side.{Side}
+
+-- the label that the term gives at position i is the state's label at k
+pub record TakenFrom (n : ℕ) (left : ℕ → ℕ) (i byte k : ℕ) : Type 0 where
+  pub label : (s : List ℕ) → given n left s i (termOf byte) ≡ getD s k 0
 
 -- the labels that the first j moves at place x write
 unfoldable pub movedTo : List ℕ → ℕ → ℕ → ℕ → ℕ
@@ -58,8 +62,8 @@ pub record RulesPlaced (b words₀ moves₀ words₁ moves₁ : List ℕ) : Type
 -- all goals; what stands at other places stays
 pub record GoalsPlaced (b words₀ moves₀ words₁ moves₁ : List ℕ) : Type 0 where
   pub goal : (g : ℕ) → g < goals b → Sided (positions b) (goalOf b g) (goalOf b g) words₁ moves₁ (goalPlace g)
-  pub words : Outside 512 544 words₀ words₁
-  pub moves : Outside 4096 4352 moves₀ moves₁
+  pub words : Outside (4 * goalPlace 0) (4 * goalPlace 8) words₀ words₁
+  pub moves : Outside (32 * goalPlace 0) (32 * goalPlace 8) moves₀ moves₁
 
 -- the weights of the labels at position i, where an abstract label counts p
 pub record RowPlaced (b : List ℕ) (i p : ℕ) (weights₀ weights₁ : List ℕ) : Type 0 where

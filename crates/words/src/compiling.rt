@@ -6,7 +6,7 @@ ghost use Rattle.basics.specs.Frames.{Outside};
 ghost use Rattle.blocks.specs.Layout.{positions, rules, sideAt, abstractCount};
 ghost use Rattle.blocks.specs.Validity.{Sized, Valid};
 ghost use Rattle.words.specs.Compiled.{Weighted, Compiled};
-ghost use Rattle.words.specs.Placing.{Begun, SidePlaced, RulePlaced, RulesPlaced, GoalsPlaced, RowPlaced};
+ghost use Rattle.words.specs.Placing.{TakenFrom, Begun, SidePlaced, RulePlaced, RulesPlaced, GoalsPlaced, RowPlaced};
 use basics::wide;
 use blocks::labels::ConcreteLabel;
 use blocks::labels::byte_of;
@@ -18,6 +18,17 @@ struct Side {
     value: u64,
     keep: u64,
     count: usize,
+}
+
+// Where a term that is no constant takes its label at position i from: a variable from its first position on the left (n where it has none), others from i.
+fn source(bytes: &[u8], left: usize, n: usize, i: usize, byte: u8) -> usize
+    requires { ⌜ (left + n ≤ length (now bytes)) × (16 ≤ byte) ⌝ }
+    ensures { λ r. ⌜ TakenFrom n (sideAt (now (bytes .entry)) left) i byte r ⌝ }
+{
+    if byte >= 32 {
+        return i;
+    }
+    layout::first_of(bytes, left, n, byte)
 }
 
 // The side that begins at `side`, its first i positions made, with its term at position i, under the left side that begins at `left`.
@@ -44,11 +55,7 @@ fn with_term(
         next.value = next.value | ((byte as u64) << (4 * i));
         return next;
     }
-    if byte >= 32 {
-        next.keep = next.keep | ones;
-        return next;
-    }
-    let from = layout::first_of(bytes, left, n, byte);
+    let from = source(bytes, left, n, i, byte);
     if from == i {
         next.keep = next.keep | ones;
         return next;

@@ -1,7 +1,7 @@
 -- `words::compiling::place_goals` meets its contract.
 -- The loop's invariant: the goals passed are placed, and nothing but places of goals is written.
 use mathlib.Core.Path.{_≡_, _∙_}
-use Prim.Native.Nat.{ℕ, _≤_, _<_, _-_}
+use Prim.Native.Nat.{ℕ, _≤_, _<_, _-_, _*_}
 use native.Mathlib.Omega.{arith}
 use denote.Ref.{now}
 use borrow.Author.Count.{below-more}
@@ -18,7 +18,7 @@ use Rattle.words.proofs.compiling.place_goals.Tie as tie
 
 abbrev Inv-loop : tie.InvT-loop
 Inv-loop block words₀ moves₀ n count g₀ words moves g =
-    (n ≡ positions block) × (count ≡ goals block) × (g ≤ count) × Outside 512 544 words₀ words × Outside 4096 4352 moves₀ moves
+    (n ≡ positions block) × (count ≡ goals block) × (g ≤ count) × Outside (4 * goalPlace 0) (4 * goalPlace 8) words₀ words × Outside (32 * goalPlace 0) (32 * goalPlace 8) moves₀ moves
     × ((k : ℕ) → k < g → Sided (positions block) (goalOf block k) (goalOf block k) words moves (goalPlace k))
 
 abbrev μ-loop : tie.MeasureT-loop
@@ -32,8 +32,14 @@ goals-requires c κs = search needs
 
 loop-holds : tie.Need-loop-holds Inv-loop μ-loop
 loop-holds c =
-    let a = c .before .before .before .args in
-    (search needs, search needs, search needs, outside-none 512 544 (now (a .words)), outside-none 4096 4352 (now (a .moves)), λ k l. absurd (omega arith))
+    let a = c .before .before .before .args in (
+      search needs,
+      search needs,
+      search needs,
+      outside-none (4 * goalPlace 0) (4 * goalPlace 8) (now (a .words)),
+      outside-none (32 * goalPlace 0) (32 * goalPlace 8) (now (a .moves)),
+      λ k l. absurd (omega arith),
+    )
 
 goal-at-requires : tie.Need-goal-at-requires Inv-loop μ-loop
 goal-at-requires c κs = (c .before .before .before .before .before .pre .0 .head, omega arith)
@@ -70,8 +76,8 @@ loop-again c =
       inv .0,
       inv .1,
       search needs,
-      outside-then (inv .3) (outside-within 512 544 (omega arith) (omega arith) (p .words)),
-      outside-then (inv .4) (outside-within 4096 4352 (omega arith) (omega arith) (p .moves)),
+      outside-then (inv .3) (outside-within (4 * goalPlace 0) (4 * goalPlace 8) (omega arith) (omega arith) (p .words)),
+      outside-then (inv .4) (outside-within (32 * goalPlace 0) (32 * goalPlace 8) (omega arith) (omega arith) (p .moves)),
       below-more _ _ (λ k l. goal-kept g k l p (inv .5 k l)) (p .sided),
     )
 

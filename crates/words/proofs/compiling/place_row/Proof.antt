@@ -27,7 +27,8 @@ abbrev μ-loop : tie.MeasureT-loop
 -- the label's abstract label, and its weight
 mapped :
     (c : tie.After-wide Inv-loop μ-loop)
-    → c .wide .result ≡ mapAt (now (c .before .before .before .before .before .before .before .args .block)) (c .before .before .before .before .before .before .before .args .i) (c .before .before .before .before .loop .x)
+    → let a = c .before .before .before .before .before .before .before .args in
+    c .wide .result ≡ mapAt (now (a .block)) (a .i) (c .before .before .before .before .loop .x)
 mapped c = c .wide .ensures .0 ∙ c .before .byte-of .ensures ∙ c .before .before .abstract-label .ensures
 
 high : (c : tie.After-wide Inv-loop μ-loop) → c .wide .result * c .before .before .before .before .before .before .before .args .p ≤ 16384
@@ -46,8 +47,13 @@ loop-holds : tie.Need-loop-holds Inv-loop μ-loop
 unfolding labelCount
 loop-holds c =
     let a = c .before .before .args in
-    let h = c .before .before .pre .0 .sized .head .sizes .l-high in
-    (search needs, omega (arith, c .label-count .ensures), search needs, outside-none (16 * a .i) (16 * a .i + 16) (now (a .weights)), λ k l. absurd (omega arith))
+    let h = c .before .before .pre .0 .sized .head .sizes .l-high in (
+      search needs,
+      omega (arith, c .label-count .ensures),
+      search needs,
+      outside-none (16 * a .i) (16 * a .i + 16) (now (a .weights)),
+      λ k l. absurd (omega arith),
+    )
 
 cast-wide : tie.Need-cast-wide Inv-loop μ-loop
 cast-wide c = search needs

@@ -12,7 +12,9 @@ use Rattle.words.proofs.compiling.place_rules.Statement.{statement}
 use Rattle.words.proofs.compiling.place_rules.Tie as tie
 
 abbrev Inv-loop : tie.InvT-loop
-Inv-loop block words₀ moves₀ count r₀ words moves r = (count ≡ rules block) × (r ≤ count) × (length words ≡ length words₀) × (length moves ≡ length moves₀) × ((k : ℕ) → k < r → RuleAt block words moves k)
+Inv-loop block words₀ moves₀ count r₀ words moves r =
+    (count ≡ rules block) × (r ≤ count) × (length words ≡ length words₀) × (length moves ≡ length moves₀)
+    × ((k : ℕ) → k < r → RuleAt block words moves k)
 
 abbrev μ-loop : tie.MeasureT-loop
 μ-loop block words₀ moves₀ count r₀ words moves r = count - r

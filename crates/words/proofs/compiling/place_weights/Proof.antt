@@ -51,7 +51,8 @@ few :
 few c =
     let b = now (c .before .before .before .before .args .block) in
     let h = c .before .before .before .before .pre .0 .sized .head in
-    omega (arith, place-below (abstractCount b) (some-abstract b h) (positions b) (c .before .loop .i - 1) (omega arith), states-span b, h .few)
+    let below = place-below (abstractCount b) (some-abstract b h) (positions b) (c .before .loop .i - 1) (omega arith) in
+    omega (arith, states-span b, h .few)
 
 product :
     (c : tie.After-abstract-count Inv-loop μ-loop)
@@ -68,8 +69,12 @@ positions-requires c κs = search needs
 loop-holds : tie.Need-loop-holds Inv-loop μ-loop
 loop-holds c =
     let b = now (c .before .before .args .block) in
-    let e = c .positions .ensures .0 in
-    (search needs, sym (ap (λ (i : ℕ). placeValue (abstractCount b) i (positions b - i)) e ∙ place-last (abstractCount b) (positions b)), c .before .before .pre .1, λ j x a l. absurd (omega arith))
+    let p : ℕ → ℕ = λ i. placeValue (abstractCount b) i (positions b - i) in (
+      search needs,
+      sym (ap p (c .positions .ensures .0) ∙ place-last (abstractCount b) (positions b)),
+      c .before .before .pre .1,
+      λ j x a l. absurd (omega arith),
+    )
 
 sub-i : tie.Need-sub-i Inv-loop μ-loop
 sub-i c = search needs

@@ -1,11 +1,11 @@
 -- `words::compiling::with_term` meets its contract.
--- Each way out is one case of a term.
+-- Each way out is one case of a term: a constant, its own position, another one, or none.
 use Prim.Native.Nat.{_+_, _*_}
 use native.Mathlib.Omega.{arith}
 use denote.Ref.{now}
 use Rattle.basics.proofs.Frames.{outside-none}
 use Rattle.blocks.specs.Layout.{sideAt}
-use Rattle.words.proofs.TermsPlaced.{constant-more, kept-more, own-more, unbound-more, move-more, moves-outside}
+use Rattle.words.proofs.TermsPlaced.{constant-more, kept-more, unbound-more, move-more, moves-outside}
 use borrow.Author.Needs.{needs}
 use Rattle.words.proofs.compiling.with_term.Statement.{statement}
 use Rattle.words.proofs.compiling.with_term.Tie as tie
@@ -35,28 +35,28 @@ returns : tie.Need-returns
 returns c =
     let a = c .before .before .before .before .before .args in
     let h = c .before .before .before .before .before .pre in
-    let l = sideAt (now (a .bytes)) (a .left) in
-    let s = sideAt (now (a .bytes)) (a .side) in
-    (constant-more (a .n) l s (a .made) (now (a .moves)) (a .x) (a .i) (h .0 .3) (h .0 .2) (h .1) (c .before .before .if1 .taken), outside-none (32 * a .x) (32 * a .x + 32) (now (a .moves)))
+    let left = sideAt (now (a .bytes)) (a .left) in
+    let side = sideAt (now (a .bytes)) (a .side) in
+    let kept = outside-none (32 * a .x) (32 * a .x + 32) (now (a .moves)) in (
+      constant-more (a .n) left side (a .made) (now (a .moves)) (a .x) (a .i) (h .0 .3) (h .0 .2) (h .1)
+          (c .before .before .if1 .taken),
+      kept,
+    )
+
+source-requires : tie.Need-source-requires
+source-requires c κs = search needs
 
 returns-2 : tie.Need-returns-2
 returns-2 c =
-    let a = c .before .before .before .before .before .args in
-    let h = c .before .before .before .before .before .pre in
-    let l = sideAt (now (a .bytes)) (a .left) in
-    let s = sideAt (now (a .bytes)) (a .side) in
-    (kept-more (a .n) l s (a .made) (now (a .moves)) (a .x) (a .i) (h .0 .3) (h .0 .2) (h .1) (c .before .if2 .taken), outside-none (32 * a .x) (32 * a .x + 32) (now (a .moves)))
-
-first-of-requires : tie.Need-first-of-requires
-first-of-requires c κs = search needs
-
-returns-3 : tie.Need-returns-3
-returns-3 c =
-    let a = c .before .before .before .before .before .before .before .args in
-    let h = c .before .before .before .before .before .before .before .pre in
-    let l = sideAt (now (a .bytes)) (a .left) in
-    let s = sideAt (now (a .bytes)) (a .side) in
-    (own-more (a .n) l s (a .made) (now (a .moves)) (a .x) (a .i) (h .0 .3) (h .0 .2) (h .1) (omega arith) (omega arith) (c .before .before .first-of .result) (c .before .before .first-of .ensures) (c .before .if3 .taken), outside-none (32 * a .x) (32 * a .x + 32) (now (a .moves)))
+    let a = c .before .before .before .before .before .before .args in
+    let h = c .before .before .before .before .before .before .pre in
+    let left = sideAt (now (a .bytes)) (a .left) in
+    let side = sideAt (now (a .bytes)) (a .side) in
+    let kept = outside-none (32 * a .x) (32 * a .x + 32) (now (a .moves)) in (
+      kept-more (a .n) left side (a .made) (now (a .moves)) (a .x) (a .i) (h .0 .3) (h .0 .2) (h .1)
+          (c .before .before .source .result) (c .before .before .source .ensures) (c .before .if2 .taken),
+      kept,
+    )
 
 cast-moves : tie.Need-cast-moves
 cast-moves c = search needs
@@ -94,23 +94,29 @@ element-write-moves-2 c = search needs
 add-next : tie.Need-add-next
 add-next c = search needs
 
+returns-3 : tie.Need-returns-3
+returns-3 c =
+    let a = c .before .before .before .before .before .before .args in
+    let h = c .before .before .before .before .before .before .pre in
+    let left = sideAt (now (a .bytes)) (a .left) in
+    let side = sideAt (now (a .bytes)) (a .side) in
+    let few = h .1 .few in (
+      move-more (a .n) left side (a .made) (now (a .moves)) (a .x) (a .i) (h .0 .3) (h .0 .2) (h .1)
+          (c .before .before .source .result) (c .before .before .source .ensures) (c .if3 .taken) (omega arith),
+      moves-outside (now (a .moves)) (a .x) (a .made .count) (c .before .before .source .result) (a .i) (omega arith) (omega arith),
+    )
+
 returns-4 : tie.Need-returns-4
 returns-4 c =
-    let a = c .before .before .before .before .before .before .before .args in
-    let h = c .before .before .before .before .before .before .before .pre in
-    let l = sideAt (now (a .bytes)) (a .left) in
-    let s = sideAt (now (a .bytes)) (a .side) in
-    let f = c .before .before .first-of .result in
-    let few = h .1 .few in
-    (move-more (a .n) l s (a .made) (now (a .moves)) (a .x) (a .i) (h .0 .3) (h .0 .2) (h .1) (omega arith) (omega arith) (c .before .before .first-of .result) (c .before .before .first-of .ensures) (c .if4 .taken) (omega arith), moves-outside (now (a .moves)) (a .x) (a .made .count) f (a .i) (omega arith) (omega arith))
-
-returns-5 : tie.Need-returns-5
-returns-5 c =
-    let a = c .before .before .before .before .before .before .before .args in
-    let h = c .before .before .before .before .before .before .before .pre in
-    let l = sideAt (now (a .bytes)) (a .left) in
-    let s = sideAt (now (a .bytes)) (a .side) in
-    (unbound-more (a .n) l s (a .made) (now (a .moves)) (a .x) (a .i) (h .0 .3) (h .0 .2) (h .1) (omega arith) (omega arith) (c .before .before .first-of .result) (c .before .before .first-of .ensures) (c .if4 .left), outside-none (32 * a .x) (32 * a .x + 32) (now (a .moves)))
+    let a = c .before .before .before .before .before .before .args in
+    let h = c .before .before .before .before .before .before .pre in
+    let left = sideAt (now (a .bytes)) (a .left) in
+    let side = sideAt (now (a .bytes)) (a .side) in
+    let kept = outside-none (32 * a .x) (32 * a .x + 32) (now (a .moves)) in (
+      unbound-more (a .n) left side (a .made) (now (a .moves)) (a .x) (a .i) (h .0 .3) (h .0 .2) (h .1)
+          (c .before .before .source .result) (c .before .before .source .ensures) (c .if3 .left),
+      kept,
+    )
 
 pub with-term-spec : {M : Type 1} → statement M
 with-term-spec =
@@ -124,9 +130,8 @@ with-term-spec =
     mul-next
     shl-next
     returns
+    source-requires
     returns-2
-    first-of-requires
-    returns-3
     cast-moves
     mul-moves
     mul-moves-2
@@ -139,5 +144,5 @@ with-term-spec =
     add-moves-3
     element-write-moves-2
     add-next
-    returns-4
-    returns-5)
+    returns-3
+    returns-4)

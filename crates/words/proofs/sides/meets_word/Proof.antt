@@ -1,7 +1,7 @@
 -- `words::sides::meets_word` meets its contract.
 -- The loop's invariant: no goal passed is met.
 use mathlib.Core.Path.{_≡_, sym, _∙_}
-use mathlib.Core.Bool.{false}
+use mathlib.Core.Bool.{Bool, false}
 use Prim.Native.Nat.{ℕ, _≤_, _<_, _-_}
 use native.Mathlib.Omega.{arith}
 use denote.Ref.{now}
@@ -30,7 +30,8 @@ matches-word-requires c κs = search needs
 returns : tie.Need-returns Inv-loop μ-loop
 returns c =
     let a = c .before .before .before .before .args in
-    sym (some-intro (λ g. matchesWord (now (a .words)) (now (a .moves)) (goalPlace g) (a .word)) (a .goals) (c .before .before .before .loop .g) (omega arith) (sym (c .before .matches-word .ensures) ∙ c .if1 .taken))
+    let met : ℕ → Bool = λ g. matchesWord (now (a .words)) (now (a .moves)) (goalPlace g) (a .word) in
+    sym (some-intro met (a .goals) (c .before .before .before .loop .g) (omega arith) (sym (c .before .matches-word .ensures) ∙ c .if1 .taken))
 
 add-g : tie.Need-add-g Inv-loop μ-loop
 add-g c = search needs
@@ -44,7 +45,8 @@ loop-again c = (search needs, below-more _ _ (c .before .before .before .loop .i
 returns-2 : tie.Need-returns-2 Inv-loop μ-loop
 returns-2 c =
     let a = c .before .before .args in
-    sym (some-passed (λ g. matchesWord (now (a .words)) (now (a .moves)) (goalPlace g) (a .word)) (a .goals) (c .before .loop .g) (omega arith) (c .before .loop .inv .1))
+    let met : ℕ → Bool = λ g. matchesWord (now (a .words)) (now (a .moves)) (goalPlace g) (a .word) in
+    sym (some-passed met (a .goals) (c .before .loop .g) (omega arith) (c .before .loop .inv .1))
 
 pub meets-word-spec : {M : Type 1} → statement M
 meets-word-spec =

@@ -1,0 +1,113 @@
+-- Rules on words are the edges of the graph: for a compiled relabelled block and the word of a rank, whether a rule applies (`word-applies`), the rank it leads to
+-- (`word-leads`), the goal test (`word-goal`), and that a word which a rule takes to another rank's word is an edge (`word-edge`).
+-- The costs by one rule, the test and the fill rest on these.
+use mathlib.Core.Path.{_≡_, sym, ap, _∙_}
+use mathlib.Core.Bool.{true, false}
+use mathlib.Core.List.{List}
+use Prim.Native.Nat.{ℕ, _≤_, _<_}
+use native.Mathlib.Nat.{le-refl}
+use native.Mathlib.Omega.{arith}
+use lib.ListN.{getD}
+use Rattle.basics.specs.Lists.{tabulate}
+use Rattle.basics.proofs.Lists.{length-tabulate, getD-tabulate}
+use Rattle.basics.proofs.Order.{same-list}
+use Rattle.blocks.specs.Layout.{positions, rules, goals, labelCount, mapAt, abstractStates}
+use Rattle.blocks.specs.Validity.{Headed, Valid}
+use Rattle.blocks.specs.States.{stateOk}
+use Rattle.blocks.proofs.StateLaws.{labelled-length, labelled-at}
+use Rattle.psvn.specs.Rules.{applies, step, meets}
+use Rattle.psvn.specs.Relabelling.{relabelBlock, relabelState}
+use Rattle.psvn.specs.Ranks.{rank, unrank}
+use Rattle.psvn.proofs.Relabelled.{label-count-relabelled, map-relabelled}
+use Rattle.psvn.proofs.Stepping.{step-state}
+use Rattle.psvn.proofs.RelabelTwice.{relabelled-valid}
+use Rattle.psvn.proofs.RankLaws.{rank-below, unrank-state, rank-unrank}
+use Rattle.words.specs.Packing.{unpack}
+use Rattle.words.specs.Sides.{appliesWord, stepWord, meetsWord}
+use Rattle.words.specs.Ranking.{rankWord, wordOf}
+use Rattle.words.proofs.Meaning.{applies-word, step-word, cost-word, meets-word, rank-word, unpack-word-of, word-of-small}
+use Rattle.distances.specs.Filling.{Cheap}
+use Rattle.tables.specs.Abstraction.{stepRank, graphOf, Relabelled, Ready}
+use Rattle.tables.proofs.OverRanks.{relabelled-abstract}
+
+module _ (a words moves weights : List ℕ) (ready : Ready a words moves weights) where
+  headed : Headed a
+  headed = ready .relabelled .valid .sized .head
+
+  -- costs are bytes
+  pub cheap : Cheap (graphOf a)
+  cheap r l = let e = cost-word (ready .compiled) r l in omega arith
+
+  pub few : abstractStates a ≤ 16384
+  few = headed .few
+
+  unranked : (u : ℕ) → stateOk a (unrank a u) ≡ true
+  unranked u = ready .relabelled .abstract (unrank a u) ∙ unrank-state a headed u
+
+  -- the word of a rank
+  module _ (u : ℕ) where
+    pub word-applies : (r : ℕ) → r < rules a → appliesWord words moves r (wordOf a u) ≡ applies a r (unrank a u)
+    word-applies r l =
+        applies-word (ready .compiled) r (wordOf a u) l (word-of-small headed u)
+        ∙ ap (applies a r) (unpack-word-of headed u)
+
+    pub word-goal : meetsWord words moves (goals a) (wordOf a u) ≡ meets a (unrank a u)
+    word-goal =
+        meets-word (ready .compiled) (wordOf a u) (word-of-small headed u)
+        ∙ ap (meets a) (unpack-word-of headed u)
+
+    module _ (r : ℕ) (l : r < rules a) where
+      made : unpack (positions a) (stepWord words moves r (wordOf a u)) ≡ step a r (unrank a u)
+      made =
+          step-word (ready .compiled) r (wordOf a u) l (word-of-small headed u)
+          ∙ ap (step a r) (unpack-word-of headed u)
+
+      made-state : stateOk a (step a r (unrank a u)) ≡ true
+      made-state = step-state a (ready .relabelled .valid) r l (unrank a u) (unranked u)
+
+      step-applied : applies a r (unrank a u) ≡ true → stepRank a u r ≡ rank a (step a r (unrank a u))
+      unfolding stepRank
+      step-applied h = rw h
+
+      -- where the rule applies, the rank of the word it makes
+      pub word-leads :
+          applies a r (unrank a u) ≡ true → rankWord weights (positions a) (stepWord words moves r (wordOf a u)) ≡ stepRank a u r
+      word-leads h =
+          let s = step a r (unrank a u) in
+          rank-word (ready .compiled) (stepWord words moves r (wordOf a u)) (ap (stateOk a) made ∙ made-state)
+          ∙ ap (λ (t : List ℕ). rank a (relabelState a t)) made ∙ ap (rank a) (ready .relabelled .same s made-state)
+          ∙ sym (step-applied h)
+
+      pub step-in : applies a r (unrank a u) ≡ true → stepRank a u r < abstractStates a
+      step-in h =
+          rw (step-applied h)
+          (rank-below a (step a r (unrank a u)) (sym (ready .relabelled .abstract (step a r (unrank a u))) ∙ made-state))
+
+      -- where it does not apply, no rank
+      pub step-out : applies a r (unrank a u) ≡ false → abstractStates a ≤ stepRank a u r
+      unfolding stepRank
+      step-out h = rw h (le-refl (abstractStates a))
+
+      -- a rule that takes the word of u to the word of v is an edge from u to v
+      pub word-edge :
+          (v : ℕ) → v < abstractStates a → appliesWord words moves r (wordOf a u) ≡ true
+          → stepWord words moves r (wordOf a u) ≡ wordOf a v → stepRank a u r ≡ v
+      word-edge v i h e =
+          step-applied (sym (word-applies r l) ∙ h)
+          ∙ ap (rank a) (sym made ∙ ap (unpack (positions a)) e ∙ unpack-word-of headed v)
+          ∙ rank-unrank a headed v i
+
+-- the relabelled block's map is the identity
+identity-state : (b u : List ℕ) → stateOk (relabelBlock b) u ≡ true → relabelState (relabelBlock b) u ≡ u
+unfolding relabelState
+identity-state b u ok =
+    let a = relabelBlock b in
+    let n = positions a in
+    let f : ℕ → ℕ = λ i. mapAt a i (getD u i 0) in
+    same-list n (tabulate n f) u (length-tabulate n f) (labelled-length n (labelCount a) u ok) (λ i l.
+    getD-tabulate n f i l
+    ∙ map-relabelled b i (getD u i 0) (rw (sym (label-count-relabelled b i)) (labelled-at n (labelCount a) u ok i l)))
+
+-- the relabelled block is one whose states are its abstract states
+pub relabelled-block : (b : List ℕ) → Valid b → Relabelled (relabelBlock b)
+relabelled-block b v = record { valid = relabelled-valid b v; abstract = relabelled-abstract b; same = identity-state b }

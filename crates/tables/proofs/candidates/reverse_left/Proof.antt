@@ -1,0 +1,61 @@
+-- `tables::candidates::reverse_left` meets its contract.
+-- The loop's invariant: the position stays on the sides, and the array keeps its length.
+use mathlib.Core.Path.{_≡_}
+use Prim.Native.Nat.{_+_, _≤_, _-_}
+use lib.ListN.{length}
+use borrow.Author.Needs.{needs}
+use Rattle.tables.proofs.candidates.reverse_left.Statement.{statement}
+use Rattle.tables.proofs.candidates.reverse_left.Tie as tie
+
+abbrev Inv-loop : tie.InvT-loop
+Inv-loop block left right n sides₀ i₀ sides i = (n ≤ 16) × (i ≤ n) × (left + n ≤ length block) × (right + n ≤ length block) × (length sides ≡ 32)
+
+abbrev μ-loop : tie.MeasureT-loop
+μ-loop block left right n sides₀ i₀ sides i = n - i
+
+loop-holds : tie.Need-loop-holds Inv-loop μ-loop
+loop-holds c = search needs
+
+add-term : tie.Need-add-term Inv-loop μ-loop
+add-term c = search needs
+
+shared-slice-read-term : tie.Need-shared-slice-read-term Inv-loop μ-loop
+shared-slice-read-term c = search needs
+
+add-term-2 : tie.Need-add-term-2 Inv-loop μ-loop
+add-term-2 c = search needs
+
+shared-slice-read-term-2 : tie.Need-shared-slice-read-term-2 Inv-loop μ-loop
+shared-slice-read-term-2 c = search needs
+
+element-write-sides : tie.Need-element-write-sides Inv-loop μ-loop
+element-write-sides c = search needs
+
+add-i : tie.Need-add-i Inv-loop μ-loop
+add-i c = search needs
+
+loop-less : tie.Need-loop-less Inv-loop μ-loop
+loop-less c = search needs
+
+loop-again : tie.Need-loop-again Inv-loop μ-loop
+loop-again c = search needs
+
+returns : tie.Need-returns Inv-loop μ-loop
+returns c = search needs
+
+pub reverse-left-spec : {M : Type 1} → statement M
+reverse-left-spec =
+    tie.close
+    (tie.spec
+    Inv-loop
+    μ-loop
+    loop-holds
+    add-term
+    shared-slice-read-term
+    add-term-2
+    shared-slice-read-term-2
+    element-write-sides
+    add-i
+    loop-less
+    loop-again
+    returns)

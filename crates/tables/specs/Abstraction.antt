@@ -1,0 +1,47 @@
+-- The relabelled exercise as a graph over the ranks of its states (`graphOf`), of a relabelled block a.
+-- A table has one entry per rank; the test and the fill are stated over this graph. Their inner functions ask for a relabelled block (`Relabelled`), compiled
+-- (`Ready`), with the words of its states at hand (`Ranked`).
+use mathlib.Core.Path.{_≡_}
+use Prim.Native.Nat.{ℕ, _<_}
+use mathlib.Core.Bool.{true, cond}
+use mathlib.Core.List.{List}
+use lib.ListN.{length, getD}
+use Rattle.blocks.specs.Layout.{rules, costOf, abstractStates}
+use Rattle.blocks.specs.Validity.{Valid}
+use Rattle.blocks.specs.States.{stateOk, abstractOk}
+use Rattle.psvn.specs.Rules.{applies, step, meets}
+use Rattle.psvn.specs.Relabelling.{relabelState}
+use Rattle.psvn.specs.Ranks.{rank, unrank}
+use Rattle.words.specs.Ranking.{wordOf}
+use Rattle.words.specs.Compiled.{Compiled}
+use Rattle.distances.specs.Graphs.{Graph}
+
+-- the rank of the state that rule r takes the state of rank u to; no rank where it does not apply
+unfoldable pub stepRank : List ℕ → ℕ → ℕ → ℕ
+stepRank a u r = cond (applies a r (unrank a u)) (rank a (step a r (unrank a u))) (abstractStates a)
+
+abbrev pub graphOf : List ℕ → Graph
+graphOf a =
+    record {
+      states = abstractStates a;
+      rules = rules a;
+      step = stepRank a;
+      cost = costOf a;
+      goal = λ u. meets a (unrank a u);
+    }
+
+-- a valid block whose states are its abstract states, each its own relabelled state
+pub record Relabelled (a : List ℕ) : Type 0 where
+  pub valid : Valid a
+  pub abstract : (u : List ℕ) → stateOk a u ≡ abstractOk a u
+  pub same : (u : List ℕ) → stateOk a u ≡ true → relabelState a u ≡ u
+
+-- and the arrays are compiled from it
+pub record Ready (a words moves weights : List ℕ) : Type 0 where
+  pub relabelled : Relabelled a
+  pub compiled : Compiled a words moves weights
+
+-- the word of each rank
+pub record Ranked (a of-rank : List ℕ) : Type 0 where
+  pub len : length of-rank ≡ 16384
+  pub word : (u : ℕ) → u < abstractStates a → getD of-rank u 0 ≡ wordOf a u

@@ -1,0 +1,216 @@
+// Candidates for the predecessors of a state. Each rule is compiled backwards: the reversed left side asks of a state what the rule's result must show,
+// and the reversed right side makes the predecessor, with 0 where the rule loses a label; such labels then run through all values, a group of
+// positions with one variable together. Nothing is proved of a candidate: whoever takes one tests it by the rule itself.
+ghost use mathlib.Core.Path.{_≡_};
+ghost use Prim.Native.Nat.{_+_, _≤_, _<_};
+ghost use lib.ListN.{length};
+ghost use Rattle.blocks.specs.Layout.{rules};
+ghost use Rattle.blocks.specs.Validity.{Sized};
+use blocks::layout;
+use blocks::layout::first_of;
+use words::compiling::place_side;
+use words::packing::digit;
+use words::sides::rewritten_word;
+
+// The byte of a dash.
+const DASH: u8 = 255;
+
+// Where the reversed right side stands.
+const RIGHT: usize = 16;
+
+// The reversed left side's terms: the right side's, and the left side's where the label is kept.
+fn reverse_left(block: &[u8], left: usize, right: usize, n: usize, sides: &mut [u8; 32])
+    requires { ⌜ (n ≤ 16) × (left + n ≤ length (now block)) × (right + n ≤ length (now block)) × (length (now sides) ≡ 32) ⌝ }
+    ensures { λ _. ⌜ length (now (sides .exit)) ≡ 32 ⌝ }
+{
+    let mut i: usize = 0;
+    while i < n {
+        let mut term = block[right + i];
+        if term == DASH {
+            term = block[left + i];
+        }
+        sides[i] = term;
+        i += 1;
+    }
+}
+
+// Whether the term before the rule, at a position that the rule writes, tells nothing of what stood there.
+fn is_lost(sides: &[u8; 32], n: usize, term: u8) -> bool
+    requires { ⌜ n ≤ 16 ⌝ }
+{
+    if term < 16 {
+        return false;
+    }
+    if term < 32 {
+        return first_of(sides, 0, n, term) == n;
+    }
+    true
+}
+
+// The term of the reversed right side at a position with these terms on the left and on the right.
+fn reversed_term(sides: &[u8; 32], n: usize, left: u8, right: u8) -> u8
+    requires { ⌜ n ≤ 16 ⌝ }
+{
+    if right == DASH {
+        return DASH;
+    }
+    if is_lost(sides, n, left) {
+        return 0;
+    }
+    left
+}
+
+// The reversed right side's terms.
+fn reverse_right(block: &[u8], left: usize, right: usize, n: usize, sides: &mut [u8; 32])
+    requires { ⌜ (n ≤ 16) × (left + n ≤ length (now block)) × (right + n ≤ length (now block)) × (length (now sides) ≡ 32) ⌝ }
+    ensures { λ _. ⌜ length (now (sides .exit)) ≡ 32 ⌝ }
+{
+    let mut i: usize = 0;
+    while i < n {
+        let term = reversed_term(sides, n, block[left + i], block[right + i]);
+        sides[RIGHT + i] = term;
+        i += 1;
+    }
+}
+
+// The mask of the positions that hold the term at position i on the side at `left`: that position alone for a dash.
+fn group_of(block: &[u8], left: usize, n: usize, i: usize) -> u64
+    requires { ⌜ (n ≤ 16) × (i < n) × (left + n ≤ length (now block)) ⌝ }
+{
+    let term = block[left + i];
+    let mut mask: u64 = 15 << (4 * i);
+    if term < 32 {
+        let mut j: usize = 0;
+        while j < n {
+            if block[left + j] == term {
+                mask = mask | (15 << (4 * j));
+            }
+            j += 1;
+        }
+    }
+    mask
+}
+
+// Whether a group whose labels the rule loses begins at position i.
+fn begins_group(
+    block: &[u8],
+    left: usize,
+    right: usize,
+    n: usize,
+    sides: &[u8; 32],
+    i: usize,
+) -> bool
+    requires { ⌜ (n ≤ 16) × (i < n) × (left + n ≤ length (now block)) × (right + n ≤ length (now block)) ⌝ }
+{
+    if block[right + i] == DASH {
+        return false;
+    }
+    let term = block[left + i];
+    if !is_lost(sides, n, term) {
+        return false;
+    }
+    if term < 32 {
+        return first_of(block, left, n, term) == i;
+    }
+    true
+}
+
+// Writes the groups of rule r whose labels it loses: their number, then for each its mask and its first position.
+fn place_groups(
+    block: &[u8],
+    left: usize,
+    right: usize,
+    n: usize,
+    sides: &[u8; 32],
+    groups: &mut [u64; 2176],
+    r: usize,
+)
+    requires { ⌜ (n ≤ 16) × (r < 64) × (left + n ≤ length (now block)) × (right + n ≤ length (now block)) × (length (now groups) ≡ 2176) ⌝ }
+    ensures { λ _. ⌜ length (now (groups .exit)) ≡ 2176 ⌝ }
+{
+    let mut count: usize = 0;
+    let mut i: usize = 0;
+    while i < n {
+        if begins_group(block, left, right, n, sides, i) {
+            groups[34 * r + 1 + 2 * count] = group_of(block, left, n, i);
+            groups[34 * r + 2 + 2 * count] = i as u64;
+            count += 1;
+        }
+        i += 1;
+    }
+    groups[34 * r] = count as u64;
+}
+
+// Compiles rule r backwards.
+fn reverse_rule(
+    block: &[u8],
+    r: usize,
+    words: &mut [u64; 608],
+    moves: &mut [u8; 4384],
+    groups: &mut [u64; 2176],
+)
+    requires { ⌜ Sized (now block) × (r < rules (now block)) × (length (now words) ≡ 608) × (length (now moves) ≡ 4384) × (length (now groups) ≡ 2176) ⌝ }
+    ensures { λ _. ⌜ (length (now (words .exit)) ≡ 608) × (length (now (moves .exit)) ≡ 4384) × (length (now (groups .exit)) ≡ 2176) ⌝ }
+{
+    let n = layout::positions(block);
+    let left = layout::left_at(block, r);
+    let right = layout::right_at(block, r);
+    let mut sides = [0u8; 32];
+    reverse_left(block, left, right, n, &mut sides);
+    reverse_right(block, left, right, n, &mut sides);
+    place_side(&sides, 0, 0, n, words, moves, 2 * r);
+    place_side(&sides, 0, RIGHT, n, words, moves, 2 * r + 1);
+    place_groups(block, left, right, n, &sides, groups, r);
+}
+
+// Compiles all rules backwards.
+pub fn reverse_rules(
+    block: &[u8],
+    words: &mut [u64; 608],
+    moves: &mut [u8; 4384],
+    groups: &mut [u64; 2176],
+)
+    requires { ⌜ Sized (now block) × (length (now words) ≡ 608) × (length (now moves) ≡ 4384) × (length (now groups) ≡ 2176) ⌝ }
+    ensures { λ _. ⌜ (length (now (words .exit)) ≡ 608) × (length (now (moves .exit)) ≡ 4384) × (length (now (groups .exit)) ≡ 2176) ⌝ }
+{
+    let rules = layout::rules(block);
+    let mut r: usize = 0;
+    while r < rules {
+        reverse_rule(block, r, words, moves, groups);
+        r += 1;
+    }
+}
+
+// Whether a state shows the constants that rule r leaves: where it does not, the rule leads from no state to it.
+pub fn shows_constants(words: &[u64; 608], r: usize, word: u64) -> bool
+    requires { ⌜ r < 64 ⌝ }
+{
+    word & words[8 * r] == words[8 * r + 1]
+}
+
+// The first candidate before a state, by rule r.
+pub fn first_candidate(words: &[u64; 608], moves: &[u8; 4384], r: usize, word: u64) -> u64
+    requires { ⌜ r < 64 ⌝ }
+{
+    rewritten_word(words, moves, 2 * r + 1, word)
+}
+
+// The next candidate after a candidate, by rule r with k labels; the first one again after the last.
+pub fn next_candidate(groups: &[u64; 2176], k: u64, r: usize, word: u64) -> u64
+    requires { ⌜ (k ≤ 16) × (r < 64) ⌝ }
+{
+    let at = 34 * r;
+    let count = (groups[at] % 17) as usize;
+    let mut next = word;
+    let mut g: usize = 0;
+    while g < count {
+        let group = groups[at + 1 + 2 * g];
+        let label = digit(next, (groups[at + 2 + 2 * g] % 16) as usize) + 1;
+        next = (next | group) ^ group;
+        if label < k {
+            return next | (group & (label * 1229782938247303441));
+        }
+        g += 1;
+    }
+    next
+}

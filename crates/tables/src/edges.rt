@@ -1,0 +1,83 @@
+// Costs by one rule, as a table has them. Costs are 64 bits wide here, so that none wraps and one number stands above them all.
+ghost use mathlib.Core.Path.{_≡_};
+ghost use Prim.Native.Nat.{_≤_, _<_};
+ghost use lib.ListN.{length};
+ghost use Rattle.blocks.specs.Layout.{rules, abstractStates};
+ghost use Rattle.words.specs.Ranking.{wordOf};
+ghost use Rattle.distances.specs.Filling.{via, Best};
+ghost use Rattle.tables.specs.Abstraction.{graphOf, Ready};
+use blocks::layout;
+use words::ranking::rank_word;
+use words::sides::applies_word;
+use words::sides::cost_word;
+use words::sides::step_word;
+
+// The mark 'no path'.
+pub const MARK: u32 = 4294967295;
+
+// What stands for no cost.
+pub const NONE: u64 = 8589934592;
+
+// An entry as a wide cost.
+pub fn wide_entry(entry: u32) -> u64
+    ensures { λ x. ⌜ x ≡ entry ⌝ }
+{
+    entry as u64
+}
+
+// The cost by rule r from the state of rank u, whose word is given; NONE where the rule does not apply or leads to a marked state.
+fn by_rule(
+    block: &[u8],
+    words: &[u64; 608],
+    moves: &[u8; 4384],
+    weights: &[u16; 256],
+    table: &[u32],
+    u: usize,
+    word: u64,
+    r: usize,
+) -> u64
+    requires { ⌜ Ready (now block) (now words) (now moves) (now weights) × (abstractStates (now block) ≤ length (now table)) ⌝ }
+    requires { ⌜ (u < abstractStates (now block)) × (word ≡ wordOf (now block) u) × (r < rules (now block)) ⌝ }
+    ensures { λ x. ⌜ x ≡ via (graphOf (now (block .entry))) (now (table .entry)) u r ⌝ }
+{
+    if !applies_word(words, moves, r, word) {
+        return NONE;
+    }
+    let v = rank_word(
+        weights,
+        layout::positions(block),
+        step_word(words, moves, r, word),
+    );
+    let entry = table[v];
+    if entry < MARK {
+        return wide_entry(entry) + cost_word(words, r);
+    }
+    NONE
+}
+
+// The least cost by one rule from the state of rank u.
+pub fn best(
+    block: &[u8],
+    words: &[u64; 608],
+    moves: &[u8; 4384],
+    weights: &[u16; 256],
+    table: &[u32],
+    u: usize,
+    word: u64,
+) -> u64
+    requires { ⌜ Ready (now block) (now words) (now moves) (now weights) × (abstractStates (now block) ≤ length (now table)) ⌝ }
+    requires { ⌜ (u < abstractStates (now block)) × (word ≡ wordOf (now block) u) ⌝ }
+    ensures { λ x. ⌜ Best (graphOf (now (block .entry))) (now (table .entry)) u x ⌝ }
+{
+    let rules = layout::rules(block);
+    let mut least = NONE;
+    let mut r: usize = 0;
+    while r < rules {
+        let cost = by_rule(block, words, moves, weights, table, u, word, r);
+        if cost < least {
+            least = cost;
+        }
+        r += 1;
+    }
+    least
+}

@@ -1,0 +1,94 @@
+// The lower-bound test.
+ghost use mathlib.Core.Path.{_≡_};
+ghost use Prim.Native.Nat.{_≤_, _<_};
+ghost use lib.ListN.{length};
+ghost use Rattle.blocks.specs.Layout.{abstractStates};
+ghost use Rattle.blocks.specs.Validity.{Valid};
+ghost use Rattle.words.specs.Ranking.{wordOf};
+ghost use Rattle.distances.specs.LowerBounds as test;
+ghost use Rattle.tables.specs.Abstraction.{graphOf, Relabelled, Ready};
+ghost use Rattle.tables.specs.Tables.{passesTest};
+use super::edges::MARK;
+use super::edges::NONE;
+use super::edges::best;
+use super::edges::wide_entry;
+use blocks::layout;
+use psvn::relabelling::relabel_block;
+use words::compiling::compile;
+use words::ranking::word_of;
+use words::sides::meets_word;
+
+// Whether the table passes at the state of rank u, whose word is given.
+fn passes_at(
+    block: &[u8],
+    words: &[u64; 608],
+    moves: &[u8; 4384],
+    weights: &[u16; 256],
+    table: &[u32],
+    u: usize,
+    word: u64,
+) -> bool
+    requires { ⌜ Ready (now block) (now words) (now moves) (now weights) × (abstractStates (now block) ≤ length (now table)) ⌝ }
+    requires { ⌜ (u < abstractStates (now block)) × (word ≡ wordOf (now block) u) ⌝ }
+    ensures { λ x. ⌜ x ≡ test.passesAt (graphOf (now (block .entry))) (now (table .entry)) u ⌝ }
+{
+    let entry = table[u];
+    if 0 < entry {
+        if meets_word(words, moves, layout::goals(block), word) {
+            return false;
+        }
+    }
+    let least = best(block, words, moves, weights, table, u, word);
+    if NONE <= least {
+        return true;
+    }
+    if entry < MARK {
+        return wide_entry(entry) <= least;
+    }
+    false
+}
+
+// Whether the table passes at every abstract state of a compiled block.
+fn passes_everywhere(
+    block: &[u8],
+    words: &[u64; 608],
+    moves: &[u8; 4384],
+    weights: &[u16; 256],
+    table: &[u32],
+) -> bool
+    requires { ⌜ Ready (now block) (now words) (now moves) (now weights) × (abstractStates (now block) ≤ length (now table)) ⌝ }
+    ensures { λ x. ⌜ x ≡ test.passes (graphOf (now (block .entry))) (now (table .entry)) ⌝ }
+{
+    let states = layout::abstract_states(block);
+    let mut u: usize = 0;
+    while u < states {
+        if !passes_at(block, words, moves, weights, table, u, word_of(block, u)) {
+            return false;
+        }
+        u += 1;
+    }
+    true
+}
+
+// Compiles a relabelled block and tests the table.
+fn passes_relabelled(block: &[u8], table: &[u32]) -> bool
+    requires { ⌜ Relabelled (now block) × (abstractStates (now block) ≤ length (now table)) ⌝ }
+    ensures { λ x. ⌜ x ≡ test.passes (graphOf (now (block .entry))) (now (table .entry)) ⌝ }
+{
+    let mut words = [0u64; 608];
+    let mut moves = [0u8; 4384];
+    let mut weights = [0u16; 256];
+    compile(block, &mut words, &mut moves, &mut weights);
+    passes_everywhere(block, &words, &moves, &weights, table)
+}
+
+// Whether a table passes the lower-bound test.
+pub fn passes(block: &[u8], table: &[u32]) -> bool
+    requires { ⌜ Valid (now block) × (abstractStates (now block) ≤ length (now table)) ⌝ }
+    ensures { λ x. ⌜ x ≡ passesTest (now (block .entry)) (now (table .entry)) ⌝ }
+{
+    let length = layout::relabelled_length(block);
+    let mut relabelled = [0u8; 2304];
+    relabel_block(block, &mut relabelled);
+    passes_relabelled(&relabelled[..length], table)
+}
