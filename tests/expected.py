@@ -3,6 +3,7 @@
 
 expected.py PROGRAM prints it; its output is kept as crates/PROGRAM/stdout.
 """
+import collections
 import itertools
 import math
 import sys
@@ -13,8 +14,8 @@ import reference
 class Random:
     """The seeds of crates/generating/src/choosing.rt."""
 
-    def __init__(self):
-        self.seed = 1
+    def __init__(self, seed=1):
+        self.seed = seed
 
     def choose(self, n):
         value = self.seed // 1024 % n if n else 0
@@ -32,30 +33,67 @@ class Sum:
         for x in numbers:
             self.total = (self.total * 31 + x % 65536 + 1) % (2**31 - 1)
 
+    def mix_entries(self, *entries):
+        """Both halves of each entry."""
+        self.mix(*(half for entry in entries for half in (entry // 65536, entry)))
 
-def random_term(random, labels):
+
+# Of eight terms, how many are labels, and how many labels or variables: left terms, those of a block that is to be accepted, and its goals,
+# which few states meet.
+MIXED, LIGHT, FIRM = (2, 5), (2, 4), (6, 7)
+
+
+def random_term(random, labels, mix):
     kind = random.choose(8)
-    if kind < 2:
+    if kind < mix[0]:
         return random.choose(labels)
-    return 16 + random.choose(3) if kind < 5 else 255
+    return 16 + random.choose(3) if kind < mix[1] else 255
 
 
-def random_parts(random, head):
-    """A whole block with this head."""
+def random_right(random, left, place, labels):
+    """A right term of a block that need not be accepted."""
+    return random_term(random, labels, MIXED) if random.choose(16) == 0 else left[random.choose(len(left))]
+
+
+def random_bound(random, left, place, labels):
+    """A right term that has a binding or needs none."""
+    kind, free = random.choose(8), left[place] == 255
+    if kind < (2 if free else 5):
+        return random.choose(labels)
+    return 255 if free or kind == 7 else left[random.choose(len(left))]
+
+
+def random_parts(random, head, accepted=False):
+    """A whole block with this head; it need not be accepted, or it is, and then many of its rules cost nothing, or the same."""
     n, labels, abstracts, rules, goals = head
-    out = head + [random.choose(abstracts) for _ in range(labels)]
+    out = list(head)
+    for label in range(labels):
+        either = not accepted or random.choose(4) == 0
+        out.append(random.choose(abstracts) if either else label % abstracts)
     for _ in range(rules):
-        out.append(random.choose(256))
-        left = len(out)
-        out += [random_term(random, labels) for _ in range(n)]
-        for _ in range(n):
-            any_term = random.choose(16) == 0
-            out.append(random_term(random, labels) if any_term else out[left + random.choose(n)])
-    return out + [random_term(random, labels) for _ in range(n * goals)]
+        out.append(random.choose([1, 4, 4, 256][random.choose(4)] if accepted else 256))
+        left = [random_term(random, labels, LIGHT if accepted else MIXED) for _ in range(n)]
+        right = random_bound if accepted else random_right
+        out += left + [right(random, left, place, labels) for place in range(n)]
+    return out + [random_term(random, labels, FIRM if accepted else MIXED) for _ in range(n * goals)]
+
+
+def random_table_block(random):
+    """A block for a table of at most 4,096 entries."""
+    n = random.choose(3) + random.choose(4) + 1
+    labels = 1 if random.choose(8) == 0 else random.choose(3) + 2
+    abstracts = random.choose(labels) + 1 if random.choose(8) == 0 else labels
+    rules = random.choose(13) if random.choose(4) == 0 else random.choose(5) + 8
+    return random_parts(random, [n, labels, abstracts, rules, random.choose(3) + 1], accepted=True)
+
+
+def random_block_of(random, n, labels, rules, goals):
+    """A block that is accepted, with as many abstract labels as labels."""
+    return random_parts(random, [n, labels, labels, rules, goals], accepted=True)
 
 
 def random_block(random):
-    """A block, damaged one time in two, and its first two bytes."""
+    """A block, damaged one time in two, and its first three bytes."""
     most = 16 if random.choose(8) == 0 else 4
     n, labels = random.choose(most) + 1, random.choose(most) + 1
     out = random_parts(random, [n, labels, random.choose(labels) + 1, random.choose(5), random.choose(3) + 1])
@@ -67,10 +105,11 @@ def random_block(random):
         place = random.choose(length)
         byte = random.choose(40)
         out[place] = byte if byte < 36 else byte + 216
-    return (out + [0])[:length], out[:2]
+    return (out + [0])[:length], out[:3]
 
 
-def random_state(random, n, labels):
+def random_state(random, head):
+    n, labels = head[:2]
     kind = random.choose(12)
     length = n + 1 if kind == 0 else n // 2 if kind == 1 else n
     state = []
@@ -86,7 +125,7 @@ def trials():
         total, accepted, done, met = Sum(), 0, 0, 0
         for _ in range(1000):
             block, head = random_block(random)
-            state = random_state(random, *head)
+            state = random_state(random, head)
             rule, room = random.choose(6), random.choose(401)
             verdict, goal = reference.check_block(block), reference.test_goals(block, state)
             total.mix(verdict, answer(goal))
@@ -136,7 +175,7 @@ def answer(value):
     if isinstance(value, tuple):
         return 100 + value[1]
     if isinstance(value, (str, bool)):
-        return 100 if value in ('done', 'found', True) else 101
+        return 100 if value in ('done', 'found', 'filled', True) else 101
     return value
 
 
@@ -194,18 +233,20 @@ def replay_answer(value):
     return [100, 0, value[1]] if value[0] == 'done' else [101, *value[1:]]
 
 
-def block_of(n, labels, rules):
-    """A block with one abstract label and a goal of dashes. A rule is a cost and two sides: labels as hexadecimal digits, variables as letters, dashes."""
+def block_of(n, labels, rules, goals=None, mapped=None):
+    """A block. A rule is a cost and two sides, a goal one: labels as hexadecimal digits, variables as letters, dashes.
 
-    def term(character):
-        if character == '-':
-            return 255
-        return '0123456789abcdefABCDEFGHIJKLMNOP'.index(character)
+    There is one abstract label, or as many as labels where the map is given; the goal is one of dashes where none is given.
+    """
 
-    out = [n, labels, 1, len(rules), 1] + [0] * labels
+    def terms(side):
+        return [255 if term == '-' else '0123456789abcdefABCDEFGHIJKLMNOP'.index(term) for term in side]
+
+    goals = goals or ['-' * n]
+    out = [n, labels, labels if mapped else 1, len(rules), len(goals), *(mapped or [0] * labels)]
     for cost, left, right in rules:
-        out += [cost, *map(term, left), *map(term, right)]
-    return out + [255] * n
+        out += [cost, *terms(left), *terms(right)]
+    return out + [byte for goal in goals for byte in terms(goal)]
 
 
 def retracing():
@@ -312,6 +353,106 @@ def recorded_runs():
         numbers([*replay_answer(value), *out, *[170] * (5 - room)])
 
 
+# What stands in a table before it is filled.
+UNWRITTEN = 0xAAAAAAAA
+
+
+def look_up_answer(value):
+    """Answer and entry of a look-up."""
+    return [100, value[1]] if isinstance(value, tuple) else [value, 0]
+
+
+def worked_tables():
+    mark = reference.MARK
+
+    def test(block, table):
+        return answer(reference.test_table(block, table))
+
+    def fill(block, table):
+        value, filled = reference.fill_table(block, table)
+        numbers([answer(value), *filled])
+        return filled
+
+    def exercise(block):
+        table = fill(block, [UNWRITTEN] * 10)
+        numbers([test(block, table)])
+        for at, entry in enumerate(table):
+            others = [min(entry + 1, mark), max(entry - 1, 0), mark, 0, mark - 1]
+            numbers(test(block, table[:at] + [other] + table[at + 1 :]) for other in others)
+
+    def one_rule(cost):
+        return block_of(1, 3, [(cost, '0', '1')], ['2'], [0, 1, 2])
+
+    print('input E: the fill; the test, then with each element raised, lowered, marked, 0 and large')
+    exercise(E)
+    print('the test on zeros')
+    numbers([test(E, [0] * 10)])
+    print('<0> to <1> at cost 255')
+    exercise(one_rule(255))
+    print('one abstract label')
+    exercise(block_of(3, 2, [(7, '0A-', '1-A'), (0, '---', '---')], ['101']))
+    print('no rules')
+    exercise(block_of(2, 2, [], ['1-'], [0, 1]))
+    print('cycles at no cost, with and without a way to the goal')
+    steps = [(0, '0', '1'), (0, '1', '2'), (0, '2', '0'), (5, '2', '3'), (0, '4', '5'), (0, '5', '4')]
+    exercise(block_of(1, 6, steps, ['3'], list(range(6))))
+    print('three goals')
+    exercise(block_of(2, 3, [(4, '01', '-0'), (3, '1A', 'A1')], ['AA', '2-', '02'], [0, 1, 2]))
+    print('a goal of dashes')
+    exercise(block_of(2, 2, [(1, '0-', '1-')], ['00', '--'], [0, 1]))
+    print('a map that is not onto')
+    exercise(block_of(2, 3, [(1, 'PO', 'OP'), (2, '1P', '2-')], ['22'], [0, 0, 2]))
+    print('input E over 0, 1, 4294967294 and the mark: the fill; the test, on zeros too')
+    for contents in (0, 1, mark - 1, mark):
+        filled = fill(E, [contents] * 10)
+        numbers([test(E, filled), test(E, [0] * 8 + [contents] * 2)])
+    table = [mark, mark, mark, 2, mark, 1, 0, mark, 0, 0]
+    failing = [9, 8, 7, 6, 5, mark - 1, mark, 2, 1, 0]
+
+    def look_up(block, state, table):
+        return look_up_answer(reference.look_up(block, state, table))
+
+    def estimates(table):
+        for first in range(3):
+            states = [[first, second, third] for second in range(3) for third in range(3)]
+            numbers(x for state in states for x in look_up(E, state, table))
+
+    print("the estimates of <0,0,0>, .., <2,2,2> by input E's table")
+    estimates(table)
+    print('and by a table that fails the test')
+    numbers([test(E, failing)])
+    estimates(failing)
+    entries = [0, 1, 2, 254, 255, 256, 257, mark - 257, mark - 256, mark - 255, mark - 2, mark - 1, mark]
+
+    def rows(title, cost):
+        print(title)
+        for v in entries:
+            numbers(test(one_rule(cost), [u, v, 0]) for u in entries)
+
+    rows('<0> to <1> at cost 0: for each entry of <1> a line, for each entry of <0> the test', 0)
+    rows('at cost 1', 1)
+    rows('at cost 255', 255)
+    print('for each entry of the goal the test')
+    numbers(test(one_rule(1), [0, 0, goal]) for goal in entries)
+    print('the fill of input E into 0 to 10 elements, then with fault 7')
+    for faults in (set(), {'variable'}):
+        for length in range(11):
+            value, filled = reference.fill_table(faulty(faults), [UNWRITTEN] * length)
+            numbers([answer(value), *filled, *[UNWRITTEN] * (10 - length)])
+    print('the test on the first 0 to 10 elements, then with fault 7')
+    for faults in (set(), {'variable'}):
+        numbers(test(faulty(faults), table[:length]) for length in range(11))
+    print('the estimate of <1,2,0> by the first 0 to 10 elements, with every set of faults 7, 8')
+    for k in range(4):
+        faults = subset(k, ['variable', 'state'])
+        state = [1, 2, 3 if 'state' in faults else 0]
+        numbers(x for length in range(11) for x in look_up(faulty(faults), state, table[:length]))
+    print('the estimate of none, two, three and four labels, by ten elements and by seven')
+    for length in (10, 7):
+        for count in (0, 2, 3, 4):
+            numbers(look_up(E, [1, 2, 0, 0][:count], table[:length]))
+
+
 def compare_rule(random, total):
     """All steps back of one small rule by going through all states.
 
@@ -363,7 +504,7 @@ def back_calls():
         for _ in range(1000):
             block, head = random_block(random)
             rule, room = random.choose(5), random.choose(25)
-            state, earlier = random_state(random, *head), random_state(random, *head)
+            state, earlier = random_state(random, head), random_state(random, head)
             applied, image = reference.apply_rule(block, rule, state, [0] * 32)
             given = image[: len(state)] if applied == 'done' else state
             for before in (None, earlier):
@@ -473,7 +614,7 @@ def replay_trials():
         for _ in range(1000):
             block, head = random_block(random)
             room = random.choose(25)
-            start = random_state(random, *head)
+            start = random_state(random, head)
             rules = random_list(random, block, start)
             value, out = reference.replay(block, start, rules, [170] * room)
             total.mix(*replay_answer(value), *out, *[170] * (24 - room))
@@ -483,6 +624,144 @@ def replay_trials():
         numbers([*counts.values(), applied, total.total])
 
 
+def random_entry(random, entry):
+    """What stands for an entry: the mark, 0, a large one, one raised or lowered a little."""
+    kind, amount = random.choose(8), random.choose(3) + 1
+    others = [reference.MARK, 0, reference.MARK - amount]
+    raised, lowered = min(entry + amount, reference.MARK), max(entry - amount, 0)
+    return others[kind] if kind < 3 else raised if kind < 5 else lowered
+
+
+class TableBatch:
+    """The calls on tables of 4,104 elements, their answers counted by lines and summed up."""
+
+    lines = ['fill', 'filled', 'zeros', 'one changed', 'many changed', 'look-up', 'damaged fill', 'damaged test', 'damaged look-up']
+    most = 4104
+
+    def __init__(self, random):
+        self.random, self.total, self.entries, self.marked = random, Sum(), 0, 0
+        self.answers = {line: collections.Counter() for line in self.lines}
+
+    def count(self, line, value):
+        self.answers[line][value] += 1
+        self.total.mix(value)
+
+    def fill(self, line, block, room):
+        """Fills the first `room` elements of a table, and gives back all of it."""
+        lent = min(room, self.most)
+        value, table = reference.fill_table(block, [UNWRITTEN] * lent)
+        table += [UNWRITTEN] * (self.most - lent)
+        self.count(line, answer(value))
+        self.total.mix_entries(*table[: room + 4])
+        return table
+
+    def test(self, line, block, table):
+        self.count(line, answer(reference.test_table(block, table)))
+
+    def look_up(self, line, block, table):
+        value, entry = look_up_answer(reference.look_up(block, random_state(self.random, block), table))
+        self.count(line, value)
+        self.total.mix_entries(entry)
+
+    def run_whole(self):
+        """The calls on an exercise that is accepted."""
+        random = self.random
+        block = random_table_block(random)
+        length = block[2] ** block[0]
+        table = self.fill('fill', block, length + random.choose(8))
+        self.entries += length
+        self.marked += table[:length].count(reference.MARK)
+        self.test('filled', block, table)
+        for _ in range(3):
+            at = random.choose(length)
+            self.test('one changed', block, table[:at] + [random_entry(random, table[at])] + table[at + 1 :])
+        self.look_up('look-up', block, table)
+        rate = 4 ** random.choose(4)
+        for at in range(length):
+            if random.choose(rate) == 0:
+                table[at] = random_entry(random, table[at])
+        self.test('many changed', block, table)
+        self.look_up('look-up', block, table)
+        self.test('zeros', block, [0] * self.most)
+
+    def run_damaged(self):
+        """The calls on an exercise that may be damaged, with a table that may be too short."""
+        random = self.random
+        block, (n, _, abstracts) = random_block(random)
+        room = max(min(abstracts**n, 16384) + random.choose(8) - 2, 0)
+        at = random.choose(room)
+        table = self.fill('damaged fill', block, room)
+        entry = random_entry(random, table[at] if at < self.most else 0)
+        if at < self.most:
+            table[at] = entry
+        self.test('damaged test', block, table[:room])
+        self.look_up('damaged look-up', block, table[:room])
+
+    def print(self):
+        for counts in self.answers.values():
+            numbers(counts[value] for value in (100, 101, 3, 4, 5, 6, 7, 8, 12))
+        numbers([self.entries, self.marked, self.total.total])
+
+
+def table_trials():
+    random = Random()
+    print('the fill; the test on filled tables, on zeros, with one entry changed, with many; look-ups; then damaged exercises')
+    for _ in range(10):
+        batch = TableBatch(random)
+        for _ in range(150):
+            batch.run_whole()
+            batch.run_damaged()
+        batch.print()
+
+
+def counter(direction, cost):
+    """0 1 .. 1 at the end become 1 0 .. 0, up to all ones; the other way round where the direction is -1."""
+    sides = [('-' * (13 - ones) + '0' + '1' * ones, '-' * (13 - ones) + '1' + '0' * ones) for ones in range(14)]
+    rules = [(cost, left[::direction], right[::direction]) for left, right in sides]
+    return block_of(14, 2, rules, ['1' * 14], [0, 1])
+
+
+def rings():
+    """A ring turns where the next one to the end is 1 and all behind that are 0; the last turns always."""
+    rules = []
+    for ring in range(14):
+        before, behind = '-' * (13 - ring), ('1' + '0' * (ring - 1)) if ring else ''
+        rules += [(1, before + old + behind, before + new + '-' * ring) for old, new in ('01', '10')]
+    return block_of(14, 2, rules, ['0' * 14], [0, 1])
+
+
+def fill_order():
+    random = Random()
+    print('fills, of these with an entry lowered late; marked entries; sum')
+    for _ in range(12):
+        total, marked = Sum(), 0
+        for _ in range(50):
+            block = random_table_block(random)
+            filled = reference.fill_table(block, [UNWRITTEN] * block[2] ** block[0])[1]
+            total.mix(100)
+            total.mix_entries(*filled)
+            marked += filled.count(reference.MARK)
+        numbers([50, 0, marked, total.total])
+
+    def large(title, *blocks):
+        print(title)
+        for block in blocks:
+            total = Sum()
+            filled = reference.fill_table(block, [UNWRITTEN] * 16384)[1]
+            total.mix_entries(*filled)
+            unmarked = [entry for entry in filled[: block[2] ** block[0]] if entry != reference.MARK]
+            numbers([100, max(unmarked), filled.count(reference.MARK), total.total])
+
+    large('a counter: 100, or 101 where an entry was lowered late; largest entry, marked; sum', counter(1, 1))
+    large('the other way round, and where each step costs 255', counter(-1, 1), counter(1, 255))
+    large('rings', rings())
+    heads = [(5, 14, 2, 64, 1), (9, 14, 2, 64, 8), (5, 7, 4, 30, 1), (9, 6, 5, 20, 2), (5, 4, 11, 16, 3)]
+    heads += [(1, 3, 16, 16, 8), (1, 16, 1, 64, 8)]
+    blocks = [random_block_of(Random(seed), *head) for seed, *head in heads]
+    large('random rules: 14, 14, 7, 6, 4, 3 and 16 positions', *blocks)
+
+
 if __name__ == '__main__':
-    programs = [back_calls, back_trials, exercises, recorded_runs, replay_trials, retracing, trials, wide_states]
+    programs = [back_calls, back_trials, exercises, fill_order, recorded_runs, replay_trials, retracing]
+    programs += [table_trials, trials, wide_states, worked_tables]
     {program.__name__: program for program in programs}[sys.argv[1]]()

@@ -1,8 +1,14 @@
-"""An independent reading of the language: blocks, states, matching, applying, goals, relabelling, stepping back, reversible rules, replay.
+"""An independent reading of the language: blocks, states, matching, applying, goals, relabelling, stepping back, reversible rules, replay, tables.
 
 It shares nothing with the crates. The expected outputs of the test programs are made from it (expected.py).
 """
+import functools
+import heapq
+import itertools
 import math
+
+# The mark 'no path'.
+MARK = 2**32 - 1
 
 
 class Refused(Exception):
@@ -155,6 +161,69 @@ class Exercise:
         return block
 
 
+class Abstraction:
+    """The relabelled exercise: its states in the order of their ranks, the ranks of those that meet a goal, and each step (u, cost, v) of its rules."""
+
+    def __init__(self, exercise):
+        self.map = exercise.map
+        self.relabelled = Exercise(exercise.relabelled())
+        labels = range(exercise.abstracts)
+        self.states = [list(state) for state in itertools.product(labels, repeat=exercise.n)]
+        self.ranks = {tuple(state): rank for rank, state in enumerate(self.states)}
+
+    def estimate(self, state, table):
+        return table[self.ranks[tuple(self.map[label] for label in state)]]
+
+    @functools.cached_property
+    def goals(self):
+        return [rank for rank, state in enumerate(self.states) if self.relabelled.meets(state)]
+
+    @functools.cached_property
+    def steps(self):
+        found = []
+        for rule, (cost, _, _) in enumerate(self.relabelled.rules):
+            images = (self.relabelled.apply(rule, state) for state in self.states)
+            found += [(u, cost, self.ranks[tuple(image)]) for u, image in enumerate(images) if image is not None]
+        return found
+
+    def least_costs(self):
+        """The least cost of a list of rules from each state to a goal: states are settled from the goals backwards, the nearest first."""
+        before = [[] for _ in self.states]
+        for u, cost, v in self.steps:
+            before[v].append((cost, u))
+        table = [MARK] * len(self.states)
+        waiting = [(0, goal) for goal in self.goals]
+        while waiting:
+            total, v = heapq.heappop(waiting)
+            if table[v] == MARK:
+                table[v] = total
+                for cost, u in before[v]:
+                    heapq.heappush(waiting, (total + cost, u))
+        return table
+
+    def passes(self, table):
+        """The lower-bound test."""
+        if any(table[goal] != 0 for goal in self.goals):
+            return False
+        asked = ((u, cost, v) for u, cost, v in self.steps if table[v] != MARK)
+        return all(table[u] != MARK and table[u] <= cost + table[v] for u, cost, v in asked)
+
+
+@functools.lru_cache(maxsize=2)
+def abstraction(block):
+    return Abstraction(Exercise(block))
+
+
+def accepted_abstraction(block, state, table):
+    """The abstraction of a block, with the state (None: there is none) and the length of the table accepted too."""
+    exercise = Exercise(block)
+    if state is not None:
+        exercise.state(state)
+    if len(table) < exercise.abstracts**exercise.n:
+        raise Refused(12)
+    return abstraction(tuple(block))
+
+
 def written(new, out):
     """The buffer with the new bytes at its front, or as it was where there are none."""
     return list(out) if new is None else new + list(out[len(new) :])
@@ -244,3 +313,26 @@ def replay(block, start, numbers, out):
         return ('done', cost), written(state, out)
     except Refused as r:
         return r.number, list(out)
+
+
+def fill_table(block, table):
+    """The answer and the contents of the table afterwards."""
+    try:
+        return 'filled', written(accepted_abstraction(block, None, table).least_costs(), table)
+    except Refused as r:
+        return r.number, list(table)
+
+
+def test_table(block, table):
+    try:
+        return accepted_abstraction(block, None, table).passes(table)
+    except Refused as r:
+        return r.number
+
+
+def look_up(block, state, table):
+    """The answer, ('entry', the entry) or a number."""
+    try:
+        return 'entry', accepted_abstraction(block, state, table).estimate(state, table)
+    except Refused as r:
+        return r.number

@@ -28,16 +28,26 @@ pub fn forward(cursor: u64) -> u64 {
     (cursor / SEEDS % 65536 + 1) * SEEDS + cursor % SEEDS
 }
 
-// The number below n that a cursor's seed chooses, or 0 where n is 0.
-pub fn chosen(cursor: u64, n: u64) -> u64 {
+// What is left of x modulo n, or 0 where n is 0.
+pub fn rest(x: u64, n: u64) -> u64 {
     if n == 0 {
         return 0;
     }
-    cursor % SEEDS / 1024 % n
+    x % n
+}
+
+// The number below n that a cursor's seed chooses, or 0 where n is 0.
+pub fn chosen(cursor: u64, n: u64) -> u64 {
+    rest(cursor % SEEDS / 1024, n)
 }
 
 // Writes a byte at the cursor's place, and goes forward.
 pub fn write(out: &mut [u8], cursor: u64, byte: u64) -> u64 {
     put(out, place(cursor), (byte % 256) as u8);
     forward(cursor)
+}
+
+// Writes a chosen number below n, and `more` on top.
+pub fn write_chosen(out: &mut [u8], cursor: u64, n: u64, more: u64) -> u64 {
+    write(out, next(cursor), chosen(cursor, n) % 256 + more % 256)
 }

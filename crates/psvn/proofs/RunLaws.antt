@@ -1,5 +1,6 @@
 -- Laws of lists of rule numbers: one rule more at the end (`run-more`, `cost-more`, `in-turn-more`), what it says of each rule that the rules apply in turn
--- (`in-turn-at`, `in-turn-intro`), how long the last state is (`run-length`), and that it is valid where the first one is (`run-state`).
+-- (`in-turn-at`, `in-turn-intro`), how long the last state is (`run-length`), and that it is valid where the first one is (`run-state`); a list reaches a goal exactly where its numbers are those of
+-- rules, they apply in turn and the last state meets a goal (`reaches-run`, `run-reaches`).
 -- Replay, tables and the search rest on these.
 use mathlib.Core.Path.{_≡_, refl, sym, ap, _∙_}
 use mathlib.Core.Bool.{Bool, true, _&&_, and-assoc, and-comm}
@@ -7,15 +8,17 @@ use mathlib.Core.List.{List, [], _∷_, _++_}
 use Prim.Native.Nat.{ℕ, zero, suc, _+_, _<_}
 use native.Mathlib.Nat.{not-suc-le-zero, le-of-suc-le-suc}
 use native.Mathlib.Omega.{arith}
+use lib.Dec.{ltb}
 use lib.ListN.{length, getD, take}
+use borrow.Author.Tests.{ltb-true, lt-ltb}
 use Rattle.basics.proofs.Truth.{and-true, and-intro}
 use Rattle.basics.proofs.Lists.{length-tabulate}
 use Rattle.blocks.specs.Terms.{termOf}
 use Rattle.blocks.specs.Layout.{positions, rules, costOf, leftOf, rightOf}
 use Rattle.blocks.specs.Validity.{Valid}
 use Rattle.blocks.specs.States.{stateOk}
-use Rattle.psvn.specs.Rules.{given, rewritten, applies, step}
-use Rattle.psvn.specs.Runs.{applyInTurn, run, totalCost}
+use Rattle.psvn.specs.Rules.{given, rewritten, applies, step, meets}
+use Rattle.psvn.specs.Runs.{applyInTurn, run, totalCost, reaches}
 use Rattle.psvn.proofs.Stepping.{step-state}
 
 module _ (b : List ℕ) where
@@ -68,3 +71,36 @@ module _ (b : List ℕ) where
   run-state v s [] ok h = ok
   run-state v s (x ∷ rs) ok h =
       run-state v (step b x s) rs (step-state b v x (h 0 (omega arith)) s ok) (λ i l. h (suc i) (omega arith))
+
+  -- a list that reaches a goal
+  pub record Reaching (s rs : List ℕ) : Type 0 where
+    pub numbers : (i : ℕ) → i < length rs → getD rs i 0 < rules b
+    pub in-turn : applyInTurn b s rs ≡ true
+    pub goal : meets b (run b s rs) ≡ true
+
+  pub reaches-run : (s rs : List ℕ) → reaches b s rs ≡ true → Reaching s rs
+  reaches-run s [] h = record { numbers = λ i l. absurd (not-suc-le-zero l); in-turn = refl; goal = h }
+  reaches-run s (r ∷ rs) h =
+      let (number, rest) = and-true (ltb r (rules b)) _ h in
+      let (first, others) = and-true (applies b r s) _ rest in
+      let q = reaches-run (step b r s) rs others in
+      record {
+        numbers = numbers-more r rs (ltb-true r (rules b) number) (q .numbers);
+        in-turn = and-intro (applies b r s) _ first (q .in-turn);
+        goal = q .goal;
+      }
+    where
+      numbers-more :
+          (r : ℕ) (rs : List ℕ) → r < rules b → ((i : ℕ) → i < length rs → getD rs i 0 < rules b)
+          → (i : ℕ) → i < length (r ∷ rs) → getD (r ∷ rs) i 0 < rules b
+      numbers-more r rs l h zero k = l
+      numbers-more r rs l h (suc i) k = h i (le-of-suc-le-suc k)
+
+  pub run-reaches : (s rs : List ℕ) → Reaching s rs → reaches b s rs ≡ true
+  run-reaches s [] q = q .goal
+  run-reaches s (r ∷ rs) q =
+      let (first, others) = and-true (applies b r s) _ (q .in-turn) in
+      and-intro (ltb r (rules b)) _ (lt-ltb r (rules b) (q .numbers 0 (omega arith)))
+      (and-intro (applies b r s) _ first
+      (run-reaches (step b r s) rs
+      (record { numbers = λ i l. q .numbers (suc i) (omega arith); in-turn = others; goal = q .goal })))

@@ -1,10 +1,13 @@
 // A number for each answer: the refusal's, or one from 100 on; 0 for an accepted block.
 use engine::Application;
+use engine::Estimate;
+use engine::Filling;
 use engine::GoalTest;
 use engine::Predecessor;
 use engine::Relabelling;
 use engine::Replay;
 use engine::Reversibility;
+use engine::TableTest;
 use refusals::Verdict;
 use refusals::number;
 
@@ -78,5 +81,35 @@ pub fn replay_cost(answer: Replay) -> u64 {
         Replay::Done(cost) => cost as u64,
         Replay::Stuck(_, cost) => cost as u64,
         Replay::Refused(_) => 0,
+    }
+}
+
+pub fn estimate_number(answer: Estimate) -> u64 {
+    match answer {
+        Estimate::Entry(_) => 100,
+        Estimate::Refused(refusal) => number(refusal) as u64,
+    }
+}
+
+// The entry of a look-up, or 0 where it is refused.
+pub fn estimate_entry(answer: Estimate) -> u32 {
+    match answer {
+        Estimate::Entry(entry) => entry,
+        Estimate::Refused(_) => 0,
+    }
+}
+
+pub fn filling_number(answer: Filling) -> u64 {
+    match answer {
+        Filling::Filled => 100,
+        Filling::Refused(refusal) => number(refusal) as u64,
+    }
+}
+
+pub fn table_test_number(answer: TableTest) -> u64 {
+    match answer {
+        TableTest::Passes => 100,
+        TableTest::Fails => 101,
+        TableTest::Refused(refusal) => number(refusal) as u64,
     }
 }

@@ -1,4 +1,5 @@
 // Lines of numbers.
+use super::table_parts::wide_entry;
 use libc::STDOUT_FILENO;
 
 // Prints a number and a blank.
@@ -23,6 +24,16 @@ pub fn numbers(buffer: &[u8]) {
     let mut i = 0;
     while i < buffer.len() {
         number(buffer[i] as u64);
+        i += 1;
+    }
+    end();
+}
+
+// Prints the entries of a table, and ends the line.
+pub fn entries(table: &[u32]) {
+    let mut i = 0;
+    while i < table.len() {
+        number(wide_entry(table[i]));
         i += 1;
     }
     end();

@@ -1,5 +1,6 @@
 // Sums over answers and buffers, and counts.
 use super::parts::wide;
+use super::table_parts::wide_entry;
 
 // The sum with one number more.
 pub fn mixed(sum: u64, x: u64) -> u64 {
@@ -12,6 +13,23 @@ pub fn mixed_all(sum: u64, bytes: &[u8]) -> u64 {
     let mut i = 0;
     while i < bytes.len() {
         total = mixed(total, wide(bytes[i]));
+        i += 1;
+    }
+    total
+}
+
+// The sum with both halves of an entry.
+pub fn mixed_entry(sum: u64, entry: u32) -> u64 {
+    let x = wide_entry(entry);
+    mixed(mixed(sum, x / 65536), x)
+}
+
+// The sum with each entry of a table.
+pub fn mixed_entries(sum: u64, table: &[u32]) -> u64 {
+    let mut total = sum;
+    let mut i = 0;
+    while i < table.len() {
+        total = mixed_entry(total, table[i]);
         i += 1;
     }
     total

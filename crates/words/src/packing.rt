@@ -1,6 +1,6 @@
 // A state as one word: its labels are digits in base 16, position 0 lowest.
 ghost use mathlib.Core.Path.{_≡_};
-ghost use Prim.Native.Nat.{ℕ, _≤_, _<_};
+ghost use Prim.Native.Nat.{ℕ, _%_, _≤_, _<_};
 ghost use lib.ListN.{length, getD};
 ghost use Rattle.words.specs.Packing as packing;
 use blocks::labels::ConcreteLabel;
@@ -13,12 +13,11 @@ pub fn digit(word: u64, i: usize) -> u64
     (word >> (4 * i)) % 16
 }
 
-// The label at position i.
-pub fn label_at(word: u64, i: usize) -> ConcreteLabel
-    requires { ⌜ i < 16 ⌝ }
-    ensures { λ r. ⌜ (r .0 ≡ packing.digit word i) × (r .0 < 16) ⌝ }
+// The label at position 0.
+pub fn first_label(word: u64) -> ConcreteLabel
+    ensures { λ r. ⌜ (r .0 ≡ word % 16) × (r .0 < 16) ⌝ }
 {
-    ConcreteLabel(digit(word, i) as u8)
+    ConcreteLabel((word % 16) as u8)
 }
 
 // The word of a state.

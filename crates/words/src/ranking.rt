@@ -5,6 +5,7 @@ ghost use lib.ListN.{getD};
 ghost use Rattle.blocks.specs.Layout.{abstractStates};
 ghost use Rattle.blocks.specs.Validity.{Headed};
 ghost use Rattle.words.specs.Ranking.{rankWord, wordOf};
+use super::packing::first_label;
 use blocks::labels::ConcreteLabel;
 use blocks::layout;
 
@@ -32,8 +33,7 @@ pub fn rank_word(weights: &[u16; 256], n: usize, word: u64) -> usize
     let mut rest = word;
     let mut i: usize = 0;
     while i < n {
-        let label = ConcreteLabel((rest % 16) as u8);
-        rank += weight(weights, i, label);
+        rank += weight(weights, i, first_label(rest));
         rest = rest / 16;
         i += 1;
     }

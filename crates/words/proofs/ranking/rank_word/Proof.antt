@@ -23,8 +23,8 @@ loop-holds : tie.Need-loop-holds Inv-loop μ-loop
 unfolding rankWord
 loop-holds c = (search needs, sym (div-one (c .args .word)), refl, search needs)
 
-cast-t10 : tie.Need-cast-t10 Inv-loop μ-loop
-cast-t10 c = search needs
+first-label-requires : tie.Need-first-label-requires Inv-loop μ-loop
+first-label-requires c κs = search needs
 
 weight-requires : tie.Need-weight-requires Inv-loop μ-loop
 weight-requires c κs = search needs
@@ -41,10 +41,10 @@ loop-less c = search needs
 loop-again : tie.Need-loop-again Inv-loop μ-loop
 unfolding rankWord digit
 loop-again c =
-    let a = c .before .before .before .args in
-    let i = c .before .before .loop .i in
-    let inv = c .before .before .loop .inv in
-    let d = ap (λ (x : ℕ). x % 16) (inv .1) in (
+    let a = c .before .before .before .before .args in
+    let i = c .before .before .before .loop .i in
+    let inv = c .before .before .before .loop .inv in
+    let d = c .before .first-label .ensures .0 ∙ ap (λ (x : ℕ). x % 16) (inv .1) in (
       search needs,
       ap (λ (x : ℕ). x / 16) (inv .1) ∙ div-div-eq-div-mul (a .word) (16 ^ i) 16
           ∙ ap (λ (x : ℕ). a .word / x) (sym (pow-suc 16 i) ∙ ap (λ (k : ℕ). 16 ^ k) (sym (add-one i))),
@@ -66,7 +66,7 @@ rank-word-spec =
     Inv-loop
     μ-loop
     loop-holds
-    cast-t10
+    first-label-requires
     weight-requires
     add-rank
     add-i

@@ -1,0 +1,50 @@
+-- `fill_order::shapes::write_goal` meets its contract.
+-- The loop's invariant: the buffer keeps its length, and at most all positions are passed.
+use mathlib.Core.Path.{_≡_}
+use Prim.Native.Nat.{_≤_, _-_}
+use lib.ListN.{length}
+use borrow.Author.Needs.{needs}
+use Rattle.fill_order.proofs.shapes.write_goal.Statement.{statement}
+use Rattle.fill_order.proofs.shapes.write_goal.Tie as tie
+
+abbrev Inv-loop : tie.InvT-loop
+Inv-loop out₀ cursor label at₀ i₀ out at i =
+    (i ≤ 14) × (length out ≡ length out₀)
+
+abbrev μ-loop : tie.MeasureT-loop
+μ-loop out₀ cursor label at₀ i₀ out at i = 14 - i
+
+loop-holds : tie.Need-loop-holds Inv-loop μ-loop
+loop-holds c = search needs
+
+write-requires : tie.Need-write-requires Inv-loop μ-loop
+write-requires c κs = search needs
+
+add-i : tie.Need-add-i Inv-loop μ-loop
+add-i c = search needs
+
+loop-less : tie.Need-loop-less Inv-loop μ-loop
+loop-less c = search needs
+
+loop-again : tie.Need-loop-again Inv-loop μ-loop
+loop-again c = search needs
+
+same-length : tie.Need-same-length Inv-loop μ-loop
+same-length c = search needs
+
+returns : tie.Need-returns Inv-loop μ-loop
+returns c = search needs
+
+pub write-goal-spec : {M : Type 1} → statement M
+write-goal-spec =
+    tie.close
+    (tie.spec
+    Inv-loop
+    μ-loop
+    loop-holds
+    write-requires
+    add-i
+    loop-less
+    loop-again
+    same-length
+    returns)

@@ -1,0 +1,21 @@
+-- `testing::table_parts::front_entries` meets its contract.
+-- The part lies in the table.
+use mathlib.Core.Path.{sym}
+use native.Mathlib.Omega.{arith}
+use lib.Seq.{length-take-le}
+use denote.Ref.{now}
+use borrow.Author.Needs.{needs}
+use Rattle.testing.proofs.table_parts.front_entries.Statement.{statement}
+use Rattle.testing.proofs.table_parts.front_entries.Tie as tie
+
+slice-aggregate-result : tie.Need-slice-aggregate-result
+slice-aggregate-result c = sym (length-take-le (c .before .before .args .length) (now (c .before .before .args .table)) (omega arith))
+
+returns : tie.Need-returns
+returns c = search needs
+
+returns-2 : tie.Need-returns-2
+returns-2 c = search needs
+
+pub front-entries-spec : {M : Type 1} → statement M
+front-entries-spec = tie.close (tie.spec slice-aggregate-result returns returns-2)
