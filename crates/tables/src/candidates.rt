@@ -8,12 +8,11 @@ ghost use Rattle.blocks.specs.Layout.{rules};
 ghost use Rattle.blocks.specs.Validity.{Sized};
 use blocks::layout;
 use blocks::layout::first_of;
-use words::compiling::place_side;
+use blocks::terms::Term;
+use blocks::terms::decode;
+use blocks::terms::is_dash;
+use words::compiling::place_sides;
 use words::packing::digit;
-use words::sides::rewritten_word;
-
-// The byte of a dash.
-const DASH: u8 = 255;
 
 // Where the reversed right side stands.
 const RIGHT: usize = 16;
@@ -25,34 +24,34 @@ fn reverse_left(block: &[u8], left: usize, right: usize, n: usize, sides: &mut [
 {
     let mut i: usize = 0;
     while i < n {
-        let mut term = block[right + i];
-        if term == DASH {
-            term = block[left + i];
+        let mut byte = block[right + i];
+        if is_dash(byte) {
+            byte = block[left + i];
         }
-        sides[i] = term;
+        sides[i] = byte;
         i += 1;
     }
 }
 
-// Whether the term before the rule, at a position that the rule writes, tells nothing of what stood there.
-fn is_lost(sides: &[u8; 32], n: usize, term: u8) -> bool
+// Whether a left term, at a position that the rule writes, tells nothing of what stood there.
+fn is_lost(sides: &[u8; 32], n: usize, byte: u8) -> bool
     requires { ⌜ n ≤ 16 ⌝ }
 {
-    if term < 16 {
-        return false;
+    let term = decode(byte);
+    match term {
+        Term::Label(_) => false,
+        Term::Variable(v) => first_of(sides, 0, n, v) == n,
+        Term::Dash => true,
+        Term::Refused => true,
     }
-    if term < 32 {
-        return first_of(sides, 0, n, term) == n;
-    }
-    true
 }
 
 // The term of the reversed right side at a position with these terms on the left and on the right.
 fn reversed_term(sides: &[u8; 32], n: usize, left: u8, right: u8) -> u8
     requires { ⌜ n ≤ 16 ⌝ }
 {
-    if right == DASH {
-        return DASH;
+    if is_dash(right) {
+        return right;
     }
     if is_lost(sides, n, left) {
         return 0;
@@ -67,28 +66,47 @@ fn reverse_right(block: &[u8], left: usize, right: usize, n: usize, sides: &mut 
 {
     let mut i: usize = 0;
     while i < n {
-        let term = reversed_term(sides, n, block[left + i], block[right + i]);
-        sides[RIGHT + i] = term;
+        let byte = reversed_term(sides, n, block[left + i], block[right + i]);
+        sides[RIGHT + i] = byte;
         i += 1;
     }
 }
 
-// The mask of the positions that hold the term at position i on the side at `left`: that position alone for a dash.
+// The mask of the positions that hold the variable v on the side at `left`.
+fn mask_of(block: &[u8], left: usize, n: usize, v: u8) -> u64
+    requires { ⌜ (n ≤ 16) × (left + n ≤ length (now block)) ⌝ }
+{
+    let mut mask: u64 = 0;
+    let mut j: usize = 0;
+    while j < n {
+        if block[left + j] == v {
+            mask = mask | (15 << (4 * j));
+        }
+        j += 1;
+    }
+    mask
+}
+
+// The mask of position i and of those that share its variable on the side at `left`.
 fn group_of(block: &[u8], left: usize, n: usize, i: usize) -> u64
     requires { ⌜ (n ≤ 16) × (i < n) × (left + n ≤ length (now block)) ⌝ }
 {
-    let term = block[left + i];
-    let mut mask: u64 = 15 << (4 * i);
-    if term < 32 {
-        let mut j: usize = 0;
-        while j < n {
-            if block[left + j] == term {
-                mask = mask | (15 << (4 * j));
-            }
-            j += 1;
-        }
+    let term = decode(block[left + i]);
+    if let Term::Variable(v) = term {
+        return mask_of(block, left, n, v);
     }
-    mask
+    15 << (4 * i)
+}
+
+// Whether position i is the first that holds its variable on the side at `left`.
+fn stands_first(block: &[u8], left: usize, n: usize, i: usize) -> bool
+    requires { ⌜ (n ≤ 16) × (i < n) × (left + n ≤ length (now block)) ⌝ }
+{
+    let term = decode(block[left + i]);
+    if let Term::Variable(v) = term {
+        return first_of(block, left, n, v) == i;
+    }
+    true
 }
 
 // Whether a group whose labels the rule loses begins at position i.
@@ -102,17 +120,13 @@ fn begins_group(
 ) -> bool
     requires { ⌜ (n ≤ 16) × (i < n) × (left + n ≤ length (now block)) × (right + n ≤ length (now block)) ⌝ }
 {
-    if block[right + i] == DASH {
+    if is_dash(block[right + i]) {
         return false;
     }
-    let term = block[left + i];
-    if !is_lost(sides, n, term) {
-        return false;
+    if is_lost(sides, n, block[left + i]) {
+        return stands_first(block, left, n, i);
     }
-    if term < 32 {
-        return first_of(block, left, n, term) == i;
-    }
-    true
+    false
 }
 
 // Writes the groups of rule r whose labels it loses: their number, then for each its mask and its first position.
@@ -158,8 +172,7 @@ fn reverse_rule(
     let mut sides = [0u8; 32];
     reverse_left(block, left, right, n, &mut sides);
     reverse_right(block, left, right, n, &mut sides);
-    place_side(&sides, 0, 0, n, words, moves, 2 * r);
-    place_side(&sides, 0, RIGHT, n, words, moves, 2 * r + 1);
+    place_sides(&sides, 0, RIGHT, n, words, moves, r);
     place_groups(block, left, right, n, &sides, groups, r);
 }
 
@@ -179,20 +192,6 @@ pub fn reverse_rules(
         reverse_rule(block, r, words, moves, groups);
         r += 1;
     }
-}
-
-// Whether a state shows the constants that rule r leaves: where it does not, the rule leads from no state to it.
-pub fn shows_constants(words: &[u64; 608], r: usize, word: u64) -> bool
-    requires { ⌜ r < 64 ⌝ }
-{
-    word & words[8 * r] == words[8 * r + 1]
-}
-
-// The first candidate before a state, by rule r.
-pub fn first_candidate(words: &[u64; 608], moves: &[u8; 4384], r: usize, word: u64) -> u64
-    requires { ⌜ r < 64 ⌝ }
-{
-    rewritten_word(words, moves, 2 * r + 1, word)
 }
 
 // The next candidate after a candidate, by rule r with k labels; the first one again after the last.

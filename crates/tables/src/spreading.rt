@@ -5,10 +5,8 @@ ghost use Prim.Native.Nat.{_≤_, _<_};
 ghost use Rattle.blocks.specs.Layout.{rules, costOf, abstractStates};
 ghost use Rattle.distances.specs.Filling.{Good, Lowering};
 ghost use Rattle.tables.specs.Abstraction.{graphOf, Ready, Ranked};
-use super::candidates::first_candidate;
 use super::candidates::next_candidate;
 use super::candidates::reverse_rules;
-use super::candidates::shows_constants;
 use super::edges::MARK;
 use super::queue::END;
 use super::queue::filled_list;
@@ -21,6 +19,7 @@ use blocks::layout;
 use words::ranking::rank_word;
 use words::sides::applies_word;
 use words::sides::cost_word;
+use words::sides::may_apply;
 use words::sides::step_word;
 
 // The most states taken out of the queue. Where the order is right each is taken out once, and there are at most 16,384.
@@ -107,10 +106,10 @@ fn pull(
     ensures { λ _. ⌜ Good (graphOf (now (block .entry))) (now (table .exit)) ⌝ }
 {
     let after = ranks[v];
-    if !shows_constants(back_words, r, after) {
+    if !may_apply(back_words, r, after) {
         return;
     }
-    let start = first_candidate(back_words, back_moves, r, after);
+    let start = step_word(back_words, back_moves, r, after);
     let mut old = start;
     let mut left = table.len();
     while left > 0 {

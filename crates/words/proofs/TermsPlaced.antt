@@ -1,5 +1,6 @@
--- Where a term takes its label from (`taken-other`, `taken-variable`), and one term more of a side on the way, in four cases: a constant (`constant-more`), a position
--- that keeps its label (`kept-more`), a move (`move-more`), and a variable that stands nowhere on the left (`unbound-more`). The functions that add a term rest on these.
+-- Where a term takes its label from (`taken-variable`, `taken-dash`, `taken-refused`), and one term more of a side on the way, in four cases: a constant
+-- (`constant-more`), a position that keeps its label (`kept-more`), a move (`move-more`), and a variable that stands nowhere on the left (`unbound-more`).
+-- The functions that add a term rest on these.
 use mathlib.Core.Path.{_≡_, refl, sym, ap, ap₂, _∙_}
 use mathlib.Core.Logic.{_⊎_, ⊎-elim}
 use mathlib.Core.List.{List}
@@ -15,9 +16,11 @@ use Rattle.basics.specs.Bounded.{first}
 use Rattle.basics.specs.Frames.{Outside}
 use Rattle.basics.proofs.Frames.{outside-none, outside-set}
 use Rattle.blocks.specs.Terms.{termOf}
-use Rattle.blocks.proofs.TermCases.{is-label, is-variable}
+use Rattle.blocks.specs.declared.labels.ConcreteLabel.{ConcreteLabel}
+use Rattle.blocks.specs.declared.terms.Term.{Term}
+use Rattle.blocks.specs.declared.terms.Term.the-variants.{Label, Variable, Dash, Refused}
+use Rattle.blocks.proofs.TermCases.{is-label, is-variable, is-dash, is-refused, View, label, variable, dash, refused, view}
 use Rattle.psvn.specs.Rules.{bound, given}
-use Rattle.psvn.proofs.Making.{given-other}
 use Rattle.words.specs.Packing.{digit, unpack}
 use Rattle.words.specs.Sides.{moved}
 use Rattle.words.specs.Placing.{TakenFrom, movedTo, madeBy, Begun}
@@ -25,18 +28,32 @@ use Rattle.words.specs.declared.compiling.Side.{Side}
 use Rattle.words.proofs.WordDigits.{shifted, digit-lt, digit-and, digit-or, joined-before, joined-at, joined-below, unpack-length, unpack-at}
 
 -- where a term takes its label from
-pub taken-other : (n : ℕ) (left : ℕ → ℕ) (i byte : ℕ) → 32 ≤ byte → TakenFrom n left i byte i
-taken-other n left i byte h = record { label = λ s. given-other n left (λ j. byte) s i h }
+module _ (n : ℕ) (left : ℕ → ℕ) (i byte : ℕ) where
+  pub taken-variable : (v from : ℕ) → termOf byte ≡ Variable v → from ≡ first n (λ j. eqb (left j) v) → TakenFrom n left i byte from
+  unfolding bound
+  taken-variable v from e f = record { label = λ s. ap (given n left s i) e ∙ ap (λ (k : ℕ). getD s k 0) (sym f) }
 
-pub taken-variable :
-    (n : ℕ) (left : ℕ → ℕ) (i byte from : ℕ) → 16 ≤ byte → byte < 32 → from ≡ first n (λ j. eqb (left j) byte)
-    → TakenFrom n left i byte from
-unfolding bound
-taken-variable n left i byte from low high e =
-    record {
-      label = λ s.
-          ap (given n left s i) (is-variable byte low high) ∙ ap (λ (k : ℕ). getD s k 0) (sym e);
-    }
+  pub taken-dash : termOf byte ≡ Dash → TakenFrom n left i byte i
+  taken-dash e = record { label = λ s. ap (given n left s i) e }
+
+  pub taken-refused : termOf byte ≡ Refused → TakenFrom n left i byte i
+  taken-refused e = record { label = λ s. ap (given n left s i) e }
+
+-- a label decoded is below 16
+abbrev labelIn : Term → ℕ
+labelIn (Label c) = c .0
+labelIn (Variable v) = 0
+labelIn Dash = 0
+labelIn Refused = 0
+
+label-lt : (byte : ℕ) (c : ConcreteLabel) → termOf byte ≡ Label c → c .0 < 16
+label-lt byte c e = rw (sym (ap labelIn e)) (go (view byte))
+  where
+    go : View byte → labelIn (termOf byte) < 16
+    go (label a) = rw (ap labelIn (is-label byte a)) a
+    go (variable a b) = rw (ap labelIn (is-variable byte a b)) (lit< tt)
+    go (dash a) = rw (ap labelIn (is-dash byte a)) (lit< tt)
+    go (refused a b) = rw (ap labelIn (is-refused byte a b)) (lit< tt)
 
 -- the parts at one position
 abbrev parts : ℕ → ℕ → ℕ → ℕ → ℕ
@@ -198,25 +215,25 @@ module _ (v : List ℕ) (x c from to : ℕ) (room : 32 * x + 2 * c + 2 ≤ lengt
 module _
     (n : ℕ) (left side : ℕ → ℕ) (s : Side) (v : List ℕ) (x i : ℕ) (li : i < n) (ln : n ≤ 16)
     (b : Begun n left side s v x i) where
-  pub constant-more : side i < 16 → Begun n left side (withConstant s i (side i)) v x (i + 1)
-  constant-more h =
-      term-more n left side s (withConstant s i (side i)) v v x i 15 (side i) 0 (λ w. 0) b
+  pub constant-more : (c : ConcreteLabel) → termOf (side i) ≡ Label c → Begun n left side (withConstant s i (c .0)) v x (i + 1)
+  constant-more c h =
+      term-more n left side s (withConstant s i (c .0)) v v x i 15 (c .0) 0 (λ w. 0) b
       (record {
         mask-is = ap (bitOr (s .mask)) (shifted 15 i (lit< tt) (omega arith));
-        value-is = ap (bitOr (s .value)) (shifted (side i) i h (omega arith));
+        value-is = ap (bitOr (s .value)) (shifted (c .0) i (label-lt (side i) c h) (omega arith));
         keep-is = unchanged (s .keep) i;
         moves-are = λ w. unchanged (movedTo v x w (s .count)) i;
         mask-lt = lit< tt;
-        value-lt = h;
+        value-lt = label-lt (side i) c h;
         keep-lt = lit< tt;
         move-lt = λ w. lit< tt;
         count-le = omega arith;
       })
-      (λ w. parts-constant (digit w i) (side i) ∙ sym (gives w))
+      (λ w. parts-constant (digit w i) (c .0) ∙ sym (gives w))
       (λ w e. under-ones (digit w i) (digit-lt w i) ∙ e ∙ gives w)
     where
-      gives : (w : ℕ) → given n left (unpack n w) i (termOf (side i)) ≡ side i
-      gives w = ap (given n left (unpack n w) i) (is-label (side i) h)
+      gives : (w : ℕ) → given n left (unpack n w) i (termOf (side i)) ≡ c .0
+      gives w = ap (given n left (unpack n w) i) h
 
   -- any other term, by where it takes its label from
   module _ (from : ℕ) (source : TakenFrom n left i (side i) from) where

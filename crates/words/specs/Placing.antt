@@ -1,5 +1,6 @@
--- What the parts of compiling find and leave: where a term takes its label from (`TakenFrom`), a side begun (`Begun`), and a side, a rule, all rules,
--- all goals and a row of weights placed, each with what it keeps of the arrays. The functions that compile a block are stated with these; together they make the arrays `Compiled`.
+-- What the parts of compiling find and leave: where a term takes its label from (`TakenFrom`), a side begun (`Begun`) and with one term more
+-- (`WithConstant`, `WithSource`), and a side, a rule, all rules, all goals and a row of weights placed, each with what it keeps of the arrays.
+-- The functions that compile a block are stated with these; together they make the arrays `Compiled`.
 use mathlib.Core.Path.{_≡_}
 use mathlib.Core.List.{List}
 use Prim.Native.Nat.{ℕ, zero, suc, _+_, _*_, _^_, _≤_, _<_}
@@ -8,9 +9,11 @@ use lib.ListN.{length, getD}
 use Rattle.basics.specs.Frames.{Outside}
 use Rattle.blocks.specs.Terms.{termOf}
 use Rattle.blocks.specs.Layout.{positions, rules, goals, labelCount, mapAt, goalOf}
+use Rattle.blocks.specs.declared.labels.ConcreteLabel.{ConcreteLabel}
+use Rattle.blocks.specs.declared.terms.Term.the-variants.{Label}
 use Rattle.psvn.specs.Rules.{given}
 use Rattle.words.specs.Packing.{digit, unpack}
-use Rattle.words.specs.Sides.{moved, goalPlace}
+use Rattle.words.specs.Sides.{moved, leftPlace, rightPlace, goalPlace}
 use Rattle.words.specs.Compiled.{Sided, RuleAt}
 use Rattle.words.specs.declared.compiling.Side.{Side}
 
@@ -40,11 +43,30 @@ pub record Begun (n : ℕ) (left side : ℕ → ℕ) (s : Side) (moves : List �
   pub small-moves : (w : ℕ) → movedTo moves x w (s .count) < 16 ^ i
   pub few : s .count ≤ i
 
+-- a side with one term more at position i: a constant, or a term that takes its label from the position `from`
+pub record WithConstant (i : ℕ) (label : ConcreteLabel) (s t : Side) : Type 0 where
+  pub begun :
+      (n : ℕ) (left side : ℕ → ℕ) (moves : List ℕ) (x : ℕ) → i < n → n ≤ 16 → termOf (side i) ≡ Label label
+      → Begun n left side s moves x i → Begun n left side t moves x (i + 1)
+
+pub record WithSource (n i from x : ℕ) (s : Side) (moves₀ : List ℕ) (t : Side) (moves₁ : List ℕ) : Type 0 where
+  pub begun :
+      (left side : ℕ → ℕ) → TakenFrom n left i (side i) from
+      → Begun n left side s moves₀ x i → Begun n left side t moves₁ x (i + 1)
+  pub moves : Outside (32 * x) (32 * x + 32) moves₀ moves₁
+
 -- a side at place x
 pub record SidePlaced (n : ℕ) (left side : ℕ → ℕ) (x : ℕ) (words₀ moves₀ words₁ moves₁ : List ℕ) : Type 0 where
   pub sided : Sided n left side words₁ moves₁ x
   pub words : Outside (4 * x) (4 * x + 4) words₀ words₁
   pub moves : Outside (32 * x) (32 * x + 32) moves₀ moves₁
+
+-- both sides of rule r, the left one under itself
+pub record SidesPlaced (n : ℕ) (left right : ℕ → ℕ) (r : ℕ) (words₀ moves₀ words₁ moves₁ : List ℕ) : Type 0 where
+  pub left-sided : Sided n left left words₁ moves₁ (leftPlace r)
+  pub right-sided : Sided n left right words₁ moves₁ (rightPlace r)
+  pub words : Outside (8 * r) (8 * r + 8) words₀ words₁
+  pub moves : Outside (64 * r) (64 * r + 64) moves₀ moves₁
 
 -- rule r; the rules before it stay
 pub record RulePlaced (b : List ℕ) (r : ℕ) (words₀ moves₀ words₁ moves₁ : List ℕ) : Type 0 where

@@ -45,9 +45,13 @@ rewrittenTo words moves x w (suc j) =
 unfoldable pub rewrittenWord : List ℕ → List ℕ → ℕ → ℕ → ℕ
 rewrittenWord words moves x w = rewrittenTo words moves x w (countAt words x)
 
--- the constants agree, and the side makes the word itself
+-- a word has the constants of the side at place x
+abbrev pub constantsWord : List ℕ → ℕ → ℕ → Bool
+constantsWord words x w = eqb (bitAnd w (maskAt words x)) (valueAt words x)
+
+-- it has them, and the side makes the word itself
 unfoldable pub matchesWord : List ℕ → List ℕ → ℕ → ℕ → Bool
-matchesWord words moves x w = eqb (bitAnd w (maskAt words x)) (valueAt words x) && eqb (rewrittenWord words moves x w) w
+matchesWord words moves x w = constantsWord words x w && eqb (rewrittenWord words moves x w) w
 
 -- rule r applies to a word; the word it makes; its cost
 abbrev pub appliesWord : List ℕ → List ℕ → ℕ → ℕ → Bool

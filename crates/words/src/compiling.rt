@@ -6,11 +6,13 @@ ghost use Rattle.basics.specs.Frames.{Outside};
 ghost use Rattle.blocks.specs.Layout.{positions, rules, sideAt, abstractCount};
 ghost use Rattle.blocks.specs.Validity.{Sized, Valid};
 ghost use Rattle.words.specs.Compiled.{Weighted, Compiled};
-ghost use Rattle.words.specs.Placing.{TakenFrom, Begun, SidePlaced, RulePlaced, RulesPlaced, GoalsPlaced, RowPlaced};
+ghost use Rattle.words.specs.Placing.{Begun, WithConstant, WithSource, SidePlaced, SidesPlaced, RulePlaced, RulesPlaced, GoalsPlaced, RowPlaced};
 use basics::wide;
 use blocks::labels::ConcreteLabel;
 use blocks::labels::byte_of;
 use blocks::layout;
+use blocks::terms::Term;
+use blocks::terms::decode;
 
 // A side on the way, its first positions compiled: the masks, the value, and how many moves are written.
 struct Side {
@@ -20,15 +22,41 @@ struct Side {
     count: usize,
 }
 
-// Where a term that is no constant takes its label at position i from: a variable from its first position on the left (n where it has none), others from i.
-fn source(bytes: &[u8], left: usize, n: usize, i: usize, byte: u8) -> usize
-    requires { ⌜ (left + n ≤ length (now bytes)) × (16 ≤ byte) ⌝ }
-    ensures { λ r. ⌜ TakenFrom n (sideAt (now (bytes .entry)) left) i byte r ⌝ }
+// A side with a constant at position i.
+fn with_constant(made: Side, i: usize, label: ConcreteLabel) -> Side
+    requires { ⌜ i < 16 ⌝ }
+    ensures { λ r. ⌜ WithConstant i label made r ⌝ }
 {
-    if byte >= 32 {
-        return i;
+    let mut next = made;
+    next.mask = next.mask | (15 << (4 * i));
+    next.value = next.value | ((label.0 as u64) << (4 * i));
+    next
+}
+
+// A side with a term at position i that takes its label from position `from`: its own label is kept, another one below n is a move, and from n on there is none, which gives 0.
+fn with_source(
+    made: Side,
+    n: usize,
+    i: usize,
+    from: usize,
+    moves: &mut [u8; 4384],
+    x: usize,
+) -> Side
+    requires { ⌜ (n ≤ 16) × (i < n) × (x < 136) × (length (now moves) ≡ 4384) × (made .count ≤ i) ⌝ }
+    ensures { λ r. ⌜ WithSource n i from x made (now (moves .entry)) r (now (moves .exit)) ⌝ }
+{
+    let mut next = made;
+    if from == i {
+        next.keep = next.keep | (15 << (4 * i));
+        return next;
     }
-    layout::first_of(bytes, left, n, byte)
+    if from < n {
+        let count = next.count;
+        moves[32 * x + 2 * count] = from as u8;
+        moves[32 * x + 2 * count + 1] = i as u8;
+        next.count = count + 1;
+    }
+    next
 }
 
 // The side that begins at `side`, its first i positions made, with its term at position i, under the left side that begins at `left`.
@@ -47,30 +75,20 @@ fn with_term(
     ensures { λ r. ⌜ Begun n (sideAt (now (bytes .entry)) left) (sideAt (now (bytes .entry)) side) r (now (moves .exit)) x (i + 1) ⌝ }
     ensures { λ _. ⌜ Outside (32 * x) (32 * x + 32) (now (moves .entry)) (now (moves .exit)) ⌝ }
 {
-    let mut next = made;
-    let ones: u64 = 15 << (4 * i);
-    let byte = bytes[side + i];
-    if byte < 16 {
-        next.mask = next.mask | ones;
-        next.value = next.value | ((byte as u64) << (4 * i));
-        return next;
+    let term = decode(bytes[side + i]);
+    match term {
+        Term::Label(label) => with_constant(made, i, label),
+        Term::Variable(v) => {
+            let from = layout::first_of(bytes, left, n, v);
+            with_source(made, n, i, from, moves, x)
+        }
+        Term::Dash => with_source(made, n, i, i, moves, x),
+        Term::Refused => with_source(made, n, i, i, moves, x),
     }
-    let from = source(bytes, left, n, i, byte);
-    if from == i {
-        next.keep = next.keep | ones;
-        return next;
-    }
-    if from < n {
-        let count = next.count;
-        moves[32 * x + 2 * count] = from as u8;
-        moves[32 * x + 2 * count + 1] = i as u8;
-        next.count = count + 1;
-    }
-    next
 }
 
 // Compiles the side that begins at `side`, under the left side that begins at `left`, to place x.
-pub fn place_side(
+fn place_side(
     bytes: &[u8],
     left: usize,
     side: usize,
@@ -99,6 +117,23 @@ pub fn place_side(
     words[4 * x + 3] = made.count as u64;
 }
 
+// Compiles the two sides of rule r, which begin at `left` and at `right`.
+pub fn place_sides(
+    bytes: &[u8],
+    left: usize,
+    right: usize,
+    n: usize,
+    words: &mut [u64; 608],
+    moves: &mut [u8; 4384],
+    r: usize,
+)
+    requires { ⌜ (left + n ≤ length (now bytes)) × (right + n ≤ length (now bytes)) × (n ≤ 16) × (r < 64) × (length (now words) ≡ 608) × (length (now moves) ≡ 4384) ⌝ }
+    ensures { λ _. ⌜ SidesPlaced n (sideAt (now (bytes .entry)) left) (sideAt (now (bytes .entry)) right) r (now (words .entry)) (now (moves .entry)) (now (words .exit)) (now (moves .exit)) ⌝ }
+{
+    place_side(bytes, left, left, n, words, moves, 2 * r);
+    place_side(bytes, left, right, n, words, moves, 2 * r + 1);
+}
+
 // Compiles rule r: its sides, and its cost.
 fn place_rule(block: &[u8], r: usize, words: &mut [u64; 608], moves: &mut [u8; 4384])
     requires { ⌜ Sized (now block) × (r < rules (now block)) × (length (now words) ≡ 608) × (length (now moves) ≡ 4384) ⌝ }
@@ -107,8 +142,7 @@ fn place_rule(block: &[u8], r: usize, words: &mut [u64; 608], moves: &mut [u8; 4
     let n = layout::positions(block);
     let left = layout::left_at(block, r);
     let right = layout::right_at(block, r);
-    place_side(block, left, left, n, words, moves, 2 * r);
-    place_side(block, left, right, n, words, moves, 2 * r + 1);
+    place_sides(block, left, right, n, words, moves, r);
     words[544 + r] = wide(layout::cost(block, r)) as u64;
 }
 

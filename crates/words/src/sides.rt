@@ -2,7 +2,7 @@
 // that keep their label, the number of its moves, and the moves, each a position to read and a position to write.
 ghost use mathlib.Core.Path.{_≡_};
 ghost use Prim.Native.Nat.{_≤_, _<_};
-ghost use Rattle.words.specs.Sides.{moved, rewrittenWord, matchesWord, appliesWord, stepWord, meetsWord, costWord};
+ghost use Rattle.words.specs.Sides.{leftPlace, moved, rewrittenWord, constantsWord, matchesWord, appliesWord, stepWord, meetsWord, costWord};
 use super::packing::digit;
 
 // The label read at `from`, at the position `to`.
@@ -13,7 +13,7 @@ fn move_label(word: u64, from: u8, to: u8) -> u64
 }
 
 // What the side at place x makes of a word.
-pub fn rewritten_word(words: &[u64; 608], moves: &[u8; 4384], x: usize, word: u64) -> u64
+fn rewritten_word(words: &[u64; 608], moves: &[u8; 4384], x: usize, word: u64) -> u64
     requires { ⌜ x < 136 ⌝ }
     ensures { λ r. ⌜ r ≡ rewrittenWord (now (words .entry)) (now (moves .entry)) x word ⌝ }
 {
@@ -28,15 +28,31 @@ pub fn rewritten_word(words: &[u64; 608], moves: &[u8; 4384], x: usize, word: u6
     made
 }
 
-// Whether a word matches the side at place x. Most fail on a constant, which one comparison tells.
-pub fn matches_word(words: &[u64; 608], moves: &[u8; 4384], x: usize, word: u64) -> bool
+// Whether a word has the constants of the side at place x: one comparison.
+fn constants_word(words: &[u64; 608], x: usize, word: u64) -> bool
+    requires { ⌜ x < 136 ⌝ }
+    ensures { λ r. ⌜ r ≡ constantsWord (now (words .entry)) x word ⌝ }
+{
+    word & words[4 * x] == words[4 * x + 1]
+}
+
+// Whether a word matches the side at place x. Most fail on a constant, so these come first.
+fn matches_word(words: &[u64; 608], moves: &[u8; 4384], x: usize, word: u64) -> bool
     requires { ⌜ x < 136 ⌝ }
     ensures { λ r. ⌜ r ≡ matchesWord (now (words .entry)) (now (moves .entry)) x word ⌝ }
 {
-    if word & words[4 * x] != words[4 * x + 1] {
-        return false;
+    if constants_word(words, x, word) {
+        return rewritten_word(words, moves, x, word) == word;
     }
-    rewritten_word(words, moves, x, word) == word
+    false
+}
+
+// Whether a word has the constants on the left of rule r: where it has not, the rule does not apply.
+pub fn may_apply(words: &[u64; 608], r: usize, word: u64) -> bool
+    requires { ⌜ r < 64 ⌝ }
+    ensures { λ answer. ⌜ answer ≡ constantsWord (now (words .entry)) (leftPlace r) word ⌝ }
+{
+    constants_word(words, 2 * r, word)
 }
 
 // Whether rule r applies to a word.

@@ -16,17 +16,20 @@ abbrev μ-loop : tie.MeasureT-loop
 loop-holds : tie.Need-loop-holds Inv-loop μ-loop
 loop-holds c = search needs
 
-add-term : tie.Need-add-term Inv-loop μ-loop
-add-term c = search needs
+add-byte : tie.Need-add-byte Inv-loop μ-loop
+add-byte c = search needs
 
-shared-slice-read-term : tie.Need-shared-slice-read-term Inv-loop μ-loop
-shared-slice-read-term c = search needs
+shared-slice-read-byte : tie.Need-shared-slice-read-byte Inv-loop μ-loop
+shared-slice-read-byte c = search needs
 
-add-term-2 : tie.Need-add-term-2 Inv-loop μ-loop
-add-term-2 c = search needs
+is-dash-requires : tie.Need-is-dash-requires Inv-loop μ-loop
+is-dash-requires c κs = search needs
 
-shared-slice-read-term-2 : tie.Need-shared-slice-read-term-2 Inv-loop μ-loop
-shared-slice-read-term-2 c = search needs
+add-byte-2 : tie.Need-add-byte-2 Inv-loop μ-loop
+add-byte-2 c = search needs
+
+shared-slice-read-byte-2 : tie.Need-shared-slice-read-byte-2 Inv-loop μ-loop
+shared-slice-read-byte-2 c = search needs
 
 element-write-sides : tie.Need-element-write-sides Inv-loop μ-loop
 element-write-sides c = search needs
@@ -50,10 +53,11 @@ reverse-left-spec =
     Inv-loop
     μ-loop
     loop-holds
-    add-term
-    shared-slice-read-term
-    add-term-2
-    shared-slice-read-term-2
+    add-byte
+    shared-slice-read-byte
+    is-dash-requires
+    add-byte-2
+    shared-slice-read-byte-2
     element-write-sides
     add-i
     loop-less

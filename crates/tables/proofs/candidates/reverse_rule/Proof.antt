@@ -1,6 +1,5 @@
 -- `tables::candidates::reverse_rule` meets its contract.
 -- Both sides of the rule lie in the block, and the arrays keep their lengths.
-use mathlib.Core.Path.{_∙_}
 use Prim.Native.Nat.{_+_, _≤_}
 use native.Mathlib.Omega.{arith}
 use lib.ListN.{length}
@@ -36,41 +35,21 @@ reverse-left-requires c κs = let i = inside (c .before) in (i .0, i .1, i .2, s
 reverse-right-requires : tie.Need-reverse-right-requires
 reverse-right-requires c κs = let i = inside (c .before .before .before) in (i .0, i .1, i .2, search needs)
 
-slice-aggregate-place-side : tie.Need-slice-aggregate-place-side
-slice-aggregate-place-side c = search needs
+slice-aggregate-place-sides : tie.Need-slice-aggregate-place-sides
+slice-aggregate-place-sides c = search needs
 
-mul-place-side : tie.Need-mul-place-side
-mul-place-side c = search needs
-
-place-side-requires : tie.Need-place-side-requires
-place-side-requires c κs = search needs
-
-slice-aggregate-place-side-2 : tie.Need-slice-aggregate-place-side-2
-slice-aggregate-place-side-2 c = search needs
-
-mul-place-side-2 : tie.Need-mul-place-side-2
-mul-place-side-2 c = search needs
-
-add-place-side : tie.Need-add-place-side
-add-place-side c = search needs
-
-place-side-requires-2 : tie.Need-place-side-requires-2
-place-side-requires-2 c κs = search needs
+place-sides-requires : tie.Need-place-sides-requires
+place-sides-requires c κs = search needs
 
 place-groups-requires : tie.Need-place-groups-requires
 place-groups-requires c κs =
-    let d = c .before .before .before .before .before .before .before .before .before .before .before .before .before .before in
+    let d = c .before .before .before .before .before .before .before .before .before .before in
     let p = d .before .before .before .before .pre in
     let i = inside d in
     (i .0, omega (arith, p .1, p .0 .head .sizes .r-high), i .1, i .2, p .4)
 
 returns : tie.Need-returns
-returns c =
-    let p = c .before .before .before .before .before .before .before .before .before .before .before .before .before .before .before .before .before .before .before .pre in (
-      c .before .before .before .place-side2 .ensures .words .len ∙ c .before .before .before .before .before .before .before .place-side .ensures .words .len ∙ p .2,
-      c .before .before .before .place-side2 .ensures .moves .len ∙ c .before .before .before .before .before .before .before .place-side .ensures .moves .len ∙ p .3,
-      c .place-groups .ensures,
-    )
+returns c = search needs
 
 pub reverse-rule-spec : {M : Type 1} → statement M
 reverse-rule-spec =
@@ -81,12 +60,7 @@ reverse-rule-spec =
     right-at-requires
     reverse-left-requires
     reverse-right-requires
-    slice-aggregate-place-side
-    mul-place-side
-    place-side-requires
-    slice-aggregate-place-side-2
-    mul-place-side-2
-    add-place-side
-    place-side-requires-2
+    slice-aggregate-place-sides
+    place-sides-requires
     place-groups-requires
     returns)

@@ -22,14 +22,14 @@ mul-after c = search needs
 element-copy-out-after : tie.Need-element-copy-out-after Inv-loop μ-loop
 element-copy-out-after c = search needs
 
-shows-constants-requires : tie.Need-shows-constants-requires Inv-loop μ-loop
-shows-constants-requires c κs = search needs
+may-apply-requires : tie.Need-may-apply-requires Inv-loop μ-loop
+may-apply-requires c κs = search needs
 
 returns : tie.Need-returns Inv-loop μ-loop
 returns c = c .before .before .before .before .before .pre .0 .2
 
-first-candidate-requires : tie.Need-first-candidate-requires Inv-loop μ-loop
-first-candidate-requires c κs = search needs
+step-word-requires : tie.Need-step-word-requires Inv-loop μ-loop
+step-word-requires c κs = search needs
 
 loop-holds : tie.Need-loop-holds Inv-loop μ-loop
 loop-holds c = c .before .before .before .before .before .before .pre .0 .2
@@ -82,9 +82,9 @@ pull-spec =
     μ-loop
     mul-after
     element-copy-out-after
-    shows-constants-requires
+    may-apply-requires
     returns
-    first-candidate-requires
+    step-word-requires
     loop-holds
     try-candidate-requires
     same-length

@@ -1,148 +1,113 @@
 -- `words::compiling::with_term` meets its contract.
--- Each way out is one case of a term: a constant, its own position, another one, or none.
+-- Each arm is the definition's case for the term decoded.
+use mathlib.Core.Path.{sym, _∙_}
 use Prim.Native.Nat.{_+_, _*_}
-use native.Mathlib.Omega.{arith}
 use denote.Ref.{now}
 use Rattle.basics.proofs.Frames.{outside-none}
 use Rattle.blocks.specs.Layout.{sideAt}
-use Rattle.words.proofs.TermsPlaced.{constant-more, kept-more, unbound-more, move-more, moves-outside}
+use Rattle.words.proofs.TermsPlaced.{taken-variable, taken-dash, taken-refused}
 use borrow.Author.Needs.{needs}
 use Rattle.words.proofs.compiling.with_term.Statement.{statement}
 use Rattle.words.proofs.compiling.with_term.Tie as tie
 
-mul-ones : tie.Need-mul-ones
-mul-ones c = search needs
+add-decode : tie.Need-add-decode
+add-decode c = search needs
 
-shl-ones : tie.Need-shl-ones
-shl-ones c = search needs
+shared-slice-read-decode : tie.Need-shared-slice-read-decode
+shared-slice-read-decode c = search needs
 
-add-byte : tie.Need-add-byte
-add-byte c = search needs
+decode-requires : tie.Need-decode-requires
+decode-requires c κs = search needs
 
-shared-slice-read-byte : tie.Need-shared-slice-read-byte
-shared-slice-read-byte c = search needs
+enum-known-term : tie.Need-enum-known-term
+enum-known-term c = search needs
 
-cast-next : tie.Need-cast-next
-cast-next c = search needs
+with-constant-requires : tie.Need-with-constant-requires
+with-constant-requires c κs = search needs
 
-mul-next : tie.Need-mul-next
-mul-next c = search needs
+enum-known-term-2 : tie.Need-enum-known-term-2
+enum-known-term-2 c = search needs
 
-shl-next : tie.Need-shl-next
-shl-next c = search needs
+first-of-requires : tie.Need-first-of-requires
+first-of-requires c κs = search needs
+
+with-source-requires : tie.Need-with-source-requires
+with-source-requires c κs = search needs
+
+enum-told : tie.Need-enum-told
+enum-told c = search needs
+
+with-source-requires-2 : tie.Need-with-source-requires-2
+with-source-requires-2 c κs = search needs
+
+enum-told-2 : tie.Need-enum-told-2
+enum-told-2 c = search needs
+
+with-source-requires-3 : tie.Need-with-source-requires-3
+with-source-requires-3 c κs = search needs
 
 returns : tie.Need-returns
 returns c =
-    let a = c .before .before .before .before .before .args in
-    let h = c .before .before .before .before .before .pre in
+    let a = c .before .before .before .before .before .before .before .args in
+    let h = c .before .before .before .before .before .before .before .pre in
     let left = sideAt (now (a .bytes)) (a .left) in
     let side = sideAt (now (a .bytes)) (a .side) in
-    let kept = outside-none (32 * a .x) (32 * a .x + 32) (now (a .moves)) in (
-      constant-more (a .n) left side (a .made) (now (a .moves)) (a .x) (a .i) (h .0 .3) (h .0 .2) (h .1)
-          (c .before .before .if1 .taken),
-      kept,
+    let e = sym (c .before .before .before .before .decode .ensures) ∙ c .before .before .term .given .1 in (
+      c .with-constant .ensures .begun (a .n) left side (now (a .moves)) (a .x) (h .0 .3) (h .0 .2) e (h .1),
+      outside-none (32 * a .x) (32 * a .x + 32) (now (a .moves)),
     )
-
-source-requires : tie.Need-source-requires
-source-requires c κs = search needs
 
 returns-2 : tie.Need-returns-2
 returns-2 c =
-    let a = c .before .before .before .before .before .before .args in
-    let h = c .before .before .before .before .before .before .pre in
+    let a = c .before .before .before .before .before .before .before .before .before .args in
+    let h = c .before .before .before .before .before .before .before .before .before .pre in
     let left = sideAt (now (a .bytes)) (a .left) in
     let side = sideAt (now (a .bytes)) (a .side) in
-    let kept = outside-none (32 * a .x) (32 * a .x + 32) (now (a .moves)) in (
-      kept-more (a .n) left side (a .made) (now (a .moves)) (a .x) (a .i) (h .0 .3) (h .0 .2) (h .1)
-          (c .before .before .source .result) (c .before .before .source .ensures) (c .before .if2 .taken),
-      kept,
+    let e = sym (c .before .before .before .before .before .before .decode .ensures) ∙ c .before .before .before .before .term2 .given .1 in
+    let first = c .before .before .first-of in (
+      c .with-source .ensures .begun left side (taken-variable (a .n) left (a .i) (side (a .i)) _ (first .result) e (first .ensures)) (h .1),
+      c .with-source .ensures .moves,
     )
-
-cast-moves : tie.Need-cast-moves
-cast-moves c = search needs
-
-mul-moves : tie.Need-mul-moves
-mul-moves c = search needs
-
-mul-moves-2 : tie.Need-mul-moves-2
-mul-moves-2 c = search needs
-
-add-moves : tie.Need-add-moves
-add-moves c = search needs
-
-element-write-moves : tie.Need-element-write-moves
-element-write-moves c = search needs
-
-cast-moves-2 : tie.Need-cast-moves-2
-cast-moves-2 c = search needs
-
-mul-moves-3 : tie.Need-mul-moves-3
-mul-moves-3 c = search needs
-
-mul-moves-4 : tie.Need-mul-moves-4
-mul-moves-4 c = search needs
-
-add-moves-2 : tie.Need-add-moves-2
-add-moves-2 c = search needs
-
-add-moves-3 : tie.Need-add-moves-3
-add-moves-3 c = search needs
-
-element-write-moves-2 : tie.Need-element-write-moves-2
-element-write-moves-2 c = search needs
-
-add-next : tie.Need-add-next
-add-next c = search needs
 
 returns-3 : tie.Need-returns-3
 returns-3 c =
-    let a = c .before .before .before .before .before .before .args in
-    let h = c .before .before .before .before .before .before .pre in
+    let a = c .before .before .before .before .before .before .before .args in
+    let h = c .before .before .before .before .before .before .before .pre in
     let left = sideAt (now (a .bytes)) (a .left) in
     let side = sideAt (now (a .bytes)) (a .side) in
-    let few = h .1 .few in (
-      move-more (a .n) left side (a .made) (now (a .moves)) (a .x) (a .i) (h .0 .3) (h .0 .2) (h .1)
-          (c .before .before .source .result) (c .before .before .source .ensures) (c .if3 .taken) (omega arith),
-      moves-outside (now (a .moves)) (a .x) (a .made .count) (c .before .before .source .result) (a .i) (omega arith) (omega arith),
+    let e = sym (c .before .before .before .before .decode .ensures) ∙ c .before .before .enum-told .given .1 in (
+      c .with-source2 .ensures .begun left side (taken-dash (a .n) left (a .i) (side (a .i)) e) (h .1),
+      c .with-source2 .ensures .moves,
     )
 
 returns-4 : tie.Need-returns-4
 returns-4 c =
-    let a = c .before .before .before .before .before .before .args in
-    let h = c .before .before .before .before .before .before .pre in
+    let a = c .before .before .before .before .before .before .before .args in
+    let h = c .before .before .before .before .before .before .before .pre in
     let left = sideAt (now (a .bytes)) (a .left) in
     let side = sideAt (now (a .bytes)) (a .side) in
-    let kept = outside-none (32 * a .x) (32 * a .x + 32) (now (a .moves)) in (
-      unbound-more (a .n) left side (a .made) (now (a .moves)) (a .x) (a .i) (h .0 .3) (h .0 .2) (h .1)
-          (c .before .before .source .result) (c .before .before .source .ensures) (c .if3 .left),
-      kept,
+    let e = sym (c .before .before .before .before .decode .ensures) ∙ c .before .before .enum-told2 .given .1 in (
+      c .with-source3 .ensures .begun left side (taken-refused (a .n) left (a .i) (side (a .i)) e) (h .1),
+      c .with-source3 .ensures .moves,
     )
 
 pub with-term-spec : {M : Type 1} → statement M
 with-term-spec =
     tie.close
     (tie.spec
-    mul-ones
-    shl-ones
-    add-byte
-    shared-slice-read-byte
-    cast-next
-    mul-next
-    shl-next
+    add-decode
+    shared-slice-read-decode
+    decode-requires
+    enum-known-term
+    with-constant-requires
+    enum-known-term-2
+    first-of-requires
+    with-source-requires
+    enum-told
+    with-source-requires-2
+    enum-told-2
+    with-source-requires-3
     returns
-    source-requires
     returns-2
-    cast-moves
-    mul-moves
-    mul-moves-2
-    add-moves
-    element-write-moves
-    cast-moves-2
-    mul-moves-3
-    mul-moves-4
-    add-moves-2
-    add-moves-3
-    element-write-moves-2
-    add-next
     returns-3
     returns-4)
