@@ -10,7 +10,8 @@ use Rattle.refusals.specs.Answers.{Answer, refused, told, Condition, _unless_, 
 use Rattle.refusals.specs.Refusals.{refusalNumber}
 use Rattle.blocks.specs.Layout.{abstractStates}
 use Rattle.blocks.specs.Validity.{blockConditions}
-use Rattle.tables.specs.Tables.{passesTest, filled}
+use Rattle.tables.specs.Tables.{passesTest}
+use Rattle.filling.specs.FilledTables.{filled}
 use Rattle.engine.specs.declared.table_calls.Filling.{Filling}
 use Rattle.engine.specs.declared.table_calls.Filling.the-variants as filling
 use Rattle.engine.specs.declared.table_calls.TableTest.{TableTest}

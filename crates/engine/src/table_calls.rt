@@ -41,7 +41,7 @@ pub fn fill_table(block: &[u8], table: &mut [u32]) -> Filling
     if let Verdict::Refused(refusal) = checked {
         return Filling::Refused(refusal);
     }
-    tables::filling::fill(block, table);
+    filling::fill(block, table);
     Filling::Filled
 }
 

@@ -24,8 +24,10 @@ use Rattle.distances.specs.LeastCosts.{leastBy, leastWithin, leastCosts}
 use Rattle.distances.specs.Certificates.{certifies}
 use Rattle.distances.proofs.Certificate.{certified}
 use Rattle.tables.specs.Abstraction.{stepRank, graphOf}
-use Rattle.tables.specs.Tables.{entry, passesTest, filled, LeastCost}
-use Rattle.tables.proofs.Promises.{zeros-pass-test, least-entry}
+use Rattle.tables.specs.Tables.{entry, passesTest}
+use Rattle.tables.proofs.Promises.{zeros-pass-test}
+use Rattle.filling.specs.FilledTables.{filled, LeastCost}
+use Rattle.filling.proofs.LeastEntries.{least-entry}
 use Rattle.backward.specs.Predecessors.{Predecessor, from-first, after, found, none-further, isFound, writtenOut, stepBack}
 use Rattle.backward.specs.Reversible.{reversible}
 use Rattle.backward.proofs.NextState.{next-found, none-found}

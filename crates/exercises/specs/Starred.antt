@@ -13,7 +13,8 @@ use Rattle.psvn.specs.Rules.{applies, step}
 use Rattle.psvn.specs.Relabelling.{relabelBlock}
 use Rattle.psvn.specs.Ranks.{unrank}
 use Rattle.distances.specs.Graphs.{mark}
-use Rattle.tables.specs.Tables.{passesTest, LeastCost}
+use Rattle.tables.specs.Tables.{passesTest}
+use Rattle.filling.specs.FilledTables.{LeastCost}
 use Rattle.backward.specs.Predecessors.{from-first, after}
 use Rattle.backward.specs.Reversible.{OneToOne}
 use Rattle.engine.specs.Applying.{done, applyRule}

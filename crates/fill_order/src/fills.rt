@@ -11,7 +11,7 @@ pub fn fill_number(block: &[u8], table: &mut [u32]) -> u64 {
     if table.len() < blocks::layout::abstract_states(block) {
         return 12;
     }
-    if tables::filling::fill(block, table) {
+    if filling::fill(block, table) {
         return 101;
     }
     100

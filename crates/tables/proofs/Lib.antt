@@ -1,8 +1,7 @@
 -- The theorems on tables.
--- Over ranks and over words, and what passing and filled tables promise.
+-- Over ranks and over words, and what passing tables promise.
 pub mod OverRanks
 pub mod Promises
 pub mod WordEdges
 pub mod RuleCosts
 pub mod RelabelledRanks
-pub mod Predecessors

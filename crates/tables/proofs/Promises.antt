@@ -1,10 +1,9 @@
--- What tables promise: a table that passes the test gives an estimate that is a lower bound (`lower-bound`), by the homomorphism; each entry of a table
--- of least costs is the least cost from its state (`least-entry`), and so of a filled one (`filled-least`), which passes (`filled-passes`); the table of zeros passes (`zeros-pass-test`).
--- The search rests on the first alone.
+-- What a table promises: one that passes the test gives an estimate that is a lower bound (`lower-bound`), by the homomorphism; the table of zeros
+-- passes (`zeros-pass-test`). The search rests on the first alone.
 use mathlib.Core.Path.{_≡_, refl, sym, ap, _∙_}
 use mathlib.Core.Bool.{Bool, true, false, not, _&&_, _||_}
 use mathlib.Core.List.{List}
-use mathlib.Core.Logic.{_≢_, _⊎_, inl, inr, ⊎-elim}
+use mathlib.Core.Logic.{_≢_}
 use Prim.Native.Nat.{ℕ, _+_, _≤_, _<_}
 use native.Mathlib.Omega.{arith}
 use lib.Dec.{eqb, leb}
@@ -13,24 +12,20 @@ use borrow.Author.Tests.{eqb-false, ne-eqb, le-leb}
 use Rattle.basics.proofs.Truth.{and-intro}
 use Rattle.blocks.specs.Layout.{rules, costOf, abstractStates}
 use Rattle.blocks.specs.Validity.{Valid}
-use Rattle.blocks.specs.States.{stateOk, abstractOk}
+use Rattle.blocks.specs.States.{stateOk}
 use Rattle.psvn.specs.Rules.{applies, step, meets}
-use Rattle.psvn.specs.Runs as runs
 use Rattle.psvn.specs.Relabelling.{relabelBlock, relabelState}
 use Rattle.psvn.specs.Ranks.{rank}
 use Rattle.psvn.proofs.Relabelled.{rules-relabelled, states-relabelled, cost-relabelled}
 use Rattle.psvn.proofs.Homomorphism.{applies-relabelled, step-relabelled, meets-relabelled}
 use Rattle.psvn.proofs.Stepping.{step-state, relabelled-state, abstract-states}
 use Rattle.psvn.proofs.RelabelTwice.{relabelled-valid}
-use Rattle.distances.specs.Graphs.{mark, reaches, totalCost, Least, LeastTable}
+use Rattle.distances.specs.Graphs.{mark}
 use Rattle.distances.specs.LowerBounds.{bounded}
-use Rattle.distances.specs.LeastCosts.{leastCosts}
-use Rattle.distances.specs.Filling.{Cheap}
 use Rattle.distances.proofs.Passing.{passes-goal, passes-rule, zeros-pass}
-use Rattle.distances.proofs.LeastCostLaws.{least-costs, least-costs-pass}
 use Rattle.tables.specs.Abstraction.{stepRank, graphOf}
-use Rattle.tables.specs.Tables.{entry, estimate, passesTest, filled, LowerBound, CostBytes, LeastCost}
-use Rattle.tables.proofs.OverRanks.{rank-relabelled, at-rank, rank-in, step-rank, reaches-rank, cost-rank, relabelled-abstract}
+use Rattle.tables.specs.Tables.{entry, estimate, passesTest, LowerBound}
+use Rattle.tables.proofs.OverRanks.{rank-relabelled, at-rank, rank-in, step-rank, relabelled-abstract}
 
 module _ (b : List ℕ) (v : Valid b) where
   abstractly : Valid (relabelBlock b)
@@ -88,54 +83,3 @@ module _ (b : List ℕ) (v : Valid b) where
   pub zeros-pass-test : (t : List ℕ) → ((k : ℕ) → k < abstractStates b → getD t k 0 ≡ 0) → passesTest b t ≡ true
   unfolding passesTest
   zeros-pass-test t z = zeros-pass (graphOf (relabelBlock b)) t (λ k l. z k (omega (arith, states-relabelled b)))
-
-  -- over the graph and over states, a least cost is the same
-  least-at-rank :
-      (u : List ℕ) → stateOk (relabelBlock b) u ≡ true → (e : ℕ)
-      → Least (graphOf (relabelBlock b)) (rank (relabelBlock b) u) e → LeastCost (relabelBlock b) u e
-  least-at-rank u ok e h =
-      let a = relabelBlock b in
-      let same : (rs : List ℕ) → reaches (graphOf a) (rank a u) rs ≡ runs.reaches a u rs =
-      λ rs. reaches-rank a abstractly (relabelled-abstract b) u rs ok in
-      let costs : (rs : List ℕ) → totalCost (graphOf a) rs ≡ runs.totalCost a rs =
-      cost-rank a abstractly (relabelled-abstract b) in
-      ⊎-elim
-      (λ n. inl (n .0, λ rs w. n .1 rs (same rs ∙ w)))
-      (λ n.
-      inr (
-        n .0,
-        (n .1 .0, sym (same (n .1 .0)) ∙ n .1 .1, sym (costs (n .1 .0)) ∙ n .1 .2),
-        λ rs w.
-            rw (sym (costs rs)) (n .2 rs (same rs ∙ w)),
-      ))
-      h
-
-  -- the entry of each abstract state, in a table of least costs, is the least cost from it
-  pub least-entry :
-      (t : List ℕ) → LeastTable (graphOf (relabelBlock b)) t
-      → (u : List ℕ) → abstractOk b u ≡ true → LeastCost (relabelBlock b) u (entry b t u)
-  unfolding entry
-  least-entry t h u ok =
-      let a = relabelBlock b in
-      let ok′ = abstract-states b u ∙ ok in
-      rw (sym (rank-relabelled b u))
-      (least-at-rank u ok′ (getD t (rank a u) 0) (h .least (rank a u) (rank-in a abstractly (relabelled-abstract b) u ok′)))
-
--- the filled table, where costs are bytes
-module _ (b : List ℕ) (v : Valid b) (bytes : CostBytes b) where
-  few : abstractStates (relabelBlock b) ≤ 16384
-  few = relabelled-valid b v .sized .head .few
-
-  cheap : Cheap (graphOf (relabelBlock b))
-  cheap r l =
-      let l′ : r < rules b = omega (arith, rules-relabelled b) in
-      omega (arith, cost-relabelled b r l′, bytes r l′)
-
-  pub filled-least :
-      (u : List ℕ) → abstractOk b u ≡ true → LeastCost (relabelBlock b) u (entry b (filled b) u)
-  unfolding filled
-  filled-least = least-entry b v (leastCosts (graphOf (relabelBlock b))) (least-costs (graphOf (relabelBlock b)) cheap few)
-
-  pub filled-passes : passesTest b (filled b) ≡ true
-  unfolding passesTest filled
-  filled-passes = least-costs-pass (graphOf (relabelBlock b)) cheap few

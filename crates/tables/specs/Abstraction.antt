@@ -1,18 +1,16 @@
 -- The relabelled exercise as a graph over the ranks of its states (`graphOf`), of a relabelled block a.
--- A table has one entry per rank; the test and the fill are stated over this graph. Their inner functions ask for a relabelled block (`Relabelled`), compiled
--- (`Ready`), with the words of its states at hand (`Ranked`).
+-- A table has one entry per rank; the test and the filled table are stated over this graph. The inner functions ask for a relabelled block (`Relabelled`),
+-- compiled (`Ready`).
 use mathlib.Core.Path.{_≡_}
-use Prim.Native.Nat.{ℕ, _<_}
+use Prim.Native.Nat.{ℕ}
 use mathlib.Core.Bool.{true, cond}
 use mathlib.Core.List.{List}
-use lib.ListN.{length, getD}
 use Rattle.blocks.specs.Layout.{rules, costOf, abstractStates}
 use Rattle.blocks.specs.Validity.{Valid}
 use Rattle.blocks.specs.States.{stateOk, abstractOk}
 use Rattle.psvn.specs.Rules.{applies, step, meets}
 use Rattle.psvn.specs.Relabelling.{relabelState}
 use Rattle.psvn.specs.Ranks.{rank, unrank}
-use Rattle.words.specs.Ranking.{wordOf}
 use Rattle.words.specs.Compiled.{Compiled}
 use Rattle.distances.specs.Graphs.{Graph}
 
@@ -40,8 +38,3 @@ pub record Relabelled (a : List ℕ) : Type 0 where
 pub record Ready (a words moves weights : List ℕ) : Type 0 where
   pub relabelled : Relabelled a
   pub compiled : Compiled a words moves weights
-
--- the word of each rank
-pub record Ranked (a of-rank : List ℕ) : Type 0 where
-  pub len : length of-rank ≡ 16384
-  pub word : (u : ℕ) → u < abstractStates a → getD of-rank u 0 ≡ wordOf a u

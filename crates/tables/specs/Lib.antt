@@ -1,4 +1,4 @@
 -- The definitions on tables, a file for each idea.
--- The relabelled exercise as a graph over ranks; estimates, the test and the fill.
+-- The relabelled exercise as a graph over ranks; estimates and the test.
 pub mod Abstraction
 pub mod Tables

@@ -1,20 +1,16 @@
--- Tables of an exercise: the estimate of a state (`estimate`), the lower-bound test (`passesTest`) and the filled table (`filled`).
--- `LowerBound` is what a passing table promises of an estimate, and all that a search may use; `LeastCost` is what a filled entry is.
+-- Tables of an exercise: the estimate of a state (`estimate`) and the lower-bound test (`passesTest`).
+-- `LowerBound` is what a passing table promises of an estimate, and all that a search may use.
 use mathlib.Core.Path.{_≡_}
-use mathlib.Core.Logic.{_⊎_}
 use mathlib.Core.Bool.{Bool, true}
 use mathlib.Core.List.{List}
-use Prim.Native.Nat.{ℕ, _≤_, _<_}
+use Prim.Native.Nat.{ℕ, _<_}
 use lib.ListN.{getD}
 use Rattle.blocks.specs.Layout.{rules, costOf}
 use Rattle.blocks.specs.States.{stateOk}
 use Rattle.psvn.specs.Rules.{applies, step, meets}
-use Rattle.psvn.specs.Runs.{reaches, totalCost}
 use Rattle.psvn.specs.Relabelling.{relabelBlock, relabelState}
 use Rattle.psvn.specs.Ranks.{rank}
-use Rattle.distances.specs.Graphs.{mark}
 use Rattle.distances.specs.LowerBounds.{bounded, passes}
-use Rattle.distances.specs.LeastCosts.{leastCosts}
 use Rattle.tables.specs.Abstraction.{graphOf}
 
 -- the entry of an abstract state
@@ -29,23 +25,9 @@ estimate b t s = entry b t (relabelState b s)
 unfoldable pub passesTest : List ℕ → List ℕ → Bool
 passesTest b t = passes (graphOf (relabelBlock b)) t
 
--- the filled table
-unfoldable pub filled : List ℕ → List ℕ
-filled b = leastCosts (graphOf (relabelBlock b))
-
 -- the estimate h is 0 at goals, and at most a rule's cost above the estimate after it, where that is not the mark; then h is not the mark either
 pub record LowerBound (b : List ℕ) (h : List ℕ → ℕ) : Type 0 where
   pub goal : (s : List ℕ) → stateOk b s ≡ true → meets b s ≡ true → h s ≡ 0
   pub rule :
       (s : List ℕ) (r : ℕ) → stateOk b s ≡ true → r < rules b → applies b r s ≡ true
       → bounded (h s) (costOf b r) (h (step b r s)) ≡ true
-
--- the costs are bytes, as in every block that a call is lent
-abbrev pub CostBytes : List ℕ → Type 0
-CostBytes b = (r : ℕ) → r < rules b → costOf b r ≤ 255
-
--- e is the least total cost of the lists of rules, of any length, that reach a goal from the state u; or it is the mark and there are none
-abbrev pub LeastCost : List ℕ → List ℕ → ℕ → Type 0
-LeastCost a u e =
-    ((e ≡ mark) × ((rs : List ℕ) → reaches a u rs ≡ true → ⊥))
-    ⊎ ((e < mark) × ((rs : List ℕ) × (reaches a u rs ≡ true) × (totalCost a rs ≡ e)) × ((rs : List ℕ) → reaches a u rs ≡ true → e ≤ totalCost a rs))

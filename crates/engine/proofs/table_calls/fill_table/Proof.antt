@@ -7,7 +7,7 @@ use borrow.Author.Needs.{needs}
 use Rattle.basics.specs.Lists.{atFront}
 use Rattle.refusals.specs.Answers.{Answer, told, verdict, Outcome, outcome, guarded}
 use Rattle.refusals.specs.Refusals.{verdictOf}
-use Rattle.tables.specs.Tables.{filled}
+use Rattle.filling.specs.FilledTables.{filled}
 use Rattle.engine.specs.TableCalls.{tableConditions, fillTable}
 use Rattle.engine.proofs.Conditions.{table-accepted}
 use Rattle.engine.proofs.table_calls.fill_table.Statement.{statement}

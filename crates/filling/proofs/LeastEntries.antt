@@ -1,0 +1,81 @@
+-- Each entry of a table of least costs is the least cost from its state, in the terms of the language (`least-entry`), and so is each of the filled table
+-- (`filled-least`), which passes the lower-bound test (`filled-passes`).
+-- They say what a fill is good for; fixed tables are shown exact by the first.
+use mathlib.Core.Path.{_≡_, sym, _∙_}
+use mathlib.Core.Bool.{true}
+use mathlib.Core.List.{List}
+use mathlib.Core.Logic.{inl, inr, ⊎-elim}
+use Prim.Native.Nat.{ℕ, _≤_, _<_}
+use native.Mathlib.Omega.{arith}
+use lib.ListN.{getD}
+use Rattle.blocks.specs.Layout.{rules, abstractStates}
+use Rattle.blocks.specs.Validity.{Valid}
+use Rattle.blocks.specs.States.{stateOk, abstractOk}
+use Rattle.psvn.specs.Runs as runs
+use Rattle.psvn.specs.Relabelling.{relabelBlock}
+use Rattle.psvn.specs.Ranks.{rank}
+use Rattle.psvn.proofs.Relabelled.{rules-relabelled, cost-relabelled}
+use Rattle.psvn.proofs.Stepping.{abstract-states}
+use Rattle.psvn.proofs.RelabelTwice.{relabelled-valid}
+use Rattle.distances.specs.Graphs.{reaches, totalCost, Least, LeastTable}
+use Rattle.distances.specs.LeastCosts.{leastCosts}
+use Rattle.distances.specs.Filling.{Cheap}
+use Rattle.distances.proofs.LeastCostLaws.{least-costs, least-costs-pass}
+use Rattle.tables.specs.Abstraction.{graphOf}
+use Rattle.tables.specs.Tables.{entry, passesTest}
+use Rattle.tables.proofs.OverRanks.{rank-relabelled, rank-in, reaches-rank, cost-rank, relabelled-abstract}
+use Rattle.filling.specs.FilledTables.{filled, CostBytes, LeastCost}
+
+module _ (b : List ℕ) (v : Valid b) where
+  -- over the graph and over states, a least cost is the same
+  least-at-rank :
+      (u : List ℕ) → stateOk (relabelBlock b) u ≡ true → (e : ℕ)
+      → Least (graphOf (relabelBlock b)) (rank (relabelBlock b) u) e → LeastCost (relabelBlock b) u e
+  least-at-rank u ok e h =
+      let a = relabelBlock b in
+      let v′ = relabelled-valid b v in
+      let same : (rs : List ℕ) → reaches (graphOf a) (rank a u) rs ≡ runs.reaches a u rs =
+      λ rs. reaches-rank a v′ (relabelled-abstract b) u rs ok in
+      let costs : (rs : List ℕ) → totalCost (graphOf a) rs ≡ runs.totalCost a rs =
+      cost-rank a v′ (relabelled-abstract b) in
+      ⊎-elim
+      (λ n. inl (n .0, λ rs w. n .1 rs (same rs ∙ w)))
+      (λ n.
+      inr (
+        n .0,
+        (n .1 .0, sym (same (n .1 .0)) ∙ n .1 .1, sym (costs (n .1 .0)) ∙ n .1 .2),
+        λ rs w.
+            rw (sym (costs rs)) (n .2 rs (same rs ∙ w)),
+      ))
+      h
+
+  -- the entry of each abstract state, in a table of least costs, is the least cost from it
+  pub least-entry :
+      (t : List ℕ) → LeastTable (graphOf (relabelBlock b)) t
+      → (u : List ℕ) → abstractOk b u ≡ true → LeastCost (relabelBlock b) u (entry b t u)
+  unfolding entry
+  least-entry t h u ok =
+      let a = relabelBlock b in
+      let v′ = relabelled-valid b v in
+      let ok′ = abstract-states b u ∙ ok in
+      rw (sym (rank-relabelled b u))
+      (least-at-rank u ok′ (getD t (rank a u) 0) (h .least (rank a u) (rank-in a v′ (relabelled-abstract b) u ok′)))
+
+-- the filled table, where costs are bytes
+module _ (b : List ℕ) (v : Valid b) (bytes : CostBytes b) where
+  few : abstractStates (relabelBlock b) ≤ 16384
+  few = relabelled-valid b v .sized .head .few
+
+  cheap : Cheap (graphOf (relabelBlock b))
+  cheap r l =
+      let l′ : r < rules b = omega (arith, rules-relabelled b) in
+      omega (arith, cost-relabelled b r l′, bytes r l′)
+
+  pub filled-least :
+      (u : List ℕ) → abstractOk b u ≡ true → LeastCost (relabelBlock b) u (entry b (filled b) u)
+  unfolding filled
+  filled-least = least-entry b v (leastCosts (graphOf (relabelBlock b))) (least-costs (graphOf (relabelBlock b)) cheap few)
+
+  pub filled-passes : passesTest b (filled b) ≡ true
+  unfolding passesTest filled
+  filled-passes = least-costs-pass (graphOf (relabelBlock b)) cheap few

@@ -1,0 +1,66 @@
+-- `filling::candidates::reverse_rule` meets its contract.
+-- Both sides of the rule lie in the block, and the arrays keep their lengths.
+use Prim.Native.Nat.{_+_, _≤_}
+use native.Mathlib.Omega.{arith}
+use lib.ListN.{length}
+use denote.Ref.{now}
+use borrow.Author.Needs.{needs}
+use Rattle.blocks.proofs.Offsets.{left-inside, right-inside}
+use Rattle.filling.proofs.candidates.reverse_rule.Statement.{statement}
+use Rattle.filling.proofs.candidates.reverse_rule.Tie as tie
+
+-- both sides, at the places where the code finds them
+inside :
+    (d : tie.After-right-at)
+    → let n = d .before .before .positions .result in
+    let b = now (d .before .before .before .before .args .block) in
+    (n ≤ 16) × (d .before .left-at .result + n ≤ length b) × (d .right-at .result + n ≤ length b)
+inside d =
+    let s = d .before .before .before .before in
+    let b = now (s .args .block) in
+    (omega arith, omega (arith, left-inside b (s .pre .0) (s .args .r) (s .pre .1)), omega (arith, right-inside b (s .pre .0) (s .args .r) (s .pre .1)))
+
+positions-requires : tie.Need-positions-requires
+positions-requires c κs = search needs
+
+left-at-requires : tie.Need-left-at-requires
+left-at-requires c κs = search needs
+
+right-at-requires : tie.Need-right-at-requires
+right-at-requires c κs = search needs
+
+reverse-left-requires : tie.Need-reverse-left-requires
+reverse-left-requires c κs = let i = inside (c .before) in (i .0, i .1, i .2, search needs)
+
+reverse-right-requires : tie.Need-reverse-right-requires
+reverse-right-requires c κs = let i = inside (c .before .before .before) in (i .0, i .1, i .2, search needs)
+
+slice-aggregate-place-sides : tie.Need-slice-aggregate-place-sides
+slice-aggregate-place-sides c = search needs
+
+place-sides-requires : tie.Need-place-sides-requires
+place-sides-requires c κs = search needs
+
+place-groups-requires : tie.Need-place-groups-requires
+place-groups-requires c κs =
+    let d = c .before .before .before .before .before .before .before .before .before .before in
+    let p = d .before .before .before .before .pre in
+    let i = inside d in
+    (i .0, omega (arith, p .1, p .0 .head .sizes .r-high), i .1, i .2, p .4)
+
+returns : tie.Need-returns
+returns c = search needs
+
+pub reverse-rule-spec : {M : Type 1} → statement M
+reverse-rule-spec =
+    tie.close
+    (tie.spec
+    positions-requires
+    left-at-requires
+    right-at-requires
+    reverse-left-requires
+    reverse-right-requires
+    slice-aggregate-place-sides
+    place-sides-requires
+    place-groups-requires
+    returns)

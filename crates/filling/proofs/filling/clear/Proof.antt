@@ -1,0 +1,118 @@
+-- `filling::filling::clear` meets its contract.
+-- The loop's invariant: the words and the entries below u are written.
+use mathlib.Core.Path.{_≡_, ap, _∙_}
+use mathlib.Core.Bool.{Bool, cond}
+use Prim.Native.Nat.{ℕ, _≤_, _<_, _-_}
+use native.Mathlib.Omega.{arith}
+use denote.Ref.{now}
+use lib.ListN.{length, getD, length-set}
+use borrow.Author.Needs.{needs}
+use Rattle.basics.proofs.Lists.{set-more}
+use Rattle.blocks.specs.Layout.{goals, abstractStates}
+use Rattle.psvn.specs.Rules.{meets}
+use Rattle.psvn.specs.Ranks.{unrank}
+use Rattle.words.specs.Sides.{meetsWord}
+use Rattle.words.specs.Ranking.{wordOf}
+use Rattle.distances.specs.Graphs.{mark}
+use Rattle.distances.proofs.Writing.{Cleared, good-clear}
+use Rattle.tables.specs.Abstraction.{graphOf}
+use Rattle.tables.proofs.WordEdges.{few, word-goal}
+use Rattle.filling.proofs.filling.clear.Statement.{statement}
+use Rattle.filling.proofs.filling.clear.Tie as tie
+
+abbrev Inv-loop : tie.InvT-loop
+Inv-loop block words moves weights ranks₀ table₀ u₀ ranks table u =
+    (u ≤ abstractStates block) × (abstractStates block ≤ 16384) × (length ranks ≡ 16384) × (length table ≡ abstractStates block)
+    × ((w : ℕ) → w < u → getD ranks w 0 ≡ wordOf block w) × Cleared (graphOf block) table u
+
+abbrev μ-loop : tie.MeasureT-loop
+μ-loop block words moves weights ranks₀ table₀ u₀ ranks table u = abstractStates block - u
+
+-- the entry that is written
+entry :
+    (c : tie.After-cleared-entry Inv-loop μ-loop)
+    → c .cleared-entry .result
+    ≡ cond (meets (now (c .before .before .before .before .before .before .args .block)) (unrank (now (c .before .before .before .before .before .before .args .block)) (c .before .before .before .loop .u))) 0 mark
+entry c =
+    let s = c .before .before .before .before .before .before in
+    let b = now (s .args .block) in
+    let w = now (s .args .words) in
+    let m = now (s .args .moves) in
+    c .cleared-entry .ensures
+    ∙ ap (λ (t : Bool). cond t 0 mark)
+    (ap (λ (x : ℕ). meetsWord w m (goals b) x) (c .before .word-of .ensures)
+    ∙ word-goal b w m (now (s .args .weights)) (s .pre .0) (c .before .before .before .loop .u))
+
+loop-holds : tie.Need-loop-holds Inv-loop μ-loop
+loop-holds c =
+    let s = c .before .before in
+    let a = s .args in
+    (search needs, few (now (a .block)) (now (a .words)) (now (a .moves)) (now (a .weights)) (s .pre .0), s .pre .1, s .pre .2, λ w h. absurd (omega arith), λ w h. absurd (omega arith))
+
+word-of-requires : tie.Need-word-of-requires Inv-loop μ-loop
+word-of-requires c κs = search needs
+
+mul-ranks : tie.Need-mul-ranks Inv-loop μ-loop
+mul-ranks c = search needs
+
+element-write-ranks : tie.Need-element-write-ranks Inv-loop μ-loop
+element-write-ranks c = search needs
+
+cleared-entry-requires : tie.Need-cleared-entry-requires Inv-loop μ-loop
+cleared-entry-requires c κs = search needs
+
+mul-table : tie.Need-mul-table Inv-loop μ-loop
+mul-table c = search needs
+
+slice-write-table : tie.Need-slice-write-table Inv-loop μ-loop
+slice-write-table c = search needs
+
+add-u : tie.Need-add-u Inv-loop μ-loop
+add-u c = search needs
+
+loop-less : tie.Need-loop-less Inv-loop μ-loop
+loop-less c = search needs
+
+loop-again : tie.Need-loop-again Inv-loop μ-loop
+loop-again c =
+    let b = now (c .before .before .before .before .before .before .args .block) in
+    let l = c .before .before .before .loop in
+    let word = c .before .word-of .result in
+    let e = c .cleared-entry .result in (
+      omega arith,
+      l .inv .1,
+      length-set (l .ranks) (l .u) word ∙ l .inv .2,
+      length-set (l .table) (l .u) e ∙ l .inv .3,
+      set-more (wordOf b) (l .ranks) (l .u) word (l .inv .4) (omega arith) (c .before .word-of .ensures),
+      set-more (λ w. cond (meets b (unrank b w)) 0 mark) (l .table) (l .u) e (l .inv .5) (omega arith) (entry c),
+    )
+
+same-length : tie.Need-same-length Inv-loop μ-loop
+same-length c = search needs
+
+returns : tie.Need-returns Inv-loop μ-loop
+returns c =
+    let b = now (c .before .before .before .before .args .block) in
+    let l = c .before .loop in (
+      record { len = l .inv .2; word = λ w h. l .inv .4 w (omega arith) },
+      good-clear (graphOf b) (l .table) (l .inv .3) (λ w h. l .inv .5 w (omega arith)),
+    )
+
+pub clear-spec : {M : Type 1} → statement M
+clear-spec =
+    tie.close
+    (tie.spec
+    Inv-loop
+    μ-loop
+    loop-holds
+    word-of-requires
+    mul-ranks
+    element-write-ranks
+    cleared-entry-requires
+    mul-table
+    slice-write-table
+    add-u
+    loop-less
+    loop-again
+    same-length
+    returns)

@@ -1,0 +1,100 @@
+-- `filling::spreading::pull` meets its contract.
+-- The loop's invariant: the table is good.
+use mathlib.Core.Path.{sym, _∙_}
+use native.Mathlib.Omega.{arith}
+use borrow.Author.Needs.{needs}
+use Rattle.distances.specs.Filling.{Good}
+use Rattle.tables.specs.Abstraction.{graphOf}
+use Rattle.filling.proofs.spreading.pull.Statement.{statement}
+use Rattle.filling.proofs.spreading.pull.Tie as tie
+
+abbrev Inv-loop : tie.InvT-loop
+Inv-loop block words moves weights ranks back-words back-moves groups table₀ links₀ r v after start candidate₀ left₀ table links candidate left =
+    Good (graphOf block) table
+
+abbrev μ-loop : tie.MeasureT-loop
+μ-loop block words moves weights ranks back-words back-moves groups table₀ links₀ r v after start candidate₀ left₀ table links candidate left =
+    left
+
+mul-after : tie.Need-mul-after Inv-loop μ-loop
+mul-after c = search needs
+
+element-copy-out-after : tie.Need-element-copy-out-after Inv-loop μ-loop
+element-copy-out-after c = search needs
+
+may-apply-requires : tie.Need-may-apply-requires Inv-loop μ-loop
+may-apply-requires c κs = search needs
+
+returns : tie.Need-returns Inv-loop μ-loop
+returns c = c .before .before .before .before .before .pre .0 .2
+
+step-word-requires : tie.Need-step-word-requires Inv-loop μ-loop
+step-word-requires c κs = search needs
+
+loop-holds : tie.Need-loop-holds Inv-loop μ-loop
+loop-holds c = c .before .before .before .before .before .before .pre .0 .2
+
+try-candidate-requires : tie.Need-try-candidate-requires Inv-loop μ-loop
+try-candidate-requires c κs =
+    let p = c .before .before .before .before .before .before .before .before .before .before .pre in
+    ((p .0 .0, p .0 .1, c .before .before .before .loop .inv), p .1)
+
+same-length : tie.Need-same-length Inv-loop μ-loop
+same-length c = c .before .before .before .try-candidate .ensures .len ∙ sym (c .before .before .before .before .before .before .before .before .before .before .before .before .before .before .pre .0 .2 .len)
+
+returns-2 : tie.Need-returns-2 Inv-loop μ-loop
+returns-2 c = c .before .before .before .try-candidate .ensures
+
+abstracts-requires : tie.Need-abstracts-requires Inv-loop μ-loop
+abstracts-requires c κs = c .before .before .before .before .before .before .before .before .before .before .before .before .before .before .pre .0 .0 .relabelled .valid .sized .head .long
+
+next-candidate-requires : tie.Need-next-candidate-requires Inv-loop μ-loop
+next-candidate-requires c κs =
+    let s = c .before .before .before .before .before .before .before .before .before .before .before .before .before .before .before .pre .0 .0 .relabelled .valid .sized .head .sizes in
+    (omega (arith, s .k-high, s .l-high, c .abstracts .ensures .0), omega (arith, s .r-high))
+
+same-length-2 : tie.Need-same-length-2 Inv-loop μ-loop
+same-length-2 c = c .before .before .before .before .before .before .try-candidate .ensures .len ∙ sym (c .before .before .before .before .before .before .before .before .before .before .before .before .before .before .before .before .before .pre .0 .2 .len)
+
+returns-3 : tie.Need-returns-3 Inv-loop μ-loop
+returns-3 c = c .before .before .before .before .before .before .try-candidate .ensures
+
+sub-left : tie.Need-sub-left Inv-loop μ-loop
+sub-left c = search needs
+
+loop-less : tie.Need-loop-less Inv-loop μ-loop
+loop-less c = search needs
+
+loop-again : tie.Need-loop-again Inv-loop μ-loop
+loop-again c = c .before .before .before .before .before .before .try-candidate .ensures
+
+same-length-3 : tie.Need-same-length-3 Inv-loop μ-loop
+same-length-3 c = c .before .loop .inv .len ∙ sym (c .before .before .before .before .before .before .before .before .pre .0 .2 .len)
+
+returns-4 : tie.Need-returns-4 Inv-loop μ-loop
+returns-4 c = c .before .loop .inv
+
+pub pull-spec : {M : Type 1} → statement M
+pull-spec =
+    tie.close
+    (tie.spec
+    Inv-loop
+    μ-loop
+    mul-after
+    element-copy-out-after
+    may-apply-requires
+    returns
+    step-word-requires
+    loop-holds
+    try-candidate-requires
+    same-length
+    returns-2
+    abstracts-requires
+    next-candidate-requires
+    same-length-2
+    returns-3
+    sub-left
+    loop-less
+    loop-again
+    same-length-3
+    returns-4)

@@ -1,0 +1,8 @@
+// The fill: the table of least costs of an exercise.
+mod candidates;
+mod filling;
+mod queue;
+mod spreading;
+mod sweeping;
+
+pub use filling::fill;
