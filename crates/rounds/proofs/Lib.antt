@@ -1,0 +1,13 @@
+-- The laws of the search by rounds, over any transition system and any estimate.
+-- The search call rests on them.
+pub mod OpenListLaws
+pub mod OneRound
+pub mod ReachingLists
+pub mod BestPlans
+pub mod Allowed
+pub mod Fuel
+pub mod Equations
+pub mod Demand
+pub mod Figures
+pub mod LogLaws
+pub mod Images
