@@ -1,5 +1,4 @@
 // The fill: the table of least costs of an exercise.
-mod candidates;
 mod filling;
 mod queue;
 mod spreading;

@@ -1,4 +1,4 @@
--- `filling::candidates::place_groups` meets its contract.
+-- `candidates::reversed_rules::place_groups` meets its contract.
 -- The loop's invariant: there are no more groups than positions passed, and the array keeps its length.
 use mathlib.Core.Path.{_≡_, ap, _∙_}
 use mathlib.Core.Logic.{⊎-elim}
@@ -6,8 +6,8 @@ use Prim.Native.Nat.{_+_, _≤_, _<_, _-_}
 use native.Mathlib.Omega.{arith}
 use lib.ListN.{length, length-set}
 use borrow.Author.Needs.{needs}
-use Rattle.filling.proofs.candidates.place_groups.Statement.{statement}
-use Rattle.filling.proofs.candidates.place_groups.Tie as tie
+use Rattle.candidates.proofs.reversed_rules.place_groups.Statement.{statement}
+use Rattle.candidates.proofs.reversed_rules.place_groups.Tie as tie
 
 abbrev Inv-loop : tie.InvT-loop
 Inv-loop block left right n sides groups₀ r count₀ i₀ groups count i =

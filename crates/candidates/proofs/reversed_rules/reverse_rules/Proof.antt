@@ -1,12 +1,12 @@
--- `filling::candidates::reverse_rules` meets its contract.
+-- `candidates::reversed_rules::reverse_rules` meets its contract.
 -- The loop's invariant: the rules passed are rules of the block, and the arrays keep their lengths.
 use mathlib.Core.Path.{_≡_}
 use Prim.Native.Nat.{_≤_, _-_}
 use lib.ListN.{length}
 use borrow.Author.Needs.{needs}
 use Rattle.blocks.specs.Layout.{rules}
-use Rattle.filling.proofs.candidates.reverse_rules.Statement.{statement}
-use Rattle.filling.proofs.candidates.reverse_rules.Tie as tie
+use Rattle.candidates.proofs.reversed_rules.reverse_rules.Statement.{statement}
+use Rattle.candidates.proofs.reversed_rules.reverse_rules.Tie as tie
 
 abbrev Inv-loop : tie.InvT-loop
 Inv-loop block words₀ moves₀ groups₀ count r₀ words moves groups r =

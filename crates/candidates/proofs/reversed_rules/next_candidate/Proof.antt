@@ -1,10 +1,10 @@
--- `filling::candidates::next_candidate` meets its contract.
+-- `candidates::reversed_rules::next_candidate` meets its contract.
 -- The loop's invariant: the groups passed are among the rule's, which are at most 16.
 use mathlib.Core.Path.{_≡_}
 use Prim.Native.Nat.{_*_, _≤_, _<_, _-_}
 use borrow.Author.Needs.{needs}
-use Rattle.filling.proofs.candidates.next_candidate.Statement.{statement}
-use Rattle.filling.proofs.candidates.next_candidate.Tie as tie
+use Rattle.candidates.proofs.reversed_rules.next_candidate.Statement.{statement}
+use Rattle.candidates.proofs.reversed_rules.next_candidate.Tie as tie
 
 abbrev Inv-loop : tie.InvT-loop
 Inv-loop groups k r word at count next₀ g₀ next g = (k ≤ 16) × (r < 64) × (at ≡ 34 * r) × (count < 17) × (g ≤ count)

@@ -1,4 +1,4 @@
--- `filling::candidates::reverse_rule` meets its contract.
+-- `candidates::reversed_rules::reverse_rule` meets its contract.
 -- Both sides of the rule lie in the block, and the arrays keep their lengths.
 use Prim.Native.Nat.{_+_, _≤_}
 use native.Mathlib.Omega.{arith}
@@ -6,8 +6,8 @@ use lib.ListN.{length}
 use denote.Ref.{now}
 use borrow.Author.Needs.{needs}
 use Rattle.blocks.proofs.Offsets.{left-inside, right-inside}
-use Rattle.filling.proofs.candidates.reverse_rule.Statement.{statement}
-use Rattle.filling.proofs.candidates.reverse_rule.Tie as tie
+use Rattle.candidates.proofs.reversed_rules.reverse_rule.Statement.{statement}
+use Rattle.candidates.proofs.reversed_rules.reverse_rule.Tie as tie
 
 -- both sides, at the places where the code finds them
 inside :

@@ -1,10 +1,10 @@
--- `filling::candidates::mask_of` meets its contract.
+-- `candidates::reversed_rules::mask_of` meets its contract.
 -- The loop's invariant: the position stays on the side, which lies in the block.
 use Prim.Native.Nat.{_+_, _≤_, _-_}
 use lib.ListN.{length}
 use borrow.Author.Needs.{needs}
-use Rattle.filling.proofs.candidates.mask_of.Statement.{statement}
-use Rattle.filling.proofs.candidates.mask_of.Tie as tie
+use Rattle.candidates.proofs.reversed_rules.mask_of.Statement.{statement}
+use Rattle.candidates.proofs.reversed_rules.mask_of.Tie as tie
 
 abbrev Inv-loop : tie.InvT-loop
 Inv-loop block left n v mask₀ j₀ mask j = (n ≤ 16) × (j ≤ n) × (left + n ≤ length block)

@@ -1,11 +1,11 @@
--- `filling::candidates::reverse_left` meets its contract.
+-- `candidates::reversed_rules::reverse_left` meets its contract.
 -- The loop's invariant: the position stays on the sides, and the array keeps its length.
 use mathlib.Core.Path.{_≡_}
 use Prim.Native.Nat.{_+_, _≤_, _-_}
 use lib.ListN.{length}
 use borrow.Author.Needs.{needs}
-use Rattle.filling.proofs.candidates.reverse_left.Statement.{statement}
-use Rattle.filling.proofs.candidates.reverse_left.Tie as tie
+use Rattle.candidates.proofs.reversed_rules.reverse_left.Statement.{statement}
+use Rattle.candidates.proofs.reversed_rules.reverse_left.Tie as tie
 
 abbrev Inv-loop : tie.InvT-loop
 Inv-loop block left right n sides₀ i₀ sides i = (n ≤ 16) × (i ≤ n) × (left + n ≤ length block) × (right + n ≤ length block) × (length sides ≡ 32)
