@@ -4,6 +4,7 @@
 expected.py PROGRAM prints it; its output is kept as crates/PROGRAM/stdout.
 """
 import collections
+import functools
 import itertools
 import math
 import sys
@@ -85,6 +86,17 @@ def random_table_block(random):
     abstracts = random.choose(labels) + 1 if random.choose(8) == 0 else labels
     rules = random.choose(13) if random.choose(4) == 0 else random.choose(5) + 8
     return random_parts(random, [n, labels, abstracts, rules, random.choose(3) + 1], accepted=True)
+
+
+def random_search_block(random):
+    """A block with plans of a few steps from many states; one in eight has at most four states."""
+    few = random.choose(8) == 0
+    kind = random.choose(2)
+    n = kind + 1 if few else random.choose(kind + 2) + 3 + kind
+    labels = random.choose(6 - 2 * n) + 1 if few else 3 - kind
+    abstracts = random.choose(labels) + 1 if random.choose(3) == 0 else labels
+    rules = random.choose(13) if few else random.choose(5) + 10
+    return random_parts(random, [n, labels, abstracts, rules, random.choose(2) + 1], accepted=True)
 
 
 def random_block_of(random, n, labels, rules, goals):
@@ -714,6 +726,268 @@ def table_trials():
         batch.print()
 
 
+@functools.lru_cache(maxsize=8)
+def listing(block, start, steps):
+    return reference.Listing(reference.exercise_of(block), start, steps)
+
+
+def find_plan(block, start, steps, limit, allowance, table, plan):
+    """The search by its rounds, compared with the listing of all open lists, which has no rounds, and whose plan has no table."""
+    value, out = reference.find_plan(block, start, steps, limit, allowance, table, plan)
+    if isinstance(value, tuple):
+        status, _, cost, visits = value
+        every = listing(tuple(block), tuple(start), steps)
+        ranks = reference.abstraction(tuple(block))
+        unbounded = every.visits(lambda state: ranks.estimate(state, table), limit)
+        if status == 'spent':
+            assert unbounded > allowance == visits and out == plan
+        else:
+            cheapest = every.plan if every.plan and every.plan[1] <= limit else ([], 0)
+            assert unbounded == visits <= allowance
+            assert (status == 'found') == (every.plan is not None and every.plan[1] <= limit)
+            assert (out, cost) == (cheapest[0] + plan[len(cheapest[0]) :], cheapest[1])
+    return value, out
+
+
+def search_answer(value):
+    """Answer, steps, cost and visits of a search."""
+    if not isinstance(value, tuple):
+        return [value, 0, 0, 0]
+    return [{'found': 100, 'no plan': 101, 'spent': 102}[value[0]], *value[1:]]
+
+
+def worked_searches():
+    mark = reference.MARK
+    table = [mark, mark, mark, 2, mark, 1, 0, mark]
+    assert reference.fill_table(E, [UNWRITTEN] * 8) == ('filled', table)
+
+    def search(block, start, steps, limit, allowance, table, room=12, most=12):
+        value, plan = find_plan(block, start, steps, limit, allowance, table, [170] * room)
+        numbers([*search_answer(value), *plan, *[170] * (most - room)])
+
+    def query(steps, limit, allowance, table=table):
+        search(E, [1, 2, 0], steps, limit, allowance, table)
+
+    print('input E from <1,2,0>: D = 8, B = 100, V = 100; V = 9; B = 4; D = 2; on zeros; D = 65; then from the goal')
+    for limits in [(8, 100, 100), (8, 100, 9), (8, 4, 100), (2, 100, 100), (8, 100, 100, [0] * 8), (65, 100, 100)]:
+        query(*limits)
+    search(E, [2, 1, 0], 8, 100, 100, table)
+    print('D = 66, D = 4294967304, D = 18446744073709551615')
+    for steps in (66, 2**32 + 8, 2**64 - 1):
+        query(steps, 100, 100)
+    print('V from 0 to 11; on zeros from 0 to 20; for B = 4 from 0 to 7; for D = 2 from 0 to 12')
+    for steps, limit, contents, most in [(8, 100, table, 11), (8, 100, [0] * 8, 20), (8, 4, table, 7), (2, 100, table, 12)]:
+        for allowance in range(most + 1):
+            query(steps, limit, allowance, contents)
+    print('B from 0 to 7; on zeros')
+    for contents in (table, [0] * 8):
+        for limit in range(8):
+            query(8, limit, 100, contents)
+    print('D from 0 to 9; on zeros')
+    for contents in (table, [0] * 8):
+        for steps in range(10):
+            query(steps, 100, 100, contents)
+    print(
+        'from the goal; from <0,1,2>, whose estimate is 2; from <0,0,0>, which is marked; from <0,0,0> on zeros:'
+        ' B = 0, 1, 2 with V = 0 and V = 100, then B = 100 with V = 0, 1, 100'
+    )
+    pairs = [*itertools.product((0, 1, 2), (0, 100)), (100, 0), (100, 1), (100, 100)]
+    for start, contents in [([2, 1, 0], table), ([0, 1, 2], table), ([0, 0, 0], table), ([0, 0, 0], [0] * 8)]:
+        for limit, allowance in pairs:
+            search(E, start, 8, limit, allowance, contents)
+
+    def exercise(block, start):
+        for contents in (reference.fill_table(block, [UNWRITTEN] * 6)[1], [0] * 6):
+            search(block, [start], 6, 100, 100, contents)
+
+    print('a short way to the goal that costs more, on a filled table and on zeros')
+    exercise(block_of(1, 3, [(5, '0', '2'), (1, '0', '1'), (1, '1', '2')], ['2'], [0, 1, 2]), 0)
+    print('two rules to one state, and no way to the goal')
+    exercise(block_of(1, 4, [(1, '0', '1'), (1, '0', '1'), (1, '1', '2')], ['3'], list(range(4))), 0)
+    print('three steps and one at the same cost')
+    exercise(block_of(1, 4, [(0, '0', '1'), (0, '1', '2'), (2, '2', '3'), (2, '0', '3')], ['3'], list(range(4))), 0)
+    print('cycles at no cost, with and without a way to the goal')
+    steps = [(0, '0', '1'), (0, '1', '2'), (0, '2', '0'), (5, '2', '3'), (0, '4', '5'), (0, '5', '4')]
+    for start in (0, 1, 4):
+        exercise(block_of(1, 6, steps, ['3'], list(range(6))), start)
+
+    def figures(first):
+        block = block_of(1, 4, [(1, '0', '1'), (255, '1', '2')], ['3'], list(range(4)))
+        limits = [(6, mark - 2, 100), (6, mark - 1, 100), (6, mark, 100), (1, mark, 100), (0, mark, 100)]
+        for steps, limit, allowance in limits + [(6, mark, 3), (6, mark, 2), (6, mark, 1)]:
+            search(block, [0], steps, limit, allowance, [first, mark - 1, mark - 1, 0])
+
+    print(
+        'figures of 4294967294, 4294967295 and 4294967550: B = 4294967293, 4294967294, 4294967295, then with D = 1 and 0,'
+        ' then with V = 3, 2, 1'
+    )
+    figures(mark - 1)
+    print('the same where the first estimate is 0')
+    figures(0)
+    print('and where it is the mark, by a table that fails the test')
+    figures(mark)
+    sides = [('-' * (6 - ones) + '0' + '1' * ones, '-' * (6 - ones) + '1' + '0' * ones) for ones in range(7)]
+    deep = block_of(7, 2, [(255, left, right) for left, right in sides], ['1000000'], [0, 1])
+
+    def counts(contents, needed):
+        for steps, limit, allowance, room in [
+            (64, 16320, needed, 70),
+            (64, 16320, needed, 64),
+            (64, 16320, needed, 63),
+            (65, 16320, needed, 70),
+            (63, 16320, needed, 70),
+            (64, 16319, needed, 70),
+            (64, 16320, needed - 1, 70),
+        ]:
+            search(deep, [0] * 7, steps, limit, allowance, contents, room, 70)
+
+    print('64 steps of cost 255: into 70, 64 and 63 bytes; D = 65; D = 63; B = 16319; V too small')
+    counts(reference.fill_table(deep, [UNWRITTEN] * 128)[1], 65)
+    print('on zeros')
+    counts([0] * 128, 2145)
+    print('sixteen positions and labels, five steps: D = 12, D = 4, B = 14, V = 20')
+    turn = block_of(16, 16, [(3, 'ABCDEFGHIJKLMNOP', 'BCDEFGHIJKLMNOPA')], ['56789abcdef01234'])
+    for steps, limit, allowance in [(12, 15, 21), (4, 15, 21), (12, 14, 21), (12, 15, 20)]:
+        search(turn, list(range(16)), steps, limit, allowance, [0])
+    longer = table + [UNWRITTEN] * 2
+    print('three steps into 0, 2, 3 and 4 bytes; then by 0, 7, 8 and 9 elements; then both too short')
+    for room, length in [(0, 10), (2, 10), (3, 10), (4, 10), (3, 0), (3, 7), (3, 8), (3, 9), (2, 7)]:
+        search(E, [1, 2, 0], 3, 100, 100, longer[:length], room)
+    print('input E from <1,2,0>, with every set of faults 7, 8, 10, 11, 12, 13')
+    for k in range(64):
+        faults = subset(k, ['variable', 'state', 'limit', 'buffer', 'table', 'test'])
+        start = [1, 2, 3 if 'state' in faults else 0]
+        failing = longer[:5] + [2 if 'test' in faults else 1] + longer[6:]
+        steps, room, length = 65 if 'limit' in faults else 8, 7 if 'buffer' in faults else 8, 7 if 'table' in faults else 8
+        search(faulty(faults), start, steps, 100, 100, failing[:length], room)
+
+
+class SearchBatch:
+    """Searches, their answers counted by lines and summed up."""
+
+    lines = ['large', 'near cost', 'near visits', 'near both', 'near steps', 'small', 'damaged']
+    enough, most = 3000, 68
+
+    def __init__(self, random):
+        self.random, self.total, self.visits = random, Sum(), 0
+        self.answers = {line: collections.Counter() for line in self.lines}
+        self.plans = [0] * 8
+
+    def search(self, line, block, start, table, steps, limit, allowance):
+        """One search; gives its steps, cost and visits."""
+        random = self.random
+        kind, more, short, behind = (random.choose(n) for n in (16, 3, 24, 4))
+        room = max(steps - 1, 0) if kind == 0 else steps if kind < 8 else steps % 65536 + 1 + more
+        length = min(block[2] ** block[0], 16384)
+        length = length - 1 if short == 0 and length > 0 else length + behind
+        lent = min(room, self.most)
+        value, plan = find_plan(block, start, steps, limit, allowance, table[:length], [170] * lent)
+        number, *told = search_answer(value)
+        self.answers[line][number] += 1
+        self.visits += told[2]
+        if number == 100:
+            self.plans[min(told[0], 7)] += 1
+        self.total.mix(number, told[0])
+        self.total.mix_entries(*told[1:])
+        self.total.mix(*plan, *[170] * (self.most - lent))
+        return told
+
+    def some_steps(self, block):
+        """Up to six; or 64 where there are at most four states."""
+        n, labels = block[:2]
+        few = labels == 1 or (n == 1 and labels <= 4) or (n, labels) == (2, 2)
+        deep, steps = self.random.choose(2) == 0, self.random.choose(7)
+        return 64 if deep and few else steps
+
+    def search_any(self, line, block, start, table):
+        """A search with any limits; each takes as many random numbers whatever it is."""
+        random = self.random
+        if random.choose(12) == 0:
+            steps = [65, 66, 320, reference.MARK][random.choose(4)]
+            random.choose(1)
+        else:
+            steps = self.some_steps(block)
+        kind = random.choose(4)
+        limit = random.choose([1, 8, 600, 1][kind])
+        limit = reference.MARK if kind == 3 else limit
+        kind = random.choose(4)
+        allowance = random.choose([4, 32, 1, 1][kind])
+        allowance = allowance if kind < 2 else 300
+        self.search(line, block, start, table, steps, limit, allowance)
+
+    def near(self, number):
+        return min(max(number + self.random.choose(3) - 1, 0), reference.MARK)
+
+    def make_table(self, block):
+        """A table that passes the test, or a fill with entries changed."""
+        random, length = self.random, block[2] ** block[0]
+        table = reference.fill_table(block, [UNWRITTEN] * 88)[1]
+        kind, amount = random.choose(10), random.choose(12)
+        divisor = 0 if kind in (2, 3) else amount % 3 + 2 if kind in (4, 5, 7) else 1
+        marked = 0 if kind in (2, 3) else reference.MARK - 1 - amount if kind in (6, 7) else reference.MARK
+        for at, entry in enumerate(table[:length]):
+            table[at] = marked if entry == reference.MARK else entry // divisor if divisor else 0
+        if kind == 8:
+            at = random.choose(length)
+            table[at] = random_entry(random, table[at])
+        for at in range(length) if kind == 9 else []:
+            if random.choose(16) == 0:
+                table[at] = random_entry(random, table[at])
+        return table
+
+    def run_whole(self):
+        """Searches on an exercise that is accepted: with large limits, around what that told, and with any limits."""
+        random, enough, largest = self.random, self.enough, reference.MARK
+        block = random_search_block(random)
+        start = [random.choose(block[1]) for _ in range(block[0])]
+        case = block, start, self.make_table(block)
+        steps = self.some_steps(block)
+        steps = steps + 3 if steps < 3 else steps
+        plan_steps, cost, visits = self.search('large', *case, steps, largest, enough)
+        self.search('near visits', *case, steps, largest, self.near(visits))
+        limit = self.near(cost)
+        visits = self.search('near cost', *case, steps, limit, enough)[2]
+        self.search('near both', *case, steps, limit, self.near(visits))
+        self.search('near steps', *case, self.near(plan_steps), largest, enough)
+        self.search_any('small', *case)
+
+    def run_damaged(self):
+        """A search on an exercise that may be damaged, with a table that may be too short."""
+        random = self.random
+        block, head = random_block(random)
+        start = random_state(random, head)
+        n, _, abstracts = head
+        room = max(min(abstracts**n, 16384) + random.choose(8) - 2, 0)
+        table = reference.fill_table(block, [UNWRITTEN] * min(room, 4104))[1]
+        table += [UNWRITTEN] * (4104 - len(table))
+        changed, at = random.choose(4) == 0, random.choose(room)
+        if changed:
+            entry = random_entry(random, table[at] if at < 4104 else 0)
+            if at < 4104:
+                table[at] = entry
+        self.search_any('damaged', block, start, table[:room])
+
+    def print(self):
+        for counts in self.answers.values():
+            numbers(counts[value] for value in (100, 101, 102, 3, 4, 5, 6, 7, 8, 10, 11, 12, 13))
+        numbers(self.plans)
+        numbers([self.visits, self.total.total])
+
+
+def search_trials():
+    random = Random()
+    print(
+        "searches with large limits, around the plan's cost, around the visits, around both, around the steps, with small limits;"
+        ' then damaged exercises'
+    )
+    for _ in range(10):
+        batch = SearchBatch(random)
+        for _ in range(250):
+            batch.run_whole()
+            batch.run_damaged()
+        batch.print()
+
+
 def counter(direction, cost):
     """0 1 .. 1 at the end become 1 0 .. 0, up to all ones; the other way round where the direction is -1."""
     sides = [('-' * (13 - ones) + '0' + '1' * ones, '-' * (13 - ones) + '1' + '0' * ones) for ones in range(14)]
@@ -763,5 +1037,5 @@ def fill_order():
 
 if __name__ == '__main__':
     programs = [back_calls, back_trials, exercises, fill_order, recorded_runs, replay_trials, retracing]
-    programs += [table_trials, trials, wide_states, worked_tables]
+    programs += [search_trials, table_trials, trials, wide_states, worked_searches, worked_tables]
     {program.__name__: program for program in programs}[sys.argv[1]]()

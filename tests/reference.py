@@ -1,4 +1,4 @@
-"""An independent reading of the language: blocks, states, matching, applying, goals, relabelling, stepping back, reversible rules, replay, tables.
+"""An independent reading of the language: blocks, states, matching, applying, goals, relabelling, stepping back, reversible rules, replay, tables, search.
 
 It shares nothing with the crates. The expected outputs of the test programs are made from it (expected.py).
 """
@@ -31,6 +31,7 @@ class Exercise:
         n, width = self.n, 1 + 2 * self.n
         if len(block) != 5 + self.labels + self.rule_count * width + self.goal_count * n:
             raise Refused(4)
+        self.known = {}
         rest = list(block[5:])
         self.map, rest = rest[: self.labels], rest[self.labels :]
         self.rules = []
@@ -147,6 +148,13 @@ class Exercise:
     def meets(self, state):
         return any(self.match(goal, state) is not None for goal in self.goals)
 
+    def successors(self, state):
+        """The rules that apply to a state, in rising order: (number, cost, new state). States are tuples here."""
+        if state not in self.known:
+            images = ((number, rule[0], self.apply(number, state)) for number, rule in enumerate(self.rules))
+            self.known[state] = [(number, cost, tuple(image)) for number, cost, image in images if image is not None]
+        return self.known[state]
+
     def relabelled(self):
         def byte(term):
             if term[0] == 'label':
@@ -207,6 +215,97 @@ class Abstraction:
             return False
         asked = ((u, cost, v) for u, cost, v in self.steps if table[v] != MARK)
         return all(table[u] != MARK and table[u] <= cost + table[v] for u, cost, v in asked)
+
+
+class Spent(Exception):
+    pass
+
+
+class Rounds:
+    """The rounds of a search, taken literally. The allowance is None for rounds with no allowance."""
+
+    def __init__(self, exercise, start, steps, allowance, estimate):
+        self.exercise, self.start, self.steps, self.allowance, self.estimate = exercise, start, steps, allowance, estimate
+        self.visits, self.threshold, self.overshoot = 0, None, None
+
+    def visit(self, rules, path, cost):
+        """Visits a list and then its extensions; the plan and its cost, or None."""
+        if self.visits == self.allowance:
+            raise Spent
+        self.visits += 1
+        if self.exercise.meets(path[-1]):
+            return rules, cost
+        for rule, price, state in self.exercise.successors(path[-1]) if len(rules) < self.steps else []:
+            if state in path or self.estimate(state) == MARK:
+                continue
+            figure = cost + price + self.estimate(state)
+            if figure <= self.threshold:
+                plan = self.visit(rules + [rule], path + [state], cost + price)
+                if plan is not None:
+                    return plan
+            elif self.overshoot is None or figure < self.overshoot:
+                self.overshoot = figure
+        return None
+
+    def run(self, limit):
+        """The status, and the plan with its cost where one is found."""
+        first = self.estimate(self.start)
+        self.overshoot = None if first == MARK else first
+        while self.overshoot is not None and self.overshoot <= limit:
+            self.threshold, self.overshoot = self.overshoot, None
+            try:
+                plan = self.visit([], [self.start], 0)
+            except Spent:
+                return 'spent', None
+            if plan is not None:
+                return 'found', plan
+        return 'no plan', None
+
+
+class Listing:
+    """All open lists within a number of steps, by rule numbers, a prefix before its extensions. There are no rounds here.
+
+    Each has the place of the list that it extends by one rule, its last state, its cost, and whether that state meets a goal. The plan is
+    the first of the cheapest lists that reach a goal, with its cost, or None: no table is asked.
+    """
+
+    def __init__(self, exercise, start, steps):
+        self.lists, self.plan = [], None
+        waiting = [((), (start,), 0, 0)]
+        while waiting:
+            numbers, passed, total, parent = waiting.pop()
+            place, reaches = len(self.lists), exercise.meets(passed[-1])
+            self.lists.append((parent, passed[-1], total, reaches))
+            if reaches and (self.plan is None or total < self.plan[1]):
+                self.plan = list(numbers), total
+            for number, cost, state in reversed(exercise.successors(passed[-1])) if len(numbers) < steps else []:
+                if state not in passed:
+                    waiting.append((numbers + (number,), passed + (state,), total + cost, place))
+
+    def visits(self, estimate, limit):
+        """How many visits rounds with no allowance make.
+
+        The peak of a list is the largest figure of it and its prefixes. A round visits the lists whose peaks are at most the threshold, and the
+        thresholds are the peaks in rising order: the first list on the way to another whose figure is above the threshold has that as its peak.
+        """
+        peaks = []
+        for parent, state, cost, _ in self.lists:
+            figure = math.inf if estimate(state) == MARK else cost + estimate(state)
+            peaks.append(max(figure, peaks[parent]) if peaks else figure)
+        last = min((peak for peak, row in zip(peaks, self.lists) if row[3]), default=math.inf)
+        count = 0
+        for rank, (peak, after) in enumerate(itertools.pairwise([*sorted(peaks), math.inf])):
+            if peak < min(last, after) and peak <= limit:
+                count += rank + 1
+        if last == math.inf or last > limit:
+            return count
+        visited = [row[3] for peak, row in zip(peaks, self.lists) if peak <= last]
+        return count + visited.index(True) + 1
+
+
+@functools.lru_cache(maxsize=2)
+def exercise_of(block):
+    return Exercise(block)
 
 
 @functools.lru_cache(maxsize=2)
@@ -328,6 +427,26 @@ def test_table(block, table):
         return accepted_abstraction(block, None, table).passes(table)
     except Refused as r:
         return r.number
+
+
+def find_plan(block, start, steps, limit, allowance, table, plan):
+    """The answer, (status, steps, cost, visits) or a number, and the contents of the buffer afterwards."""
+    try:
+        exercise = exercise_of(tuple(block))
+        first = tuple(exercise.state(start))
+        if steps > 64:
+            raise Refused(10)
+        if len(plan) < steps:
+            raise Refused(11)
+        ranks = accepted_abstraction(block, start, table)
+        if not ranks.passes(table):
+            raise Refused(13)
+        rounds = Rounds(exercise, first, steps, allowance, functools.cache(lambda state: ranks.estimate(state, table)))
+        status, found = rounds.run(limit)
+        rules, cost = found or ([], 0)
+        return (status, len(rules), cost, rounds.visits), written(rules, plan)
+    except Refused as r:
+        return r.number, list(plan)
 
 
 def look_up(block, state, table):

@@ -1,3 +1,4 @@
--- What the proofs of the calls share.
--- It turns an accepting verdict into what the layers below ask for.
+-- What the proofs of the calls rest on.
+-- An accepting verdict is turned into what the layers below ask for, and what the search layer answers into what the call tells.
 pub mod Conditions
+pub mod SearchAnswers

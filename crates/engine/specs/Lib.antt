@@ -9,3 +9,4 @@ pub mod Reversing
 pub mod Replaying
 pub mod Estimating
 pub mod TableCalls
+pub mod Searching

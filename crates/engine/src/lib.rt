@@ -7,6 +7,7 @@ mod predecessors;
 mod relabelling;
 mod replaying;
 mod reversing;
+mod searching;
 mod table_calls;
 
 pub use applying::Application;
@@ -25,6 +26,8 @@ pub use replaying::Replay;
 pub use replaying::replay_run;
 pub use reversing::Reversibility;
 pub use reversing::test_reversible;
+pub use searching::Search;
+pub use searching::find_plan;
 pub use table_calls::Filling;
 pub use table_calls::TableTest;
 pub use table_calls::fill_table;

@@ -1,5 +1,5 @@
 -- The starred exercises, proved together: `starred`.
--- antt computes what can be computed from the definitions, which `computing` opens; that there is no other predecessor follows from the rule's form, and that
+-- antt computes what can be computed from the definitions, which `computing` and `searching` open; that there is no other predecessor follows from the rule's form, and that
 -- no list costs less than input E's table says from the certificate.
 use mathlib.Core.Path.{_≡_, refl, sym, ap}
 use mathlib.Core.Bool.{true, false}
@@ -15,7 +15,7 @@ use Rattle.blocks.specs.Validity.{sizesOk, headOk, lengthOk, mapOk, sideOk, rul
 use Rattle.blocks.specs.States.{labelled, stateOk}
 use Rattle.blocks.proofs.Accepted.{accepted-valid}
 use Rattle.psvn.specs.Rules.{bound, matches, rewritten, applies, step, leads, goalMet, meets}
-use Rattle.psvn.specs.Relabelling.{relabelSide, relabelRule, relabelGoal, relabelBlock}
+use Rattle.psvn.specs.Relabelling.{relabelSide, relabelRule, relabelGoal, relabelBlock, relabelState}
 use Rattle.psvn.specs.Ranks.{rank, unrank}
 use Rattle.psvn.proofs.RankLaws.{unrank-state, rank-unrank}
 use Rattle.distances.specs.Graphs.{LeastTable}
@@ -24,10 +24,13 @@ use Rattle.distances.specs.LeastCosts.{leastBy, leastWithin, leastCosts}
 use Rattle.distances.specs.Certificates.{certifies}
 use Rattle.distances.proofs.Certificate.{certified}
 use Rattle.tables.specs.Abstraction.{stepRank, graphOf}
-use Rattle.tables.specs.Tables.{entry, passesTest}
+use Rattle.tables.specs.Tables.{entry, estimate, passesTest}
 use Rattle.tables.proofs.Promises.{zeros-pass-test}
 use Rattle.filling.specs.FilledTables.{filled, LeastCost}
 use Rattle.filling.proofs.LeastEntries.{least-entry}
+use Rattle.rounds.specs.Systems.{lower}
+use Rattle.rounds.specs.Rounds.{andThen, behind, takeUp, conclude, capped, begin, arrive, offer, extend, visit, visits, round, rounds, roundsFrom, search}
+use Rattle.search.specs.Exercises.{searchFrom}
 use Rattle.backward.specs.Predecessors.{Predecessor, from-first, after, found, none-further, isFound, writtenOut, stepBack}
 use Rattle.backward.specs.Reversible.{reversible}
 use Rattle.backward.proofs.NextState.{next-found, none-found}
@@ -37,12 +40,18 @@ use Rattle.engine.specs.Applying.{applyConditions, applyRule}
 use Rattle.engine.specs.Predecessors.{stepBackConditions, stepBackFrom}
 use Rattle.engine.specs.Reversing.{reversibleConditions, testReversible}
 use Rattle.engine.specs.TableCalls.{tableConditions, fillTable, testTable}
+use Rattle.engine.specs.Searching.{searchConditions, findPlan}
 use Rattle.exercises.specs.Starred.{Starred, exampleBlock, exampleState, exampleImage, pairBlock, inputE, tableE}
 
 -- what the definitions are opened for
 computing : Unit {0}
 unfolding exampleBlock exampleState exampleImage pairBlock inputE tableE headByte labelCount abstractCount abstractStates mapByte mapAt costOf relabelHead ruleWidth ruleAt leftAt rightAt goalAt blockLength sizesOk headOk lengthOk mapOk sideOk ruleTermsOk goalTermsOk termsOk ruleBound boundOk blockConditions labelled bound matches rewritten applies step leads stateConditions applyConditions applyRule stepBackConditions reversible reversibleConditions testReversible goalMet meets relabelSide relabelRule relabelGoal relabelBlock rank unrank stepRank passesAt passes certifies passesTest leastBy leastWithin leastCosts filled tableConditions fillTable testTable
 computing = tt
+
+-- and what a search is opened for besides
+searching : Unit {0}
+unfolding relabelState entry estimate lower andThen behind takeUp conclude capped begin arrive offer extend visit round rounds roundsFrom search visits searchFrom searchConditions findPlan
+searching = tt
 
 -- the example block, its rule, and the two states
 example-valid : Valid exampleBlock
@@ -133,7 +142,7 @@ e-entry k l =
     (least-entry inputE e-valid tableE e-least (unrank inputE k) (unrank-state inputE h k))
 
 pub starred : Starred
-unfolding computing
+unfolding computing searching
 starred =
     record {
       example-step = refl;
@@ -149,4 +158,10 @@ starred =
       table-passes = refl;
       zeros-pass = refl;
       zeros-always-pass = zeros-pass-test;
+      search-found = refl;
+      search-spent = refl;
+      search-cost-limit = refl;
+      search-step-limit = refl;
+      search-zeros = refl;
+      search-at-goal = refl;
     }

@@ -21,6 +21,7 @@ use Rattle.engine.specs.Applying.{done, applyRule}
 use Rattle.engine.specs.Predecessors.{stepBackFrom}
 use Rattle.engine.specs.Reversing.{testReversible}
 use Rattle.engine.specs.TableCalls.{fillTable, testTable}
+use Rattle.engine.specs.Searching.{searchAnswer, findPlan}
 
 -- one rule, <A,A,1,-,B,C> to <2,-,-,-,C,B>, over eight labels; the map sends all labels to one, and every state is a goal
 unfoldable pub exampleBlock : List ℕ
@@ -62,6 +63,10 @@ inputE =
 unfoldable pub tableE : List ℕ
 tableE = mark ∷ mark ∷ mark ∷ 2 ∷ mark ∷ 1 ∷ 0 ∷ mark ∷ []
 
+-- a plan buffer of eight bytes
+abbrev pub roomE : List ℕ
+roomE = 9 ∷ 9 ∷ 9 ∷ 9 ∷ 9 ∷ 9 ∷ 9 ∷ 9 ∷ []
+
 pub record Starred : Type 0 where
   -- the example rule takes <4,4,1,7,5,6> to <2,4,1,7,6,5>, written at the front of the buffer
   pub example-step :
@@ -94,3 +99,18 @@ pub record Starred : Type 0 where
   pub zeros-pass : testTable inputE (0 ∷ 0 ∷ 0 ∷ 0 ∷ 0 ∷ 0 ∷ 0 ∷ 0 ∷ []) ≡ told true
   pub zeros-always-pass :
       (b : List ℕ) → Valid b → (t : List ℕ) → ((k : ℕ) → k < abstractStates b → getD t k 0 ≡ 0) → passesTest b t ≡ true
+  -- the search of input E from <1,2,0> with its table, step limit 8, cost limit 100 and allowance 100: found, 3 steps, cost 5, 10 visits, plan 2, 0, 5
+  pub search-found :
+      findPlan inputE (1 ∷ 2 ∷ 0 ∷ []) 8 100 100 tableE roomE
+      ≡ outcome (told (searchAnswer 0 3 5 10)) (2 ∷ 0 ∷ 5 ∷ 9 ∷ 9 ∷ 9 ∷ 9 ∷ 9 ∷ [])
+  -- an allowance of 9 is spent
+  pub search-spent : findPlan inputE (1 ∷ 2 ∷ 0 ∷ []) 8 100 9 tableE roomE ≡ outcome (told (searchAnswer 2 0 0 9)) roomE
+  -- with cost limit 4, or with step limit 2, there is no plan
+  pub search-cost-limit : findPlan inputE (1 ∷ 2 ∷ 0 ∷ []) 8 4 100 tableE roomE ≡ outcome (told (searchAnswer 1 0 0 6)) roomE
+  pub search-step-limit : findPlan inputE (1 ∷ 2 ∷ 0 ∷ []) 2 100 100 tableE roomE ≡ outcome (told (searchAnswer 1 0 0 11)) roomE
+  -- the table of zeros gives the same plan, after 19 visits
+  pub search-zeros :
+      findPlan inputE (1 ∷ 2 ∷ 0 ∷ []) 8 100 100 (0 ∷ 0 ∷ 0 ∷ 0 ∷ 0 ∷ 0 ∷ 0 ∷ 0 ∷ []) roomE
+      ≡ outcome (told (searchAnswer 0 3 5 19)) (2 ∷ 0 ∷ 5 ∷ 9 ∷ 9 ∷ 9 ∷ 9 ∷ 9 ∷ [])
+  -- from the goal itself the plan has no steps, after one visit
+  pub search-at-goal : findPlan inputE (2 ∷ 1 ∷ 0 ∷ []) 8 100 100 tableE roomE ≡ outcome (told (searchAnswer 0 0 0 1)) roomE

@@ -70,6 +70,56 @@ fn write_table_head(out: &mut [u8], cursor: u64) -> u64 {
     write_chosen(out, goals_at, 3, 1)
 }
 
+// At most four states: one position and up to four labels, or two and up to two.
+fn write_small_space(out: &mut [u8], cursor: u64) -> u64 {
+    let n = 1 + chosen(cursor, 2) % 2;
+    let labels_at = write(out, next(cursor), n);
+    write_chosen(out, labels_at, 6 - 2 * n, 1)
+}
+
+// 16 to 81 states: three or four positions and three labels, or four to six and two.
+fn write_wide_space(out: &mut [u8], cursor: u64) -> u64 {
+    if chosen(cursor, 2) == 0 {
+        let three_at = write_chosen(out, next(cursor), 2, 3);
+        return write(out, three_at, 3);
+    }
+    let two_at = write_chosen(out, next(cursor), 3, 4);
+    write(out, two_at, 2)
+}
+
+// As many abstract labels as labels two times in three, else any number.
+fn write_coarse_count(out: &mut [u8], cursor: u64) -> u64 {
+    let labels = byte_at(out, 1);
+    if chosen(cursor, 3) == 0 {
+        return write_chosen(out, next(cursor), labels, 1);
+    }
+    write(out, next(cursor), labels)
+}
+
+fn write_space(out: &mut [u8], cursor: u64, few: bool) -> u64 {
+    if few {
+        return write_small_space(out, cursor);
+    }
+    write_wide_space(out, cursor)
+}
+
+// Up to 12 rules where there are few states, else 10 to 14.
+fn write_some_rules(out: &mut [u8], cursor: u64, few: bool) -> u64 {
+    if few {
+        return write_chosen(out, cursor, 13, 0);
+    }
+    write_chosen(out, cursor, 5, 10)
+}
+
+// One head in eight has few states.
+fn write_search_head(out: &mut [u8], cursor: u64) -> u64 {
+    let few = chosen(cursor, 8) == 0;
+    let abstracts_at = write_space(out, next(cursor), few);
+    let rules_at = write_coarse_count(out, abstracts_at);
+    let goals_at = write_some_rules(out, rules_at, few);
+    write_chosen(out, goals_at, 2, 1)
+}
+
 // A given head, with as many abstract labels as labels.
 pub struct Head {
     pub n: u64,
@@ -144,6 +194,12 @@ pub fn make_small_block(out: &mut [u8], from: u64) -> u64 {
 // A block that is accepted, for a table of at most 4,096 entries. At most 183 bytes.
 pub fn make_table_block(out: &mut [u8], from: u64) -> u64 {
     let map_at = write_table_head(out, begin(from));
+    write_parts(out, map_at, true)
+}
+
+// A block that is accepted, with plans of a few steps from many states, for a table of at most 81 entries. At most 201 bytes.
+pub fn make_search_block(out: &mut [u8], from: u64) -> u64 {
+    let map_at = write_search_head(out, begin(from));
     write_parts(out, map_at, true)
 }
 

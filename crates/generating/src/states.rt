@@ -35,3 +35,14 @@ pub fn make_state(out: &mut [u8], from: u64, n: u64, labels: u64) -> u64 {
     }
     write_labels(out, next(cursor), n, labels)
 }
+
+// A state that is right.
+pub fn make_whole_state(out: &mut [u8], from: u64, n: u64, labels: u64) -> u64 {
+    let mut at = begin(seed(from));
+    let mut i: u64 = 0;
+    while i < n {
+        at = write_chosen(out, at, labels, 0);
+        i += 1;
+    }
+    at
+}

@@ -1,6 +1,6 @@
 -- The rounds' equations, a law for each branch of a program: a visit that is due (`visit-stop`, `visit-goal`, `visit-leaf`, `visit-more`), what a rule offers
 -- (`offer-none`, `offer-seen`, `offer-mark`, `offer-over`, `offer-due`), one rule and then the others (`extend-none` to `extend-stop`), a round and then the others
--- (`rounds-above` to `rounds-on`), the first threshold (`search-mark`, `search-at`). Code that searches rests on these and unfolds nothing.
+-- (`rounds-above` to `rounds-on`). Code that searches rests on these and unfolds nothing.
 use mathlib.Core.Path.{_≡_, refl, ap, ap₂, _∙_}
 use mathlib.Core.Bool.{Bool, true, false}
 use mathlib.Core.Option.{none, some}
@@ -8,7 +8,7 @@ use mathlib.Core.List.{List, [], _∷_}
 use Prim.Native.Nat.{ℕ, zero, suc, _+_}
 use lib.Dec.{leb}
 use Rattle.rounds.specs.Systems.{System, Lawful, Estimate, mark, at, plus, lower}
-use Rattle.rounds.specs.Rounds.{occurs, Allowance, allows, Progress, on, hit, stop, found, noPlan, spent, Offer, cut, over, due, judge, weigh, andThen, behind, takeUp, arrive, conclude, capped, begin, offered, offer, extend, visit, round, roundsFrom, search}
+use Rattle.rounds.specs.Rounds.{occurs, Allowance, allows, Progress, on, hit, stop, found, noPlan, spent, Offer, cut, over, due, judge, weigh, andThen, behind, takeUp, arrive, conclude, capped, offered, offer, extend, visit, round, roundsFrom}
 use Rattle.rounds.proofs.ReachingLists.{offer-judge}
 use Rattle.rounds.proofs.Fuel.{rounds-again}
 
@@ -167,13 +167,3 @@ module _
       pub rounds-on : (w n : ℕ) → round Y h A D s T u ≡ on w (at n) → roundsFrom Y h A D B s T u ≡ roundsFrom Y h A D B s n w
       unfolding conclude
       rounds-on w n f = by-round (on w (at n)) f
-
-  -- ---- the first threshold
-
-  pub search-mark : h s ≡ mark → search Y h A D B s ≡ noPlan 0
-  unfolding search begin
-  search-mark e = ap (λ (x : Estimate). begin x (λ T. roundsFrom Y h A D B s T 0)) e
-
-  pub search-at : (T : ℕ) → h s ≡ at T → search Y h A D B s ≡ roundsFrom Y h A D B s T 0
-  unfolding search begin
-  search-at T e = ap (λ (x : Estimate). begin x (λ T. roundsFrom Y h A D B s T 0)) e

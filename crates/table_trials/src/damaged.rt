@@ -2,11 +2,12 @@
 use super::calls::run_fill;
 use super::calls::run_look_up;
 use super::calls::run_test;
-use super::changes::change;
 use super::sums::Batch;
 use super::sums::DAMAGED_FILL;
 use super::sums::DAMAGED_LOOK_UP;
 use super::sums::DAMAGED_TEST;
+use generating::around;
+use generating::change;
 use generating::chosen;
 use generating::make_block;
 use generating::next;
@@ -16,15 +17,6 @@ use testing::UNWRITTEN;
 use testing::front;
 use testing::front_entries;
 use testing::table_length;
-
-// A length from two below another to five above it.
-fn around(length: usize, cursor: u64) -> usize {
-    let above = length % 65536 + (chosen(cursor, 8) % 8) as usize;
-    if above < 2 {
-        return 0;
-    }
-    above - 2
-}
 
 // The calls on the first `room` elements of a table; one of them is changed between the fill and the test.
 fn run_calls(batch: Batch, block: &[u8], table: &mut [u32], room: usize) -> Batch {

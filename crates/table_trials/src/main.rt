@@ -2,7 +2,6 @@
 // For each batch a line for each call: how many answers were 100 (filled, passed, an entry), 101 (failed), and refused with 3, 4, 5, 6, 7, 8, 12.
 // Then how many entries there were, how many of them were marked, and a sum over all answers, tables and entries looked up.
 mod calls;
-mod changes;
 mod damaged;
 mod sums;
 mod whole;

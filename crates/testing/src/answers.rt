@@ -7,6 +7,7 @@ use engine::Predecessor;
 use engine::Relabelling;
 use engine::Replay;
 use engine::Reversibility;
+use engine::Search;
 use engine::TableTest;
 use refusals::Verdict;
 use refusals::number;
@@ -111,5 +112,44 @@ pub fn table_test_number(answer: TableTest) -> u64 {
         TableTest::Passes => 100,
         TableTest::Fails => 101,
         TableTest::Refused(refusal) => number(refusal) as u64,
+    }
+}
+
+pub fn search_number(answer: Search) -> u64 {
+    match answer {
+        Search::Found(_, _, _) => 100,
+        Search::NoPlan(_) => 101,
+        Search::Spent(_) => 102,
+        Search::Refused(refusal) => number(refusal) as u64,
+    }
+}
+
+// The steps of the plan found, or 0.
+pub fn search_steps(answer: Search) -> u64 {
+    match answer {
+        Search::Found(steps, _, _) => steps as u64,
+        Search::NoPlan(_) => 0,
+        Search::Spent(_) => 0,
+        Search::Refused(_) => 0,
+    }
+}
+
+// The cost of the plan found, or 0.
+pub fn search_cost(answer: Search) -> u32 {
+    match answer {
+        Search::Found(_, cost, _) => cost,
+        Search::NoPlan(_) => 0,
+        Search::Spent(_) => 0,
+        Search::Refused(_) => 0,
+    }
+}
+
+// The visits of a search, or 0 where it is refused.
+pub fn search_visits(answer: Search) -> u32 {
+    match answer {
+        Search::Found(_, _, visits) => visits,
+        Search::NoPlan(visits) => visits,
+        Search::Spent(visits) => visits,
+        Search::Refused(_) => 0,
     }
 }

@@ -1,24 +1,30 @@
--- `table_trials::changes::spoil` meets its contract.
+-- `search_trials::making::weaken` meets its contract.
 -- The loop's invariant: the table keeps its length, and at most all entries are passed.
 use mathlib.Core.Path.{_≡_}
 use Prim.Native.Nat.{_≤_, _-_}
 use lib.ListN.{length}
 use borrow.Author.Needs.{needs}
-use Rattle.table_trials.proofs.changes.spoil.Statement.{statement}
-use Rattle.table_trials.proofs.changes.spoil.Tie as tie
+use Rattle.search_trials.proofs.making.weaken.Statement.{statement}
+use Rattle.search_trials.proofs.making.weaken.Tie as tie
 
 abbrev Inv-loop : tie.InvT-loop
-Inv-loop table₀ cursor count rate behind₀ at₀ table behind at =
+Inv-loop table₀ count weakening at₀ table at =
     (at ≤ count) × (length table ≡ length table₀)
 
 abbrev μ-loop : tie.MeasureT-loop
-μ-loop table₀ cursor count rate behind₀ at₀ table behind at = count - at
+μ-loop table₀ count weakening at₀ table at = count - at
 
 loop-holds : tie.Need-loop-holds Inv-loop μ-loop
 loop-holds c = search needs
 
-change-some-requires : tie.Need-change-some-requires Inv-loop μ-loop
-change-some-requires c κs = search needs
+entry-at-requires : tie.Need-entry-at-requires Inv-loop μ-loop
+entry-at-requires c κs = search needs
+
+weaker-requires : tie.Need-weaker-requires Inv-loop μ-loop
+weaker-requires c κs = search needs
+
+put-entry-requires : tie.Need-put-entry-requires Inv-loop μ-loop
+put-entry-requires c κs = search needs
 
 add-at : tie.Need-add-at Inv-loop μ-loop
 add-at c = search needs
@@ -35,14 +41,16 @@ same-length c = search needs
 returns : tie.Need-returns Inv-loop μ-loop
 returns c = search needs
 
-pub spoil-spec : {M : Type 1} → statement M
-spoil-spec =
+pub weaken-spec : {M : Type 1} → statement M
+weaken-spec =
     tie.close
     (tie.spec
     Inv-loop
     μ-loop
     loop-holds
-    change-some-requires
+    entry-at-requires
+    weaker-requires
+    put-entry-requires
     add-at
     loop-less
     loop-again

@@ -1,6 +1,6 @@
-// Entries of a table changed: marked, 0, large, raised or lowered a little.
-use generating::chosen;
-use generating::next;
+// Tables that are no fills: entries marked, 0, large, raised or lowered a little; and lengths around that of a table.
+use super::choosing::chosen;
+use super::choosing::next;
 use testing::MARK;
 use testing::entry_at;
 use testing::lowered;
@@ -49,4 +49,13 @@ pub fn spoil(table: &mut [u32], cursor: u64, count: usize, rate: u64) -> u64 {
         at += 1;
     }
     behind
+}
+
+// A length from two below another to five above it.
+pub fn around(length: usize, cursor: u64) -> usize {
+    let above = length % 65536 + (chosen(cursor, 8) % 8) as usize;
+    if above < 2 {
+        return 0;
+    }
+    above - 2
 }

@@ -1,0 +1,316 @@
+-- The extensions of a list, rule by rule: figures as numbers (`figure-sum`, `figure-none`, `lower-min`), the states of a path (`from-less`, `occurs-path`), and what each rule
+-- leaves of the extensions (`Same`: `pass-idle`, `pass-over`, `pass-seen`), up to the next one that is due (`found-due`) or the last (`none-due`).
+-- The function that looks for the next extension rests on these.
+use mathlib.Core.Path.{_≡_, refl, sym, ap, _∙_}
+use mathlib.Core.Logic.{⊎-elim}
+use mathlib.Core.Bool.{Bool, true, false, cond, _||_}
+use mathlib.Core.List.{List}
+use mathlib.Core.Option as option
+use Prim.Native.Nat.{ℕ, zero, suc, _+_, _-_, _≤_, _<_, min}
+use native.Mathlib.Numerals.{add-one}
+use native.Mathlib.Omega.{arith}
+use lib.Dec.{eqb, ltb}
+use lib.ListN.{length, getD}
+use borrow.Author.Tests.{eqb-true, eqb-false, eq-eqb, ne-eqb, ltb-true, ltb-false, lt-ltb, le-ltb, le-leb, lt-leb}
+use Rattle.basics.proofs.Truth.{and-intro, and-right-false}
+use Rattle.basics.proofs.Order.{same?}
+use Rattle.blocks.specs.Layout.{rules}
+use Rattle.words.specs.Sides.{appliesWord, stepWord, costWord}
+use Rattle.words.specs.Ranking.{rankWord}
+use Rattle.rounds.specs.Systems.{Estimate, mark, at, plus, lower}
+use Rattle.rounds.specs.Rounds.{free, Progress, on, Offer, cut, over, occurs, offer, extend}
+use Rattle.rounds.proofs.Equations.{offer-none, offer-seen, offer-mark, offer-over, offer-due, extend-none, extend-cut, extend-over}
+use Rattle.search.specs.Exercises.{below, entryEstimate}
+use Rattle.search.specs.Limits.{threshold, ruleCount, goalCount, positionCount}
+use Rattle.search.specs.OnWords.{wordSystem, wordEstimate, figureOf, seen, onPath}
+use Rattle.search.specs.Parts.{Here, systemAt, estimateAt, Next, extendFrom, NextDue}
+use Rattle.search.proofs.GoodWords.{positions-few, rules-few, good-step, rank-in}
+
+-- ---- figures as numbers
+
+below-at : (top x : ℕ) → x < top → below top x ≡ at x
+below-at top x l = ap (λ (b : Bool). cond b (at x) mark) (lt-ltb x top l)
+
+below-mark : (top x : ℕ) → top ≤ x → below top x ≡ mark
+below-mark top x l = ap (λ (b : Bool). cond b (at x) mark) (le-ltb x top l)
+
+pub figure-at : (x : ℕ) → x < 18446744073709551615 → figureOf x ≡ at x
+figure-at x l = below-at 18446744073709551615 x l
+
+pub figure-mark : (x : ℕ) → 18446744073709551615 ≤ x → figureOf x ≡ mark
+figure-mark x l = below-mark 18446744073709551615 x l
+
+pub figure-sum :
+    (cost entry : ℕ) → cost ≤ 8589934592 → entry < 4294967295 → figureOf (cost + entry) ≡ plus cost (entryEstimate entry)
+figure-sum cost entry k l =
+    figure-at (cost + entry) (omega arith) ∙ ap (plus cost) (sym (below-at 4294967295 entry l))
+
+pub figure-none : (cost entry : ℕ) → 4294967295 ≤ entry → figureOf 18446744073709551615 ≡ plus cost (entryEstimate entry)
+figure-none cost entry l = figure-mark 18446744073709551615 (omega arith) ∙ ap (plus cost) (sym (below-mark 4294967295 entry l))
+
+-- what a figure f of cost g says of the estimate: it is the mark, or the number that is added
+pub data Figure (f g : ℕ) (e : Estimate) : Type 0 where
+  marked : e ≡ mark → 18446744073709551615 ≤ f → Figure f g e
+  rated : (k : ℕ) → e ≡ at k → f ≡ g + k → f < 18446744073709551615 → Figure f g e
+
+pub figure-is : (f g : ℕ) (e : Estimate) → figureOf f ≡ plus g e → Figure f g e
+figure-is f g e q = go e q (ltb f 18446744073709551615) refl
+  where
+    go : (e : Estimate) → figureOf f ≡ plus g e → (b : Bool) → ltb f 18446744073709551615 ≡ b → Figure f g e
+    go mark q true l =
+        let p = sym (figure-at f (ltb-true f 18446744073709551615 l)) ∙ q in
+        let z : _≡_ {A = ℕ} 0 1 = cc in
+        absurd (omega arith)
+    go mark q false l = marked refl (ltb-false f 18446744073709551615 l)
+    go (at k) q true l =
+        let n = ltb-true f 18446744073709551615 l in
+        let p = sym (figure-at f n) ∙ q in
+        let m : f ≡ g + k = cc in
+        rated k refl m n
+    go (at k) q false l =
+        let p = sym (figure-mark f (ltb-false f 18446744073709551615 l)) ∙ q in
+        let z : _≡_ {A = ℕ} 0 1 = cc in
+        absurd (omega arith)
+
+-- one more figure, as numbers
+pub lower-min : (f x : ℕ) → f < 18446744073709551615 → lower f (figureOf x) ≡ figureOf (min f x)
+unfolding lower
+lower-min f x l = go (ltb x 18446744073709551615) refl
+  where
+    go : (b : Bool) → ltb x 18446744073709551615 ≡ b → lower f (figureOf x) ≡ figureOf (min f x)
+    go true e = ap (lower f) (figure-at x (ltb-true x 18446744073709551615 e)) ∙ sym (figure-at (min f x) (omega arith))
+    go false e =
+        let k = ltb-false x 18446744073709551615 e in
+        let m : min f x ≡ f = omega arith in
+        ap (lower f) (figure-mark x k) ∙ sym (ap figureOf m ∙ figure-at f l)
+
+-- no figure lowers nothing
+min-none : (f x : ℕ) → 18446744073709551615 ≤ f → figureOf (min f x) ≡ figureOf x
+min-none f x l = go (ltb x 18446744073709551615) refl
+  where
+    go : (b : Bool) → ltb x 18446744073709551615 ≡ b → figureOf (min f x) ≡ figureOf x
+    go true e = let k = ltb-true x 18446744073709551615 e in let m : min f x ≡ x = omega arith in ap figureOf m
+    go false e = let k = ltb-false x 18446744073709551615 e in figure-mark (min f x) (omega arith) ∙ sym (figure-mark x k)
+
+-- what is the same either way
+pub same-either : (b : Bool) (x y : ℕ) → y ≡ x → cond b x y ≡ x
+same-either true x y e = refl
+same-either false x y e = e
+
+-- ---- the states of a path
+
+-- what a scan from the end shows, with one number more
+pub from-less :
+    (f : ℕ → Bool) (i n : ℕ) → ((k : ℕ) → i ≤ k → k < n → f k ≡ false) → f (i - 1) ≡ false
+    → (k : ℕ) → i - 1 ≤ k → k < n → f k ≡ false
+from-less f i n h e k l m =
+    ⊎-elim (λ d. ap f d ∙ e) (λ d. h k (omega arith) m) (same? k (i - 1))
+
+eqb-swap : (a b : ℕ) → eqb a b ≡ eqb b a
+eqb-swap a b = go (eqb a b) refl
+  where
+    go : (x : Bool) → eqb a b ≡ x → eqb a b ≡ eqb b a
+    go true e = e ∙ sym (eq-eqb b a (sym (eqb-true a b e)))
+    go false e = e ∙ sym (ne-eqb b a (λ p. eqb-false a b e (sym p)))
+
+or-swapped : (a b x y : Bool) → a ≡ x → b ≡ y → (a || b) ≡ (y || x)
+or-swapped true true x y p q = rw (← p, ← q) refl
+or-swapped true false x y p q = rw (← p, ← q) refl
+or-swapped false true x y p q = rw (← p, ← q) refl
+or-swapped false false x y p q = rw (← p, ← q) refl
+
+pub occurs-path :
+    (words moves : List ℕ) (rules goals : ℕ) (path : List ℕ) (depth w : ℕ)
+    → occurs (wordSystem words moves rules goals) w (seen path depth) ≡ onPath path depth w
+occurs-path words moves rules goals path zero w =
+    or-swapped (eqb w (getD path 0 0)) false (eqb (getD path 0 0) w) false (eqb-swap w (getD path 0 0)) refl
+occurs-path words moves rules goals path (suc depth) w =
+    or-swapped (eqb w (getD path (suc depth) 0)) (occurs (wordSystem words moves rules goals) w (seen path depth))
+    (eqb (getD path (suc depth) 0) w) (onPath path depth w)
+    (eqb-swap w (getD path (suc depth) 0)) (occurs-path words moves rules goals path depth w)
+
+-- ---- what is asked at a rule
+
+module _
+    {words moves weights table path limits : List ℕ} {depth cost : ℕ} (k : Here words moves weights table path limits depth cost) where
+  pub rules-low : ruleCount limits ≤ 64
+  rules-low = omega (arith, k .rules-told, rules-few (k .ready .compiled))
+
+  pub positions-low : positionCount limits ≤ 16
+  positions-low = omega (arith, k .positions-told, positions-few (k .ready .compiled))
+
+  pub depth-below : depth < 65
+  depth-below = omega (arith, k .depth-low, k .steps-few)
+
+  pub child-in :
+      (r child : ℕ) → r < ruleCount limits → child ≡ stepWord words moves r (getD path depth 0)
+      → rankWord weights (positionCount limits) child < length table
+  child-in r child l e =
+      let low : r < rules (k .block) = omega (arith, k .rules-told) in
+      rw (k .positions-told, e) (rank-in (k .ready) _ (good-step (k .ready .compiled) r _ low (k .good)))
+
+-- ---- one rule, then the others
+
+module _ (words moves weights table path limits : List ℕ) (depth cost : ℕ) where
+  -- what is left of the extensions by the rules from i on is what is left from j on
+  pub record Same (i x j y : ℕ) : Type 0 where
+    pub same :
+        (next : Next) (u : ℕ)
+        → extendFrom words moves weights table path limits depth cost next i u x
+        ≡ extendFrom words moves weights table path limits depth cost next j u y
+
+  -- what rule i offers
+  abbrev offered-at : ℕ → Offer ℕ
+  offered-at i =
+      offer (systemAt words moves limits) (estimateAt weights table limits) (threshold limits) (seen path depth)
+      (getD path depth 0) cost i
+
+  -- a step of the extensions, counted by the rule
+  module _ (i : ℕ) (low : i < ruleCount limits) (x y : ℕ) (next : Next) (u : ℕ) where
+    abbrev run : ℕ → ℕ → Estimate → Progress
+    run m j o =
+        extend (systemAt words moves limits) (estimateAt weights table limits) (threshold limits) next (seen path depth)
+        (getD path depth 0) cost m j u o
+
+    one-more :
+        (o : Estimate) → run (suc (ruleCount limits - (i + 1))) i (figureOf x) ≡ run (ruleCount limits - (i + 1)) (suc i) o
+        → o ≡ figureOf y → run (ruleCount limits - i) i (figureOf x) ≡ run (ruleCount limits - (i + 1)) (i + 1) (figureOf y)
+    one-more o step q =
+        let e : ruleCount limits - i ≡ suc (ruleCount limits - (i + 1)) = omega arith in
+        ap (λ (m : ℕ). run m i (figureOf x)) e ∙ step ∙ ap (run (ruleCount limits - (i + 1)) (suc i)) q
+        ∙ ap (λ (j : ℕ). run (ruleCount limits - (i + 1)) j (figureOf y)) (sym (add-one i))
+
+  -- rule i applies: the state that it makes, its cost and the figure, as the code has them
+  pub record Tried (i n child charge total : ℕ) : Type 0 where
+    pub low : i < ruleCount limits
+    pub can : appliesWord words moves i (getD path depth 0) ≡ true
+    pub made : child ≡ stepWord words moves i (getD path depth 0)
+    pub paid : charge ≡ costWord words i
+    pub placed : n ≡ positionCount limits
+    pub told : figureOf total ≡ plus (cost + charge) (wordEstimate weights table n child)
+
+  pub same-start : (i x : ℕ) → Same i x i x
+  same-start i x = record { same = λ next u. refl }
+
+  pub same-then : {i x j y k z : ℕ} → Same i x j y → Same j y k z → Same i x k z
+  same-then a b = record { same = λ next u. a .same next u ∙ b .same next u }
+
+  -- no rule is left
+  pub none-due :
+      {i x j y : ℕ} → Same i x j y → ruleCount limits ≤ j
+      → (next : Next) (u : ℕ) → extendFrom words moves weights table path limits depth cost next i u x ≡ on u (figureOf y)
+  none-due {i} {x} {j} {y} a l next u =
+      let Y = systemAt words moves limits in
+      let h = estimateAt weights table limits in
+      let e : ruleCount limits - j ≡ 0 = omega arith in
+      a .same next u
+      ∙ ap (λ (m : ℕ). extend Y h (threshold limits) next (seen path depth) (getD path depth 0) cost m j u (figureOf y)) e
+      ∙ extend-none Y h free (threshold limits) (seen path depth) (getD path depth 0) cost next 0 j u (figureOf y)
+
+  module _ (i : ℕ) (low : i < ruleCount limits) where
+    pass-cut : offered-at i ≡ cut → (x y : ℕ) → figureOf x ≡ figureOf y → Same i x (i + 1) y
+    pass-cut e x y q =
+        record {
+          same = λ next u.
+              one-more i low x y next u (figureOf x)
+              (extend-cut (systemAt words moves limits) (estimateAt weights table limits) free (threshold limits) (seen path depth)
+              (getD path depth 0) cost next (ruleCount limits - (i + 1)) i u (figureOf x) e)
+              q;
+        }
+
+    pass-noted : (f : ℕ) → offered-at i ≡ over f → f < 18446744073709551615 → (x : ℕ) → Same i x (i + 1) (min f x)
+    pass-noted f e l x =
+        record {
+          same = λ next u.
+              one-more i low x (min f x) next u (lower f (figureOf x))
+              (extend-over (systemAt words moves limits) (estimateAt weights table limits) free (threshold limits) (seen path depth)
+              (getD path depth 0) cost next (ruleCount limits - (i + 1)) i u (figureOf x) f e)
+              (lower-min f x l);
+        }
+
+    -- a rule that does not apply
+    pub pass-idle : appliesWord words moves i (getD path depth 0) ≡ false → (x y : ℕ) → y ≡ x → Same i x (i + 1) y
+    pass-idle e x y q =
+        let w = getD path depth 0 in
+        let stuck =
+        ap (λ (b : Bool). cond b (option.some (stepWord words moves i w)) option.none)
+        (and-right-false (ltb i (ruleCount limits)) (appliesWord words moves i w) e) in
+        pass-cut
+        (offer-none (systemAt words moves limits) (estimateAt weights table limits) free (threshold limits) (seen path depth) w cost i stuck)
+        x y (ap figureOf (sym q))
+
+  module _ {i n child charge total : ℕ} (t : Tried i n child charge total) where
+    steps : systemAt words moves limits .step i (getD path depth 0) ≡ option.some child
+    steps =
+        let w = getD path depth 0 in
+        ap (λ (b : Bool). cond b (option.some (stepWord words moves i w)) option.none)
+        (and-intro (ltb i (ruleCount limits)) (appliesWord words moves i w) (lt-ltb i (ruleCount limits) (t .low)) (t .can))
+        ∙ ap option.some (sym (t .made))
+
+    occurs-as : (b : Bool) → onPath path depth child ≡ b → occurs (systemAt words moves limits) child (seen path depth) ≡ b
+    occurs-as b e = occurs-path words moves (ruleCount limits) (goalCount limits) path depth child ∙ e
+
+    figured : Figure total (cost + charge) (estimateAt weights table limits child)
+    figured =
+        figure-is total (cost + charge) (estimateAt weights table limits child)
+        (t .told ∙ ap (λ (k : ℕ). plus (cost + charge) (wordEstimate weights table k child)) (t .placed))
+
+    -- it comes to a state of the path
+    pub pass-seen : onPath path depth child ≡ true → (x y : ℕ) → y ≡ x → Same i x (i + 1) y
+    pass-seen e x y q =
+        pass-cut i (t .low)
+        (offer-seen (systemAt words moves limits) (estimateAt weights table limits) free (threshold limits) (seen path depth)
+        (getD path depth 0) cost i child steps (occurs-as true e))
+        x y (ap figureOf (sym q))
+
+    -- it comes to a state that is not on the path, with a figure above the threshold or with none
+    pass-new : threshold limits < total → onPath path depth child ≡ false → (x : ℕ) → Same i x (i + 1) (min total x)
+    pass-new above e x = go figured
+      where
+        go : Figure total (cost + charge) (estimateAt weights table limits child) → Same i x (i + 1) (min total x)
+        go (marked m l) =
+            pass-cut i (t .low)
+            (offer-mark (systemAt words moves limits) (estimateAt weights table limits) free (threshold limits) (seen path depth)
+            (getD path depth 0) cost i child steps m (occurs-as false e))
+            x (min total x) (sym (min-none total x l))
+        go (rated k m f l) =
+            let g : total ≡ cost + costWord words i + k = omega (arith, t .paid) in
+            pass-noted i (t .low) total
+            (offer-over (systemAt words moves limits) (estimateAt weights table limits) free (threshold limits) (seen path depth)
+            (getD path depth 0) cost i child k steps (occurs-as false e) m
+            (lt-leb (cost + costWord words i + k) (threshold limits) (omega (arith, g)))
+            ∙ ap over (sym g))
+            l x
+
+    pub pass-over :
+        threshold limits < total → (x y : ℕ) → y ≡ cond (onPath path depth child) x (min total x) → Same i x (i + 1) y
+    pass-over above x y q = go (onPath path depth child) refl
+      where
+        go : (b : Bool) → onPath path depth child ≡ b → Same i x (i + 1) y
+        go true e = pass-seen e x y (q ∙ ap (λ (b : Bool). cond b x (min total x)) e)
+        go false e = rw (q ∙ ap (λ (b : Bool). cond b x (min total x)) e) (pass-new above e x)
+
+    -- it is due
+    pub found-due :
+        total ≤ threshold limits → threshold limits ≤ 4294967295 → onPath path depth child ≡ false
+        → (from x y : ℕ) → from ≤ i → Same from x i y
+        → NextDue words moves weights table path limits depth cost from x (record { rule = i; word = child; cost = cost + charge; least = y })
+    found-due most small e from x y l left = go figured
+      where
+        go :
+            Figure total (cost + charge) (estimateAt weights table limits child)
+            → NextDue words moves weights table path limits depth cost from x (record { rule = i; word = child; cost = cost + charge; least = y })
+        go (marked m k) = absurd (omega arith)
+        go (rated k m f z) =
+            record {
+              rule-low = l;
+              rule-high = t .low;
+              cost-told = ap (λ (c : ℕ). cost + c) (t .paid);
+              cost-low = omega arith;
+              made = steps;
+              offered =
+                  offer-due (systemAt words moves limits) (estimateAt weights table limits) free (threshold limits) (seen path depth)
+                  (getD path depth 0) cost i child k steps (occurs-as false e) m
+                  (le-leb (cost + costWord words i + k) (threshold limits) (omega (arith, t .paid)));
+              same = left .same;
+            }

@@ -1,0 +1,359 @@
+-- What a visit on words leaves, branch by branch (`visit-spent`, `visit-met`, `visit-last`, `visit-more`), what extensions leave (`extend-none`, `extend-due`), and
+-- what one that is taken up leaves (`take-more`, `take-found`, `take-spent`); where a list stands (`Here`) one rule further (`here-next`), and after the visits
+-- there (`here-again`). The cycle of the visits and the extensions rests on these.
+use mathlib.Core.Path.{_≡_, refl, sym, ap, ap₂, subst, _∙_}
+use mathlib.Core.Bool.{Bool, true, false}
+use mathlib.Core.List.{List, [], _∷_}
+use Prim.Native.Nat.{ℕ, zero, suc, _+_, _-_, _≤_, _<_}
+use native.Mathlib.Nat.{min-le-left}
+use native.Mathlib.Omega.{arith}
+use native.Mathlib.Numerals.{add-one}
+use lib.ListN.{length, getD, set, take, drop, length-set, length-take, drop-of-length-le}
+use lib.Seq.{drop-cons, getD-set-same, getD-take, length-take-le}
+use borrow.Author.Tests.{lt-ltb, le-ltb}
+use Rattle.basics.specs.Frames.{Outside}
+use Rattle.basics.proofs.Frames.{outside-none, outside-set, outside-then, outside-within}
+use Rattle.words.specs.Sides.{appliesWord, stepWord, costWord, meetsWord}
+use Rattle.rounds.specs.Rounds.{Progress, on, hit, upto, extend}
+use Rattle.rounds.proofs.Equations as equations
+use Rattle.search.specs.Limits.{threshold, allowance, stepLimit, ruleCount, goalCount}
+use Rattle.search.specs.OnWords.{figureOf, seen}
+use Rattle.search.specs.Parts.{Good, Here, Next, visitWithin, NextDue, Scanned, systemAt, estimateAt, extendFrom, progressOf, HitWithin, Done}
+use Rattle.search.specs.declared.scanning.Extension.{Extension}
+use Rattle.search.specs.declared.scanning.Scan.{Scan}
+use Rattle.search.specs.declared.scanning.Scan.the-variants.{Over, Due}
+use Rattle.search.specs.declared.visiting.Tally.{Tally}
+use Rattle.search.specs.declared.visiting.Visited.{Visited}
+use Rattle.search.specs.declared.visiting.Visited.the-variants.{On, Hit, Stop}
+use Rattle.search.proofs.GoodWords.{step-made, good-step}
+
+-- ---- the states of a path
+
+-- paths that agree up to depth have the same states there
+seen-kept :
+    (path path′ : List ℕ) (depth : ℕ) → ((j : ℕ) → j < suc depth → getD path′ j 0 ≡ getD path j 0)
+    → seen path′ depth ≡ seen path depth
+seen-kept path path′ zero h = ap (λ (x : ℕ). x ∷ []) (h 0 (omega arith))
+seen-kept path path′ (suc depth) h =
+    ap₂ (λ (x : ℕ) (l : List ℕ). x ∷ l) (h (suc depth) (omega arith)) (seen-kept path path′ depth (λ j l. h j (omega arith)))
+
+-- a word written behind the states up to depth
+seen-next :
+    (path : List ℕ) (depth w : ℕ) → suc depth < length path
+    → (getD (set path (suc depth) w) (suc depth) 0 ≡ w) × (seen (set path (suc depth) w) (suc depth) ≡ w ∷ seen path depth)
+seen-next path depth w l =
+    let e = getD-set-same path (suc depth) w 0 l in
+    let kept = outside-set (suc depth) w (omega arith) (omega arith) (outside-none (suc depth) (suc (suc depth)) path) in
+    (e, ap₂ (λ (x : ℕ) (s : List ℕ). x ∷ s) e (seen-kept path (set path (suc depth) w) depth (kept .before)))
+
+-- ---- the bytes of a plan
+
+-- a plan of depth steps, from depth on
+plan-empty : (plan : List ℕ) (depth : ℕ) → drop depth (take depth plan) ≡ []
+plan-empty plan depth = drop-of-length-le (take depth plan) {i = depth} (rw length-take (min-le-left depth (length plan)))
+
+-- a longer one, from the byte at depth on
+plan-next :
+    (plan : List ℕ) (depth steps r : ℕ) → depth < steps → steps ≤ length plan → getD plan depth 0 ≡ r
+    → drop depth (take steps plan) ≡ r ∷ drop (suc depth) (take steps plan)
+plan-next plan depth steps r l h e =
+    drop-cons (take steps plan) depth 0 (omega (arith, length-take-le steps plan h))
+    ∙ ap (λ (x : ℕ). x ∷ drop (suc depth) (take steps plan)) (getD-take steps plan depth 0 l ∙ e)
+
+-- ---- a list that is due
+
+module _
+    {words moves weights table path limits : List ℕ} {depth cost : ℕ}
+    (k : Here words moves weights table path limits depth cost) where
+  -- the path behind depth is of no matter
+  here-kept : {path′ : List ℕ} → Outside (suc depth) 65 path path′ → Here words moves weights table path′ limits depth cost
+  here-kept o =
+      record {
+        block = k .block;
+        ready = k .ready;
+        rules-told = k .rules-told;
+        goals-told = k .goals-told;
+        positions-told = k .positions-told;
+        threshold-low = k .threshold-low;
+        allowance-low = k .allowance-low;
+        steps-few = k .steps-few;
+        path-long = o .len ∙ k .path-long;
+        good = rw (o .before depth (omega arith)) (k .good);
+        depth-low = k .depth-low;
+        cost-low = k .cost-low;
+      }
+
+  -- the goal test as the code has it
+  pub goal-tested :
+      (goals : ℕ) (answer value : Bool) → goals ≡ goalCount limits → answer ≡ meetsWord words moves goals (getD path depth 0)
+      → answer ≡ value → meetsWord words moves (goalCount limits) (getD path depth 0) ≡ value
+  goal-tested goals answer value g e v = ap (λ (n : ℕ). meetsWord words moves n (getD path depth 0)) (sym g) ∙ sym e ∙ v
+
+  -- what visits from here leave
+  abbrev Leaves : List ℕ → List ℕ → List ℕ → Progress → Visited → Type 0
+  Leaves plan path′ plan′ x r = Done depth (stepLimit limits) (threshold limits) path plan path′ plan′ x r
+
+  -- nothing is written
+  unchanged :
+      (plan : List ℕ) (x : Progress) (r : Visited) → x ≡ progressOf depth plan r
+      → HitWithin depth (stepLimit limits) (threshold limits) r → Leaves plan path plan x r
+  unchanged plan x r e w =
+      record {
+        told = sym e;
+        within = w;
+        path-kept = outside-none (suc depth) 65 path;
+        plan-kept = outside-none depth 64 plan;
+      }
+
+  -- ---- a visit
+
+  module _ (plan : List ℕ) (tally : Tally) where
+    -- what the visit with d steps left leaves, as the definitions have it
+    abbrev here : ℕ → Progress
+    here d =
+        visitWithin words moves weights table limits d (seen path depth) (getD path depth 0) cost (tally .visits) (figureOf (tally .least))
+
+    pub visit-spent :
+        allowance limits ≤ tally .visits → Leaves plan path plan (here (stepLimit limits - depth)) (Stop (tally .visits))
+    visit-spent l =
+        unchanged plan (here (stepLimit limits - depth)) (Stop (tally .visits))
+        (equations.visit-stop _ _ _ _ _ _ _ _ _ _ (le-ltb (tally .visits) (allowance limits) l))
+        tt
+
+    module _ (left : tally .visits < allowance limits) where
+      pub visit-met :
+          meetsWord words moves (goalCount limits) (getD path depth 0) ≡ true
+          → Leaves plan path plan (here (stepLimit limits - depth)) (Hit depth cost (tally .visits + 1))
+      visit-met e =
+          unchanged plan (here (stepLimit limits - depth)) (Hit depth cost (tally .visits + 1))
+          (equations.visit-goal _ _ _ _ _ _ _ _ _ _ (lt-ltb (tally .visits) (allowance limits) left) e
+          ∙ ap₂ (λ (u : ℕ) (p : List ℕ). hit u p cost) (sym (add-one (tally .visits))) (sym (plan-empty plan depth)))
+          (omega arith, k .depth-low, k .cost-low)
+
+      module _ (e : meetsWord words moves (goalCount limits) (getD path depth 0) ≡ false) where
+        pub visit-last :
+            stepLimit limits ≤ depth
+            → Leaves plan path plan (here (stepLimit limits - depth)) (On (record { visits = tally .visits + 1; least = tally .least }))
+        visit-last l =
+            let none-left : stepLimit limits - depth ≡ 0 = omega arith in
+            unchanged plan (here (stepLimit limits - depth)) (On (record { visits = tally .visits + 1; least = tally .least }))
+            (ap here none-left
+            ∙ equations.visit-leaf _ _ _ _ _ _ _ _ _ (lt-ltb (tally .visits) (allowance limits) left) e
+            ∙ ap (λ (u : ℕ). on u (figureOf (tally .least))) (sym (add-one (tally .visits))))
+            tt
+
+        pub visit-more :
+            {path′ plan′ : List ℕ} {r : Visited} → depth < stepLimit limits
+            → Leaves plan path′ plan′
+            (extendFrom words moves weights table path limits depth cost (visitWithin words moves weights table limits (stepLimit limits - suc depth)) 0
+            (tally .visits + 1) (tally .least)) r
+            → Leaves plan path′ plan′ (here (stepLimit limits - depth)) r
+        visit-more l d =
+            let some-left : stepLimit limits - depth ≡ suc (stepLimit limits - suc depth) = omega arith in
+            let all-rules : ruleCount limits ≡ ruleCount limits - 0 = omega arith in
+            let next = visitWithin words moves weights table limits (stepLimit limits - suc depth) in
+            record {
+              told =
+                  d .told
+                  ∙ sym
+                  (ap here some-left
+                  ∙ equations.visit-more _ _ _ _ _ _ _ _ _ _ (lt-ltb (tally .visits) (allowance limits) left) e
+                  ∙ ap₂ (λ (n u : ℕ). extend (systemAt words moves limits) (estimateAt weights table limits) (threshold limits) next (seen path depth)
+                  (getD path depth 0) cost n 0 u (figureOf (tally .least))) all-rules (sym (add-one (tally .visits))));
+              within = d .within;
+              path-kept = d .path-kept;
+              plan-kept = d .plan-kept;
+            }
+
+  -- ---- extensions
+
+  -- what the extensions by the rules from a number on leave, as the definitions have it
+  abbrev fromRule : ℕ → ℕ → ℕ → Progress
+  fromRule =
+      extendFrom words moves weights table path limits depth cost (visitWithin words moves weights table limits (stepLimit limits - suc depth))
+
+  module _ (from : ℕ) (tally : Tally) where
+    pub extend-none :
+        (plan : List ℕ) (least : ℕ) (scan : Scan) → Scanned words moves weights table path limits depth cost from (tally .least) scan
+        → scan ≡ Over least
+        → Leaves plan path plan (fromRule from (tally .visits) (tally .least)) (On (record { visits = tally .visits; least = least }))
+    extend-none plan least scan s e =
+        let over : Scanned words moves weights table path limits depth cost from (tally .least) (Over least) = rw e at s in
+        unchanged plan (fromRule from (tally .visits) (tally .least)) (On (record { visits = tally .visits; least = least }))
+        (over (visitWithin words moves weights table limits (stepLimit limits - suc depth)) (tally .visits))
+        tt
+
+    -- an extension that is due
+    module _
+        (scan : Scan) (e : Extension) (s : Scanned words moves weights table path limits depth cost from (tally .least) scan)
+        (is : scan ≡ Due e) where
+      pub next-due : NextDue words moves weights table path limits depth cost from (tally .least) e
+      next-due = subst (λ (x : Scan). Scanned words moves weights table path limits depth cost from (tally .least) x) is s
+
+      -- it is also the next one by the rules from its own on
+      pub due-own : NextDue words moves weights table path limits depth cost (e .rule) (e .least) e
+      due-own =
+          let n = next-due in
+          record {
+            rule-low = omega arith;
+            rule-high = n .rule-high;
+            cost-told = n .cost-told;
+            cost-low = n .cost-low;
+            made = n .made;
+            offered = n .offered;
+            same = λ next u. refl;
+          }
+
+      pub extend-due :
+          {plan path′ plan′ : List ℕ} {r : Visited} → Leaves plan path′ plan′ (fromRule (e .rule) (tally .visits) (e .least)) r
+          → Leaves plan path′ plan′ (fromRule from (tally .visits) (tally .least)) r
+      extend-due d =
+          record {
+            told = d .told ∙ sym (next-due .same (visitWithin words moves weights table limits (stepLimit limits - suc depth)) (tally .visits));
+            within = d .within;
+            path-kept = d .path-kept;
+            plan-kept = d .plan-kept;
+          }
+
+  -- ---- an extension that is taken up
+
+  module _ (e : Extension) (n : NextDue words moves weights table path limits depth cost (e .rule) (e .least) e) where
+    -- the list one rule further: its state is written behind the path, its rule into the plan
+    pub here-next :
+        depth < stepLimit limits → (plan : List ℕ) → length plan ≡ 64
+        → Here words moves weights table (set path (depth + 1) (e .word)) limits (depth + 1) (e .cost)
+        × (length (set plan depth (e .rule)) ≡ 64)
+    here-next l plan long =
+        let made = step-made (e .rule) (ruleCount limits) (appliesWord words moves (e .rule) (getD path depth 0))
+        (stepWord words moves (e .rule) (getD path depth 0)) (e .word) (n .made) in
+        let good : Good (k .block) (e .word) =
+        subst (λ (x : ℕ). Good (k .block) x) (made .2)
+        (good-step (k .ready .compiled) (e .rule) (getD path depth 0) (omega (arith, n .rule-high, k .rules-told)) (k .good)) in
+        let next : Here words moves weights table (set path (suc depth) (e .word)) limits (suc depth) (e .cost) =
+        record {
+          block = k .block;
+          ready = k .ready;
+          rules-told = k .rules-told;
+          goals-told = k .goals-told;
+          positions-told = k .positions-told;
+          threshold-low = k .threshold-low;
+          allowance-low = k .allowance-low;
+          steps-few = k .steps-few;
+          path-long = length-set path (suc depth) (e .word) ∙ k .path-long;
+          good = rw (seen-next path depth (e .word) (omega (arith, k .path-long, k .steps-few)) .0) good;
+          depth-low = l;
+          cost-low = n .cost-low;
+        } in
+        (rw (add-one depth) next, length-set plan depth (e .rule) ∙ long)
+
+    -- and it is visited
+    module _
+        (used : ℕ) (low : depth < stepLimit limits) (plan : List ℕ) (plan-long : length plan ≡ 64)
+        (path′ plan′ : List ℕ) (r : Visited)
+        (d : Done (depth + 1) (stepLimit limits) (threshold limits) (set path (depth + 1) (e .word)) (set plan depth (e .rule)) path′ plan′
+        (visitWithin words moves weights table limits (stepLimit limits - (depth + 1)) (seen (set path (depth + 1) (e .word)) (depth + 1))
+        (getD (set path (depth + 1) (e .word)) (depth + 1) 0) (e .cost) used (figureOf (e .least))) r) where
+      abbrev next : Next
+      next = visitWithin words moves weights table limits (stepLimit limits - suc depth)
+
+      -- the same at the successor of depth
+      child :
+          Done (suc depth) (stepLimit limits) (threshold limits) (set path (suc depth) (e .word)) (set plan depth (e .rule)) path′ plan′
+          (next (seen (set path (suc depth) (e .word)) (suc depth)) (getD (set path (suc depth) (e .word)) (suc depth) 0) (e .cost)
+          used (figureOf (e .least))) r
+      child = rw (add-one depth) at d
+
+      -- what the visit leaves, as the definitions have it
+      left :
+          next (e .word ∷ seen path depth) (e .word) (cost + costWord words (e .rule)) used (figureOf (e .least))
+          ≡ progressOf (suc depth) plan′ r
+      left =
+          let s = seen-next path depth (e .word) (omega (arith, k .path-long, k .steps-few)) in
+          ap (λ (g : ℕ). next (e .word ∷ seen path depth) (e .word) g used (figureOf (e .least))) (sym (n .cost-told))
+          ∙ ap₂ (λ (l : List ℕ) (w : ℕ). next l w (e .cost) used (figureOf (e .least))) (sym (s .1)) (sym (s .0))
+          ∙ sym (child .told)
+
+      -- its rule is one of those left
+      counted :
+          fromRule (e .rule) used (e .least)
+          ≡ extend (systemAt words moves limits) (estimateAt weights table limits) (threshold limits) next (seen path depth) (getD path depth 0)
+          cost (suc (ruleCount limits - suc (e .rule))) (e .rule) used (figureOf (e .least))
+      counted =
+          let one-more : ruleCount limits - e .rule ≡ suc (ruleCount limits - suc (e .rule)) = omega (arith, n .rule-high) in
+          ap (λ (m : ℕ). extend (systemAt words moves limits) (estimateAt weights table limits) (threshold limits) next (seen path depth)
+          (getD path depth 0) cost m (e .rule) used (figureOf (e .least))) one-more
+
+      path-over : Outside (suc depth) 65 path path′
+      path-over =
+          outside-then
+          (outside-set (suc depth) (e .word) (omega arith) (omega (arith, k .steps-few)) (outside-none (suc depth) 65 path))
+          (outside-within (suc depth) 65 (omega arith) (omega arith) (child .path-kept))
+
+      plan-over : Outside depth 64 plan plan′
+      plan-over =
+          outside-then
+          (outside-set depth (e .rule) (omega arith) (omega (arith, k .steps-few)) (outside-none depth 64 plan))
+          (outside-within depth 64 (omega arith) (omega arith) (child .plan-kept))
+
+      -- the list stands as before, and the rules behind are tried
+      pub here-again : Here words moves weights table path′ limits depth cost × (length plan′ ≡ 64)
+      here-again = (here-kept path-over, plan-over .len ∙ plan-long)
+
+      pub take-more :
+          (then : Tally) → r ≡ On then → (path″ plan″ : List ℕ) (q : Visited)
+          → Done depth (stepLimit limits) (threshold limits) path′ plan′ path″ plan″
+          (extendFrom words moves weights table path′ limits depth cost (visitWithin words moves weights table limits (stepLimit limits - suc depth))
+          (e .rule + 1) (then .visits) (then .least)) q
+          → Leaves plan path″ plan″ (fromRule (e .rule) used (e .least)) q
+      take-more then is path″ plan″ q f =
+          let told : next (e .word ∷ seen path depth) (e .word) (cost + costWord words (e .rule)) used (figureOf (e .least))
+          ≡ on (then .visits) (figureOf (then .least)) = left ∙ ap (progressOf (suc depth) plan′) is in
+          let others : extendFrom words moves weights table path′ limits depth cost next (e .rule + 1) (then .visits) (then .least)
+          ≡ fromRule (suc (e .rule)) (then .visits) (then .least) =
+          ap (λ (i : ℕ). extendFrom words moves weights table path′ limits depth cost next i (then .visits) (then .least)) (add-one (e .rule))
+          ∙ ap₂ (λ (l : List ℕ) (w : ℕ). extend (systemAt words moves limits) (estimateAt weights table limits) (threshold limits) next l w
+          cost (ruleCount limits - suc (e .rule)) (suc (e .rule)) (then .visits) (figureOf (then .least)))
+          (seen-kept path path′ depth (path-over .before)) (path-over .before depth (omega arith)) in
+          record {
+            told =
+                f .told ∙ others
+                ∙ sym (counted ∙ equations.extend-on _ _ (upto (allowance limits)) _ _ _ _ _ _ _ _ _ (e .word) (n .offered) _ _ told);
+            within = f .within;
+            path-kept = outside-then path-over (f .path-kept);
+            plan-kept = outside-then plan-over (f .plan-kept);
+          }
+
+      pub take-spent :
+          (u : ℕ) → r ≡ Stop u → Leaves plan path′ plan′ (fromRule (e .rule) used (e .least)) (Stop u)
+      take-spent u is =
+          record {
+            told =
+                sym
+                (counted
+                ∙ equations.extend-stop _ _ (upto (allowance limits)) _ _ _ _ _ _ _ _ _ (e .word) (n .offered) u
+                (left ∙ ap (progressOf (suc depth) plan′) is));
+            within = tt;
+            path-kept = path-over;
+            plan-kept = plan-over;
+          }
+
+      pub take-found :
+          (steps total u : ℕ) → r ≡ Hit steps total u
+          → Leaves plan path′ plan′ (fromRule (e .rule) used (e .least)) (Hit steps total u)
+      take-found steps total u is =
+          let w : HitWithin (suc depth) (stepLimit limits) (threshold limits) (Hit steps total u) = rw is at (child .within) in
+          let byte : getD plan′ depth 0 ≡ e .rule =
+          child .plan-kept .before depth (omega arith)
+          ∙ getD-set-same plan depth (e .rule) 0 (omega (arith, k .steps-few)) in
+          let long : steps ≤ length plan′ = omega (arith, w, plan-over .len, k .steps-few) in
+          record {
+            told =
+                ap (λ (p : List ℕ). hit u p total) (plan-next plan′ depth steps (e .rule) (omega (arith, w)) long byte)
+                ∙ sym
+                (counted
+                ∙ equations.extend-hit _ _ (upto (allowance limits)) _ _ _ _ _ _ _ _ _ (e .word) (n .offered) u _ total
+                (left ∙ ap (progressOf (suc depth) plan′) is));
+            within = (omega (arith, w), w .1, w .2);
+            path-kept = path-over;
+            plan-kept = plan-over;
+          }

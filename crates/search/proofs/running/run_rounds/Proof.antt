@@ -1,0 +1,116 @@
+use mathlib.Core.Path.{refl}
+use Prim.Native.Nat.{suc, _-_}
+use native.Mathlib.Omega.{arith}
+use lib.ListN.{getD}
+use borrow.Author.Needs.{needs}
+use Rattle.search.proofs.Runs.{Rest, rest-whole, rest-none, cost-small, rest-found, rest-spent, rest-next, rest-higher}
+use Rattle.search.proofs.running.run_rounds.Statement.{statement}
+use Rattle.search.proofs.running.run_rounds.Tie as tie
+use Rattle.search.proofs.running.run_rounds.Reads as reads
+use Rattle.search.proofs.running.run_rounds.Lts as lts
+use Rattle.search.proofs.running.round.Reads as round-reads
+
+abbrev Inv-loop : tie.InvT-loop
+Inv-loop block words moves weights table path₀ plan₀ steps cost allowance first threshold₀ visits₀ path plan threshold visits =
+    Rest block words moves weights table steps cost allowance first (getD path₀ 0 0) path plan threshold visits
+
+abbrev μ-loop : tie.MeasureT-loop
+μ-loop block words moves weights table path₀ plan₀ steps cost allowance first threshold₀ visits₀ path plan threshold visits =
+    suc cost - threshold
+
+-- src/running.rt:91:5
+loop-holds : tie.Need-loop-holds Inv-loop μ-loop
+loop-holds c =
+    let p = c .before .before .pre in
+    rest-whole (p .0) _ _ _ _ _ _ _ refl (p .3) (p .4)
+
+-- src/running.rt:92:13
+round-requires : tie.Need-round-requires Inv-loop μ-loop
+round-requires c κs =
+    let p = c .before .before .before .before .before .before .pre in
+    let rest = c .before .before .before .loop .inv in (
+      (p .0, rw (rest .start) (p .1)),
+      (p .2, omega (arith, c .before .before .loop-test .taken), rest .path-long, rest .plan-long),
+    )
+
+-- src/running.rt:106:25
+enum-known-left : tie.Need-enum-known-left Inv-loop μ-loop
+enum-known-left c = search needs
+
+-- src/running.rt:91:5
+loop-less : tie.Need-loop-less Inv-loop μ-loop
+loop-less c =
+    let at = c .before .before .before .before .before .before .before in
+    let l = c .before .before .before .before .before .before .loop-test .taken in
+    omega (
+      arith,
+      l,
+      rest-higher (at .before .before .before .pre .0) _ _ _ _ _ _ _ _ _ (at .loop .inv) l (omega arith) _ _ _
+          (c .before .before .before .round .ensures) _ (c .before .left .given .1),
+    )
+
+-- src/running.rt:91:5
+loop-again : tie.Need-loop-again Inv-loop μ-loop
+loop-again c =
+    let at = c .before .before .before .before .before .before .before in
+    rest-next (at .before .before .before .pre .0) _ _ _ _ _ _ _ _ _ (at .loop .inv)
+    (c .before .before .before .before .before .before .loop-test .taken) (omega arith) _ _ _
+    (c .before .before .before .round .ensures) _ (c .before .left .given .1)
+
+-- src/running.rt:110:26
+enum-known-left-2 : tie.Need-enum-known-left-2 Inv-loop μ-loop
+enum-known-left-2 c = search needs
+
+-- src/running.rt:111:46
+cast-t24 : tie.Need-cast-t24 Inv-loop μ-loop
+cast-t24 c =
+    let at = c .before .before .before .before .before .before .before in
+    record {
+      fits =
+          cost-small (at .before .before .before .pre .0) _ _ _ _ _ _ _ _ _ (at .loop .inv)
+          (c .before .before .before .before .before .before .loop-test .taken) (omega arith) _ _ _
+          (c .before .before .before .round .ensures) _ _ _ (c .before .left2 .given .1);
+    }
+
+-- src/running.rt:111:17
+returns : tie.Need-returns Inv-loop μ-loop
+returns c =
+    let at = c .before .before .before .before .before .before .before in
+    rest-found (at .before .before .before .pre .0) _ _ _ _ _ _ _ _ _ (at .loop .inv)
+    (c .before .before .before .before .before .before .loop-test .taken) (omega arith) _ _ _
+    (c .before .before .before .round .ensures) _ _ _ (c .before .left2 .given .1)
+
+-- src/running.rt:113:27
+enum-known-left-3 : tie.Need-enum-known-left-3 Inv-loop μ-loop
+enum-known-left-3 c = search needs
+
+-- src/running.rt:114:17
+returns-2 : tie.Need-returns-2 Inv-loop μ-loop
+returns-2 c =
+    let at = c .before .before .before .before .before .before .before in
+    rest-spent (at .before .before .before .pre .0) _ _ _ _ _ _ _ _ _ (at .loop .inv)
+    (c .before .before .before .before .before .before .loop-test .taken) (omega arith) _ _ _
+    (c .before .before .before .round .ensures) _ (c .before .left3 .given .1)
+
+-- src/running.rt:71:1
+returns-3 : tie.Need-returns-3 Inv-loop μ-loop
+returns-3 c =
+    rest-none (c .before .before .before .before .pre .0) _ _ _ _ _ _ _ _ _ (c .before .loop .inv) (c .loop-test .left)
+
+pub run-rounds-spec : {M : Type 1} → statement M
+run-rounds-spec =
+    tie.close
+    (tie.spec
+    Inv-loop
+    μ-loop
+    loop-holds
+    round-requires
+    enum-known-left
+    loop-less
+    loop-again
+    enum-known-left-2
+    cast-t24
+    returns
+    enum-known-left-3
+    returns-2
+    returns-3)

@@ -1,0 +1,167 @@
+-- `search::scanning::next_due` meets its contract.
+-- The loop's invariant: what is left from the rule on, with the least overshoot so far, is what is left from the first rule on.
+use mathlib.Core.Path.{sym, _∙_}
+use mathlib.Core.Logic.{⊎-elim}
+use Prim.Native.Nat.{ℕ, _+_, _-_, _≤_, _<_}
+use native.Mathlib.Omega.{arith}
+use denote.Ref.{now}
+use borrow.Author.Tests.{not-true, not-false}
+use borrow.Author.Needs.{needs}
+use Rattle.search.specs.Limits.{ruleCount}
+use Rattle.search.proofs.Scans.{rules-low, positions-low, depth-below, child-in, Same, Tried, same-start, same-then, none-due, pass-idle, pass-seen, pass-over, found-due}
+use Rattle.search.proofs.scanning.next_due.Statement.{statement}
+use Rattle.search.proofs.scanning.next_due.Tie as tie
+
+abbrev Inv-loop : tie.InvT-loop
+Inv-loop words moves weights table path limits depth cost from least word rules n lowest₀ rule₀ lowest rule =
+    (from ≤ rule) × (rule ≤ ruleCount limits) × (ruleCount limits ≤ 64) × (depth < 65) × Same words moves weights table path limits depth cost from least rule lowest
+
+abbrev μ-loop : tie.MeasureT-loop
+μ-loop words moves weights table path limits depth cost from least word rules n lowest₀ rule₀ lowest rule = ruleCount limits - rule
+
+-- `Same` and `Tried` with the function's arguments
+abbrev SameAt : tie.Start Inv-loop μ-loop → ℕ → ℕ → ℕ → ℕ → Type 0
+SameAt s =
+    Same (now (s .args .words)) (now (s .args .moves)) (now (s .args .weights)) (now (s .args .table)) (now (s .args .path)) (now (s .args .limits))
+    (s .args .depth) (s .args .cost)
+
+abbrev TriedAt : tie.Start Inv-loop μ-loop → ℕ → ℕ → ℕ → ℕ → ℕ → Type 0
+TriedAt s =
+    Tried (now (s .args .words)) (now (s .args .moves)) (now (s .args .weights)) (now (s .args .table)) (now (s .args .path)) (now (s .args .limits))
+    (s .args .depth) (s .args .cost)
+
+cost-small : (s : tie.Start Inv-loop μ-loop) → s .args .cost ≤ 4294967295
+cost-small s = omega (arith, s .pre .0 .cost-low, s .pre .0 .threshold-low)
+
+-- the rule at hand is below the number of rules
+rule-below : (c : tie.In-loop Inv-loop μ-loop) → c .before .loop .rule < ruleCount (now (c .before .before .before .before .before .before .args .limits))
+rule-below c = omega (arith, c .loop-test .taken, c .before .before .before .rule-count .ensures)
+
+-- it applies, and its figure is known
+tried :
+    (c : tie.After-figure Inv-loop μ-loop)
+    → TriedAt (c .before .before .before .before .before .before .before .before .before .before .before) (c .before .before .before .before .before .before .loop .rule) (c .before .before .before .before .before .before .before .position-count .result)
+    (c .before .before .step-word .result) (c .before .cost-word .result) (c .figure .result)
+tried c =
+    record {
+      low = rule-below (c .before .before .before .before .before);
+      can = sym (c .before .before .before .before .applies-word .ensures) ∙ c .before .before .before .if1 .taken;
+      made = c .before .before .step-word .ensures;
+      paid = c .before .cost-word .ensures .0;
+      placed = c .before .before .before .before .before .before .before .position-count .ensures;
+      told = c .figure .ensures;
+    }
+
+-- it offers nothing to visit
+passed :
+    (c : tie.Joined1 Inv-loop μ-loop)
+    → SameAt (c .before .before .before .before .before .before .before .before) (c .before .before .before .loop .rule) (c .before .before .before .loop .lowest) (c .before .before .before .loop .rule + 1) (c .if1 .lowest)
+passed c =
+    ⊎-elim
+    (λ w.
+    let t = tried (record { before = record { before = record { before = record { before = c .before; if1 = w .0 }; step-word = w .1 }; cost-word = w .2 }; figure = w .3 }) in
+    pass-over _ _ _ _ _ _ _ _ t (omega (arith, w .5 .taken, w .4 .ensures)) _ _ (w .7 ∙ w .6 .ensures))
+    (⊎-elim
+    (λ w.
+    let t = tried (record { before = record { before = record { before = record { before = c .before; if1 = w .0 }; step-word = w .1 }; cost-word = w .2 }; figure = w .3 }) in
+    pass-seen _ _ _ _ _ _ _ _ t (sym (w .6 .ensures) ∙ not-false _ (w .7 .left)) _ _ (w .8))
+    (λ w. pass-idle _ _ _ _ _ _ _ _ _ (rule-below (c .before .before)) (sym (c .before .applies-word .ensures) ∙ w .0 .left) _ _ (w .1)))
+    (c .if1 .came)
+
+mul-word : tie.Need-mul-word Inv-loop μ-loop
+mul-word c = omega (arith, depth-below (c .before .pre .0))
+
+element-copy-out-word : tie.Need-element-copy-out-word Inv-loop μ-loop
+element-copy-out-word c = omega (arith, depth-below (c .before .pre .0))
+
+rule-count-requires : tie.Need-rule-count-requires Inv-loop μ-loop
+rule-count-requires c κs = search needs
+
+position-count-requires : tie.Need-position-count-requires Inv-loop μ-loop
+position-count-requires c κs = search needs
+
+loop-holds : tie.Need-loop-holds Inv-loop μ-loop
+loop-holds c =
+    let s = c .before .before .before .before in
+    (search needs, s .pre .1, rules-low (s .pre .0), depth-below (s .pre .0), same-start _ _ _ _ _ _ _ _ _ _)
+
+applies-word-requires : tie.Need-applies-word-requires Inv-loop μ-loop
+applies-word-requires c κs = search needs
+
+step-word-requires : tie.Need-step-word-requires Inv-loop μ-loop
+step-word-requires c κs = search needs
+
+cost-word-requires : tie.Need-cost-word-requires Inv-loop μ-loop
+cost-word-requires c κs = search needs
+
+add-reached : tie.Need-add-reached Inv-loop μ-loop
+add-reached c = omega (arith, cost-small (c .before .before .before .before .before .before .before .before .before .before), c .cost-word .ensures .1)
+
+figure-requires : tie.Need-figure-requires Inv-loop μ-loop
+figure-requires c κs =
+    let s = c .before .before .before .before .before .before .before .before .before .before in (
+      omega (arith, positions-low (s .pre .0), c .before .before .before .before .before .before .position-count .ensures),
+      rw (c .before .before .before .before .before .before .position-count .ensures) (child-in (s .pre .0) _ _ (omega arith) (c .before .step-word .ensures)),
+      omega (arith, cost-small s, c .cost-word .ensures .1),
+    )
+
+threshold-requires : tie.Need-threshold-requires Inv-loop μ-loop
+threshold-requires c κs = search needs
+
+lowered-requires : tie.Need-lowered-requires Inv-loop μ-loop
+lowered-requires c κs = search needs
+
+on-path-requires : tie.Need-on-path-requires Inv-loop μ-loop
+on-path-requires c κs = search needs
+
+returns : tie.Need-returns Inv-loop μ-loop
+returns c =
+    let s = c .before .before .before .before .before .before .before .before .before .before .before .before .before .before .before in
+    let l = c .before .before .before .before .before .before .before .before .before .before .loop in
+    let a = c .before .before .before .before in
+    found-due _ _ _ _ _ _ _ _ (tried a)
+    (omega (arith, c .before .before .if2 .left, c .before .before .before .threshold .ensures)) (s .pre .0 .threshold-low)
+    (sym (c .before .on-path .ensures) ∙ not-true _ (c .if3 .taken))
+    _ _ _ (l .inv .0) (l .inv .4)
+
+add-rule : tie.Need-add-rule Inv-loop μ-loop
+add-rule c = search needs
+
+loop-less : tie.Need-loop-less Inv-loop μ-loop
+loop-less c = search needs
+
+loop-again : tie.Need-loop-again Inv-loop μ-loop
+loop-again c =
+    let l = c .before .before .before .loop in
+    (search needs, search needs, l .inv .2, l .inv .3, same-then _ _ _ _ _ _ _ _ (l .inv .4) (passed c))
+
+returns-2 : tie.Need-returns-2 Inv-loop μ-loop
+returns-2 c =
+    let l = c .before .loop in
+    let all : ruleCount (now (c .before .before .before .before .before .before .args .limits)) ≤ l .rule = omega (arith, c .loop-test .left, c .before .before .before .rule-count .ensures) in
+    none-due _ _ _ _ _ _ _ _ (l .inv .4) all
+
+pub next-due-spec : {M : Type 1} → statement M
+next-due-spec =
+    tie.close
+    (tie.spec
+    Inv-loop
+    μ-loop
+    mul-word
+    element-copy-out-word
+    rule-count-requires
+    position-count-requires
+    loop-holds
+    applies-word-requires
+    step-word-requires
+    cost-word-requires
+    add-reached
+    figure-requires
+    threshold-requires
+    lowered-requires
+    on-path-requires
+    returns
+    add-rule
+    loop-less
+    loop-again
+    returns-2)

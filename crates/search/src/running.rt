@@ -1,0 +1,119 @@
+// One round, and the rounds at rising thresholds.
+ghost use mathlib.Core.Path.{_≡_};
+ghost use Prim.Native.Nat.{_≤_};
+ghost use lib.ListN.{length, getD};
+ghost use Rattle.blocks.specs.Layout.{positions, rules, goals};
+ghost use Rattle.rounds.specs.Rounds as rounds;
+ghost use Rattle.search.specs.OnWords.{wordSystem, wordEstimate, figureOf};
+ghost use Rattle.search.specs.Parts.{Good, Ready, Done, answerOf, FoundWithin};
+use super::scanning::NONE;
+use super::visiting::Tally;
+use super::visiting::Visited;
+use super::visiting::visit;
+use blocks::layout;
+
+// What the rounds answer: a plan, with its steps, its cost and the visits; no plan, with the visits; or spent, with the visits.
+pub enum Ending {
+    Found(usize, u32, u32),
+    NoPlan(u32),
+    Spent(u32),
+}
+
+// One round at a threshold, after so many visits, from the state at the front of the path.
+fn round(
+    block: &[u8],
+    words: &[u64; 608],
+    moves: &[u8; 4384],
+    weights: &[u16; 256],
+    table: &[u32],
+    path: &mut [u64; 65],
+    plan: &mut [u8; 64],
+    steps: usize,
+    allowance: u32,
+    threshold: u64,
+    visits: u32,
+) -> Visited
+    requires { ⌜ Ready (now block) (now words) (now moves) (now weights) (now table) × Good (now block) (getD (now path) 0 0) ⌝ }
+    requires { ⌜ (steps ≤ 64) × (threshold ≤ 4294967295) × (length (now path) ≡ 65) × (length (now plan) ≡ 64) ⌝ }
+    ensures { λ r. ⌜ Done 0 steps threshold (now (path .entry)) (now (plan .entry)) (now (path .exit)) (now (plan .exit))
+        (rounds.round (wordSystem (now (words .entry)) (now (moves .entry)) (rules (now (block .entry))) (goals (now (block .entry))))
+        (wordEstimate (now (weights .entry)) (now (table .entry)) (positions (now (block .entry)))) (rounds.upto allowance) steps (getD (now (path .entry)) 0 0) threshold visits) r ⌝ }
+{
+    let limits = [
+        threshold,
+        allowance as u64,
+        steps as u64,
+        layout::rules(block) as u64,
+        layout::goals(block) as u64,
+        layout::positions(block) as u64,
+        0,
+        0,
+    ];
+    let none_yet = Tally {
+        visits,
+        least: NONE,
+    };
+    visit(
+        words,
+        moves,
+        weights,
+        table,
+        path,
+        plan,
+        &limits,
+        0,
+        0,
+        none_yet,
+    )
+}
+
+// The rounds from a first threshold on, up to the cost limit: each next threshold is the least overshoot. With none, or none to begin with, the threshold is above every limit.
+pub fn run_rounds(
+    block: &[u8],
+    words: &[u64; 608],
+    moves: &[u8; 4384],
+    weights: &[u16; 256],
+    table: &[u32],
+    path: &mut [u64; 65],
+    plan: &mut [u8; 64],
+    steps: usize,
+    cost: u32,
+    allowance: u32,
+    first: u64,
+) -> Ending
+    requires { ⌜ Ready (now block) (now words) (now moves) (now weights) (now table) × Good (now block) (getD (now path) 0 0) × (steps ≤ 64) × (length (now path) ≡ 65) × (length (now plan) ≡ 64) ⌝ }
+    ensures { λ r. ⌜ FoundWithin steps r × (length (now (plan .exit)) ≡ 64) × (answerOf (now (plan .exit)) r ≡ rounds.begin (figureOf first) (λ T.
+        rounds.roundsFrom (wordSystem (now (words .entry)) (now (moves .entry)) (rules (now (block .entry))) (goals (now (block .entry))))
+        (wordEstimate (now (weights .entry)) (now (table .entry)) (positions (now (block .entry)))) (rounds.upto allowance) steps cost (getD (now (path .entry)) 0 0) T 0)) ⌝ }
+{
+    let mut threshold = first;
+    let mut visits: u32 = 0;
+    while threshold <= cost as u64 {
+        let left = round(
+            block,
+            words,
+            moves,
+            weights,
+            table,
+            path,
+            plan,
+            steps,
+            allowance,
+            threshold,
+            visits,
+        );
+        match left {
+            Visited::On(then) => {
+                visits = then.visits;
+                threshold = then.least;
+            }
+            Visited::Hit(length, total, used) => {
+                return Ending::Found(length, total as u32, used);
+            }
+            Visited::Stop(used) => {
+                return Ending::Spent(used);
+            }
+        }
+    }
+    Ending::NoPlan(visits)
+}

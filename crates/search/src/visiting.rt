@@ -1,0 +1,189 @@
+// Visiting a list, trying its extensions and taking up one that is due: the three call each other, the remaining steps and rules falling.
+ghost use mathlib.Core.Path.{_≡_};
+ghost use Prim.Native.Nat.{suc, _-_, _≤_, _<_};
+ghost use lib.ListN.{length, getD};
+ghost use Rattle.search.specs.Limits.{threshold, stepLimit, ruleCount};
+ghost use Rattle.search.specs.OnWords.{figureOf, seen};
+ghost use Rattle.search.specs.Parts.{Here, NextDue, visitWithin, extendFrom, Done};
+use super::limits;
+use super::scanning::Extension;
+use super::scanning::Scan;
+use super::scanning::next_due;
+use words::sides::meets_word;
+
+// The visits used and the least overshoot so far (document 01).
+pub struct Tally {
+    pub visits: u32,
+    pub least: u64,
+}
+
+// What a part of a round leaves: the tally; a plan, with its steps, its cost and the visits; or the visits, where one more was due and none is left.
+pub enum Visited {
+    On(Tally),
+    Hit(usize, u64, u32),
+    Stop(u32),
+}
+
+// A visit that is due, of the list whose states stand in the path up to depth, and the visits of its extensions.
+pub fn visit(
+    words: &[u64; 608],
+    moves: &[u8; 4384],
+    weights: &[u16; 256],
+    table: &[u32],
+    path: &mut [u64; 65],
+    plan: &mut [u8; 64],
+    limits: &[u64; 8],
+    depth: usize,
+    cost: u64,
+    tally: Tally,
+) -> Visited
+    requires { ⌜ Here (now words) (now moves) (now weights) (now table) (now path) (now limits) depth cost × (length (now plan) ≡ 64) ⌝ }
+    ensures { λ r. ⌜ Done depth (stepLimit (now (limits .entry))) (threshold (now (limits .entry))) (now (path .entry)) (now (plan .entry)) (now (path .exit)) (now (plan .exit))
+        (visitWithin (now (words .entry)) (now (moves .entry)) (now (weights .entry)) (now (table .entry)) (now (limits .entry)) (stepLimit (now (limits .entry)) - depth)
+        (seen (now (path .entry)) depth) (getD (now (path .entry)) depth 0) cost (tally .visits) (figureOf (tally .least))) r ⌝ }
+{
+    if limits::allowance(limits) <= tally.visits as u64 {
+        return Visited::Stop(tally.visits);
+    }
+    let visits = tally.visits + 1;
+    if meets_word(words, moves, limits::goal_count(limits), path[depth]) {
+        return Visited::Hit(depth, cost, visits);
+    }
+    let used = Tally {
+        visits,
+        least: tally.least,
+    };
+    if limits::step_limit(limits) <= depth {
+        return Visited::On(used);
+    }
+    extend(
+        words,
+        moves,
+        weights,
+        table,
+        path,
+        plan,
+        limits,
+        depth,
+        cost,
+        0,
+        used,
+    )
+}
+
+// The visits of the extensions by the rules from `from` on.
+fn extend(
+    words: &[u64; 608],
+    moves: &[u8; 4384],
+    weights: &[u16; 256],
+    table: &[u32],
+    path: &mut [u64; 65],
+    plan: &mut [u8; 64],
+    limits: &[u64; 8],
+    depth: usize,
+    cost: u64,
+    from: usize,
+    tally: Tally,
+) -> Visited
+    requires { ⌜ Here (now words) (now moves) (now weights) (now table) (now path) (now limits) depth cost × (length (now plan) ≡ 64) ⌝ }
+    requires { ⌜ (depth < stepLimit (now limits)) × (from ≤ ruleCount (now limits)) ⌝ }
+    ensures { λ r. ⌜ Done depth (stepLimit (now (limits .entry))) (threshold (now (limits .entry))) (now (path .entry)) (now (plan .entry)) (now (path .exit)) (now (plan .exit))
+        (extendFrom (now (words .entry)) (now (moves .entry)) (now (weights .entry)) (now (table .entry)) (now (path .entry)) (now (limits .entry)) depth cost
+        (visitWithin (now (words .entry)) (now (moves .entry)) (now (weights .entry)) (now (table .entry)) (now (limits .entry)) (stepLimit (now (limits .entry)) - suc depth))
+        from (tally .visits) (tally .least)) r ⌝ }
+{
+    let scan = next_due(
+        words,
+        moves,
+        weights,
+        table,
+        path,
+        limits,
+        depth,
+        cost,
+        from,
+        tally.least,
+    );
+    match scan {
+        Scan::Over(least) => {
+            return Visited::On(Tally {
+                visits: tally.visits,
+                least,
+            });
+        }
+        Scan::Due(next) => {
+            return take_up(
+                words,
+                moves,
+                weights,
+                table,
+                path,
+                plan,
+                limits,
+                depth,
+                cost,
+                next,
+                tally.visits,
+            );
+        }
+    }
+}
+
+// Takes up an extension that is due: its visits, then those of the extensions by the rules behind its own.
+fn take_up(
+    words: &[u64; 608],
+    moves: &[u8; 4384],
+    weights: &[u16; 256],
+    table: &[u32],
+    path: &mut [u64; 65],
+    plan: &mut [u8; 64],
+    limits: &[u64; 8],
+    depth: usize,
+    cost: u64,
+    next: Extension,
+    visits: u32,
+) -> Visited
+    requires { ⌜ Here (now words) (now moves) (now weights) (now table) (now path) (now limits) depth cost × (length (now plan) ≡ 64) ⌝ }
+    requires { ⌜ (depth < stepLimit (now limits)) × NextDue (now words) (now moves) (now weights) (now table) (now path) (now limits) depth cost (next .rule) (next .least) next ⌝ }
+    ensures { λ r. ⌜ Done depth (stepLimit (now (limits .entry))) (threshold (now (limits .entry))) (now (path .entry)) (now (plan .entry)) (now (path .exit)) (now (plan .exit))
+        (extendFrom (now (words .entry)) (now (moves .entry)) (now (weights .entry)) (now (table .entry)) (now (path .entry)) (now (limits .entry)) depth cost
+        (visitWithin (now (words .entry)) (now (moves .entry)) (now (weights .entry)) (now (table .entry)) (now (limits .entry)) (stepLimit (now (limits .entry)) - suc depth))
+        (next .rule) visits (next .least)) r ⌝ }
+{
+    path[depth + 1] = next.word;
+    plan[depth] = next.rule as u8;
+    let left = visit(
+        words,
+        moves,
+        weights,
+        table,
+        path,
+        plan,
+        limits,
+        depth + 1,
+        next.cost,
+        Tally {
+            visits,
+            least: next.least,
+        },
+    );
+    match left {
+        Visited::On(then) => {
+            return extend(
+                words,
+                moves,
+                weights,
+                table,
+                path,
+                plan,
+                limits,
+                depth,
+                cost,
+                next.rule + 1,
+                then,
+            );
+        }
+        Visited::Hit(steps, total, used) => return Visited::Hit(steps, total, used),
+        Visited::Stop(used) => return Visited::Stop(used),
+    }
+}

@@ -1,0 +1,44 @@
+-- `worked_searches::input_e::print_by_visits` meets its contract.
+-- The loop's invariant: the limit is at most the last.
+use Prim.Native.Nat.{_≤_, _-_}
+use borrow.Author.Needs.{needs}
+use Rattle.worked_searches.proofs.input_e.print_by_visits.Statement.{statement}
+use Rattle.worked_searches.proofs.input_e.print_by_visits.Tie as tie
+
+abbrev Inv-loop : tie.InvT-loop
+Inv-loop steps cost table count visits₀ visits =
+    visits ≤ count
+
+abbrev μ-loop : tie.MeasureT-loop
+μ-loop steps cost table count visits₀ visits = count - visits
+
+loop-holds : tie.Need-loop-holds Inv-loop μ-loop
+loop-holds c = search needs
+
+print-query-requires : tie.Need-print-query-requires Inv-loop μ-loop
+print-query-requires c κs = search needs
+
+add-visits : tie.Need-add-visits Inv-loop μ-loop
+add-visits c = search needs
+
+loop-less : tie.Need-loop-less Inv-loop μ-loop
+loop-less c = search needs
+
+loop-again : tie.Need-loop-again Inv-loop μ-loop
+loop-again c = search needs
+
+returns : tie.Need-returns Inv-loop μ-loop
+returns c = search needs
+
+pub print-by-visits-spec : {M : Type 1} → statement M
+print-by-visits-spec =
+    tie.close
+    (tie.spec
+    Inv-loop
+    μ-loop
+    loop-holds
+    print-query-requires
+    add-visits
+    loop-less
+    loop-again
+    returns)
