@@ -13,7 +13,7 @@ import reference
 
 
 class Random:
-    """The seeds of crates/generating/src/choosing.rt."""
+    """The seeds of crates/choosing/src/cursors.rt."""
 
     def __init__(self, seed=1):
         self.seed = seed

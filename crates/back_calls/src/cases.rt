@@ -1,12 +1,12 @@
 // One case: a block, whole or damaged, a state, an earlier state, a rule number and a buffer, through the calls of stepping back.
 use super::sums::Batch;
+use choosing::chosen;
+use choosing::make_state;
+use choosing::next;
+use choosing::place;
+use choosing::seed;
 use engine::Application;
-use generating::chosen;
 use generating::make_block;
-use generating::make_state;
-use generating::next;
-use generating::place;
-use generating::seed;
 use testing::byte_at;
 use testing::counted;
 use testing::front;

@@ -6,7 +6,7 @@ ghost use Rattle.engine.specs.Searching.{searchOf, searchConditions, fin
 use super::checking::check_state;
 use refusals::Refusal;
 use refusals::Verdict;
-use search::running::Ending;
+use search::Ending;
 
 // The largest step limit.
 const LONGEST_PLAN: usize = 64;
@@ -60,7 +60,7 @@ pub fn find_plan(
     if let Verdict::Refused(refusal) = checked {
         return Search::Refused(refusal);
     }
-    let ending = search::finding::find_plan(block, start, steps, cost, visits, table, plan);
+    let ending = search::find_plan(block, start, steps, cost, visits, table, plan);
     match ending {
         Ending::Found(length, total, used) => Search::Found(length, total, used),
         Ending::NoPlan(used) => Search::NoPlan(used),

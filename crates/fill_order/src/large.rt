@@ -2,9 +2,9 @@
 use super::fills::fill_number;
 use super::shapes::Shape;
 use super::shapes::make_shape;
+use choosing::place;
 use generating::Head;
 use generating::make_block_of;
-use generating::place;
 use testing::UNWRITTEN;
 use testing::count_marked;
 use testing::front;

@@ -1,8 +1,8 @@
 // Exercises of 14 positions and two labels in which the goal is far from most states.
+use choosing::begin;
+use choosing::write;
 use generating::DASH;
 use generating::Head;
-use generating::begin;
-use generating::write;
 use generating::write_head_of;
 
 // How many rules there are and what each costs; whether the first digit or ring stands at position 0, and not at the end; whether it is rings; the goal's label.

@@ -1,8 +1,8 @@
 // Batches of random exercises.
 use super::fills::fill_number;
+use choosing::place;
+use choosing::seed;
 use generating::make_table_block;
-use generating::place;
-use generating::seed;
 use testing::UNWRITTEN;
 use testing::count_marked;
 use testing::counted;

@@ -1,13 +1,13 @@
 // Blocks, at the front of a buffer. A cursor's place tells how long the block is.
-use super::choosing::SEEDS;
-use super::choosing::begin;
-use super::choosing::chosen;
-use super::choosing::forward;
-use super::choosing::next;
-use super::choosing::place;
-use super::choosing::write;
-use super::choosing::write_chosen;
 use super::parts::write_parts;
+use choosing::SEEDS;
+use choosing::begin;
+use choosing::chosen;
+use choosing::forward;
+use choosing::next;
+use choosing::place;
+use choosing::write;
+use choosing::write_chosen;
 use testing::byte_at;
 use testing::put;
 

@@ -1,15 +1,15 @@
 // Maps, rules and goals. Each function goes on from a cursor and gives the cursor behind what it wrote.
-use super::choosing::chosen;
-use super::choosing::next;
-use super::choosing::place;
-use super::choosing::rest;
-use super::choosing::write;
-use super::choosing::write_chosen;
 use super::sides::Plan;
 use super::sides::goal_mix;
 use super::sides::left_mix;
 use super::sides::write_right_side;
 use super::sides::write_terms;
+use choosing::chosen;
+use choosing::next;
+use choosing::place;
+use choosing::rest;
+use choosing::write;
+use choosing::write_chosen;
 use testing::byte_at;
 
 // A cost: any byte; where the block is to be accepted, many are 0 or equal.

@@ -1,8 +1,8 @@
 // Terms and sides. Each function goes on from a cursor and gives the cursor behind what it wrote.
-use super::choosing::chosen;
-use super::choosing::next;
-use super::choosing::write;
-use super::choosing::write_chosen;
+use choosing::chosen;
+use choosing::next;
+use choosing::write;
+use choosing::write_chosen;
 use testing::byte_at;
 
 // The byte of a dash.

@@ -1,10 +1,10 @@
 // Lists of rule numbers, mostly such that each rule applies to the state that those before it lead to.
+use choosing::begin;
+use choosing::chosen;
+use choosing::next;
+use choosing::seed;
+use choosing::write;
 use engine::Application;
-use generating::begin;
-use generating::chosen;
-use generating::next;
-use generating::seed;
-use generating::write;
 use testing::byte_at;
 use testing::front;
 use testing::put;

@@ -1,6 +1,6 @@
 // Limits of a search: at the edges, and next to what an answer told.
-use generating::chosen;
-use generating::next;
+use choosing::chosen;
+use choosing::next;
 use testing::MARK;
 use testing::byte_at;
 use testing::lowered;

@@ -1,8 +1,8 @@
 // Tables for searches: filled, and made of a fill. Most of them pass the lower-bound test.
-use generating::change;
-use generating::chosen;
-use generating::next;
-use generating::spoil;
+use choosing::change;
+use choosing::chosen;
+use choosing::next;
+use choosing::spoil;
 use testing::MARK;
 use testing::entry_at;
 use testing::put_entry;

@@ -1,9 +1,9 @@
 // The calls, their answers counted and summed up.
 use super::sums::Batch;
 use super::sums::answered;
-use generating::make_state;
-use generating::place;
-use generating::seed;
+use choosing::make_state;
+use choosing::place;
+use choosing::seed;
 use testing::byte_at;
 use testing::estimate_entry;
 use testing::estimate_number;

@@ -1,11 +1,11 @@
 // One case: a block, a state, a rule number and a buffer, through every call.
 use super::sums::Batch;
-use generating::chosen;
+use choosing::chosen;
+use choosing::make_state;
+use choosing::next;
+use choosing::place;
+use choosing::seed;
 use generating::make_block;
-use generating::make_state;
-use generating::next;
-use generating::place;
-use generating::seed;
 use testing::byte_at;
 use testing::counted;
 use testing::front;

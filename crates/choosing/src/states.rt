@@ -1,9 +1,9 @@
 // States, at the front of a buffer, most of them right.
-use super::choosing::begin;
-use super::choosing::chosen;
-use super::choosing::next;
-use super::choosing::seed;
-use super::choosing::write_chosen;
+use super::cursors::begin;
+use super::cursors::chosen;
+use super::cursors::next;
+use super::cursors::seed;
+use super::cursors::write_chosen;
 
 // A label: one in 40 may be one too large.
 fn write_label(out: &mut [u8], cursor: u64, labels: u64) -> u64 {

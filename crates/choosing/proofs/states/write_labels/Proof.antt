@@ -1,11 +1,11 @@
--- `generating::states::write_labels` meets its contract.
+-- `choosing::states::write_labels` meets its contract.
 -- The loop's invariant: the buffer keeps its length, and at most all labels are passed.
 use mathlib.Core.Path.{_≡_}
 use Prim.Native.Nat.{_≤_, _-_}
 use lib.ListN.{length}
 use borrow.Author.Needs.{needs}
-use Rattle.generating.proofs.states.write_labels.Statement.{statement}
-use Rattle.generating.proofs.states.write_labels.Tie as tie
+use Rattle.choosing.proofs.states.write_labels.Statement.{statement}
+use Rattle.choosing.proofs.states.write_labels.Tie as tie
 
 abbrev Inv-loop : tie.InvT-loop
 Inv-loop out₀ cursor count labels at₀ i₀ out at i =

@@ -1,6 +1,6 @@
 // Tables that are no fills: entries marked, 0, large, raised or lowered a little; and lengths around that of a table.
-use super::choosing::chosen;
-use super::choosing::next;
+use super::cursors::chosen;
+use super::cursors::next;
 use testing::MARK;
 use testing::entry_at;
 use testing::lowered;

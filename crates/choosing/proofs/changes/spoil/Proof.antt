@@ -1,11 +1,11 @@
--- `generating::changes::spoil` meets its contract.
+-- `choosing::changes::spoil` meets its contract.
 -- The loop's invariant: the table keeps its length, and at most all entries are passed.
 use mathlib.Core.Path.{_≡_}
 use Prim.Native.Nat.{_≤_, _-_}
 use lib.ListN.{length}
 use borrow.Author.Needs.{needs}
-use Rattle.generating.proofs.changes.spoil.Statement.{statement}
-use Rattle.generating.proofs.changes.spoil.Tie as tie
+use Rattle.choosing.proofs.changes.spoil.Statement.{statement}
+use Rattle.choosing.proofs.changes.spoil.Tie as tie
 
 abbrev Inv-loop : tie.InvT-loop
 Inv-loop table₀ cursor count rate behind₀ at₀ table behind at =
