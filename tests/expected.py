@@ -715,15 +715,20 @@ class TableBatch:
         numbers([self.entries, self.marked, self.total.total])
 
 
-def table_trials():
+def run_batches(batch_of, cases):
+    """Ten batches, each of so many whole exercises and as many that may be damaged, on one line of seeds."""
     random = Random()
-    print('the fill; the test on filled tables, on zeros, with one entry changed, with many; look-ups; then damaged exercises')
     for _ in range(10):
-        batch = TableBatch(random)
-        for _ in range(150):
+        batch = batch_of(random)
+        for _ in range(cases):
             batch.run_whole()
             batch.run_damaged()
         batch.print()
+
+
+def table_trials():
+    print('the fill; the test on filled tables, on zeros, with one entry changed, with many; look-ups; then damaged exercises')
+    run_batches(TableBatch, 150)
 
 
 @functools.lru_cache(maxsize=8)
@@ -975,17 +980,11 @@ class SearchBatch:
 
 
 def search_trials():
-    random = Random()
     print(
         "searches with large limits, around the plan's cost, around the visits, around both, around the steps, with small limits;"
         ' then damaged exercises'
     )
-    for _ in range(10):
-        batch = SearchBatch(random)
-        for _ in range(250):
-            batch.run_whole()
-            batch.run_damaged()
-        batch.print()
+    run_batches(SearchBatch, 250)
 
 
 def counter(direction, cost):

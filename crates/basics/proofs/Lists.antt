@@ -7,7 +7,7 @@ use Prim.Native.Nat.{ℕ, zero, suc, _+_, _*_, _≤_, _<_}
 use native.Mathlib.Nat.{eq-or-lt-of-le, le-of-suc-le-suc, not-suc-le-zero, add-zero, suc-add, add-suc, zero-add, suc-mul, zero-mul, mul-le-mul-right}
 use native.Mathlib.Omega.{arith}
 use native.Mathlib.Numerals.{add-one}
-use lib.ListN.{length, getD, set, take, drop, length-append, List·getD-append, drop-of-length-le}
+use lib.ListN.{length, getD, set, take, drop, length-append, List·getD-append, length-drop, drop-of-length-le}
 use lib.Seq.{ext-getD, getD-append-add, getD-set-same, getD-set-other, take-length, take-at, sets, sets-eq}
 use borrow.Author.Count.{below-more}
 use Rattle.basics.specs.Lists.{tabulateFrom, tabulate, joined, atFront}
@@ -125,6 +125,10 @@ sets-front l new h =
 -- a list at the front of one that is no longer
 pub front-whole : (new old : List ℕ) → length old ≤ length new → atFront new old ≡ new
 front-whole new old h = ap (λ (l : List ℕ). new ++ l) (drop-of-length-le old h) ∙ append-nil new
+
+-- writing at the front makes no list shorter
+pub front-longer : (new old : List ℕ) → length old ≤ length (atFront new old)
+front-longer new old = omega (arith, length-append new (drop (length new) old), length-drop (length new) old)
 
 -- what is read back of a list at the front
 pub front-taken : (new old : List ℕ) (n : ℕ) → n ≡ length new → take n (atFront new old) ≡ new

@@ -4,9 +4,10 @@ use mathlib.Core.Path.{_≡_, sym, ap, ap₂, _∙_, subst}
 use mathlib.Core.List.{List}
 use Prim.Native.Nat.{ℕ, _≤_}
 use native.Mathlib.Omega.{arith}
-use lib.ListN.{length, drop, length-append, length-drop}
+use lib.ListN.{length}
 use lib.Seq.{length-take-le}
 use Rattle.basics.specs.Lists.{atFront}
+use Rattle.basics.proofs.Lists.{front-longer}
 use Rattle.refusals.specs.Answers.{told, outcome}
 use Rattle.rounds.specs.Rounds.{visits, plan}
 use Rattle.search.specs.Exercises.{searchFrom}
@@ -23,10 +24,6 @@ abbrev pub givenAs : Ending → Search
 givenAs (ending.Found steps cost u) = call.Found steps cost u
 givenAs (ending.NoPlan u) = call.NoPlan u
 givenAs (ending.Spent u) = call.Spent u
-
--- writing at the front makes no list shorter
-front-longer : (p l : List ℕ) → length l ≤ length (atFront p l)
-front-longer p l = omega (arith, length-append p (drop (length p) l), length-drop (length p) l)
 
 module _ (b t : List ℕ) (D B v : ℕ) (s buffer buffer′ : List ℕ) where
   pub answered-by :

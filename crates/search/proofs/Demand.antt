@@ -10,7 +10,7 @@ use Prim.Native.Nat.{ℕ, _+_, _≤_, _<_}
 use native.Mathlib.Omega.{arith}
 use lib.Dec.{eqb, leb, ltb}
 use lib.ListN.{length, getD}
-use borrow.Author.Tests.{eq-eqb, eqb-true, ne-eqb, eqb-false, lt-ltb, ltb-true, leb-true, not-true}
+use borrow.Author.Tests.{eq-eqb, eqb-true, ne-eqb, eqb-false, leb-true, not-true}
 use Rattle.basics.proofs.Truth.{and-true, and-intro}
 use Rattle.basics.proofs.Order.{below?}
 use Rattle.blocks.specs.Layout.{rules, costOf}
@@ -22,13 +22,13 @@ use Rattle.psvn.specs.Relabelling.{relabelState}
 use Rattle.psvn.specs.Ranks.{rank}
 use Rattle.psvn.proofs.Stepping.{step-state}
 use Rattle.tables.specs.Tables.{entry, estimate, LowerBound}
-use Rattle.rounds.specs.Systems.{mark, at, Lawful, Passing}
+use Rattle.rounds.specs.Systems.{at, Lawful, Passing}
 use Rattle.rounds.specs.OpenLists.{bind, run, totalCost, Reaches}
 use Rattle.rounds.specs.Rounds.{upto, Answer, found, noPlan, spent, visits, planCost}
-use Rattle.rounds.proofs.OneRound.{mark-at, at-injective}
 use Rattle.rounds.proofs.Demand as laws
 use Rattle.search.specs.Exercises.{sameState, stepOf, systemOf, entryEstimate, estimateOf, searchFrom, unlimited}
 use Rattle.search.specs.Promises.{Within, Kept}
+use Rattle.search.proofs.Estimates.{below-at, below-number}
 use Rattle.search.proofs.GoodWords.{step-made}
 
 -- ---- the exercise is lawful
@@ -58,17 +58,6 @@ exercise-lawful {b} v =
     }
 
 -- ---- estimates
-
--- an entry that gives a number is below the mark, and is it
-entry-number : (x m : ℕ) → entryEstimate x ≡ at m → (x < 4294967295) × (x ≡ m)
-entry-number x m e = go (ltb x 4294967295) refl e
-  where
-    go : (t : Bool) → ltb x 4294967295 ≡ t → cond t (at x) mark ≡ at m → (x < 4294967295) × (x ≡ m)
-    go true l q = (ltb-true x 4294967295 l, at-injective x m q)
-    go false l q = absurd (mark-at m q)
-
-entry-at : (x : ℕ) → x < 4294967295 → entryEstimate x ≡ at x
-entry-at x l = rw (lt-ltb x 4294967295 l)
 
 -- where the entry f after a rule is no mark, the one before it, e, is none and is bounded: entries are at most the mark
 bounded-number :
@@ -101,9 +90,9 @@ module _ (b t : List ℕ) (low : LowerBound b (estimate b t)) where
         at-goal = λ s ok m. ap entryEstimate (low .goal s ok m);
         at-step =
             λ r s u m ok e a.
-            let (n, k) = entry-number (estimate b t u) m a in
+            let (n, k) = below-number 4294967295 (estimate b t u) m a in
             let (x, y) = after-rule r s u ok e n (small s ok) in
-            (estimate b t s, entry-at (estimate b t s) x, omega (arith, y, k));
+            (estimate b t s, below-at 4294967295 (estimate b t s) x, omega (arith, y, k));
       }
 
 -- the entries of a lent table are at most the mark, the largest number of their type

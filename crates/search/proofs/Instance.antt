@@ -89,10 +89,10 @@ module _ {b words moves weights table : List ℕ} (y : Ready b words moves weigh
       }
 
   -- the word of a state
-  pub good-start : (s : List ℕ) → stateOk b s ≡ true → Good b (pack s)
-  good-start s ok =
+  pub good-start : (s : List ℕ) → stateOk b s ≡ true → (w : ℕ) → w ≡ pack s → Good b w
+  good-start s ok w q =
       let (e, l) = state-word (y .compiled .valid .sized .head) s ok in
-      record { small = l; state = rw e ok }
+      subst (Good b) (sym q) (record { small = l; state = rw e ok })
 
   pub search-on-words :
       (D B v : ℕ) (s : List ℕ) → stateOk b s ≡ true
@@ -100,6 +100,6 @@ module _ {b words moves weights table : List ℕ} (y : Ready b words moves weigh
       ≡ searchFrom b table D B v s
   unfolding searchFrom
   search-on-words D B v s ok =
-      search-image words-image (upto v) D B (pack s) (good-start s ok)
+      search-image words-image (upto v) D B (pack s) (good-start s ok (pack s) refl)
       ∙ ap (λ (u : List ℕ). search (systemOf b) (estimateOf b table) (upto v) D B u)
       (state-word (y .compiled .valid .sized .head) s ok .0)

@@ -1,5 +1,5 @@
 -- One round (`here-first`, `round-done`), and the rounds as the code runs them: what is left equals the whole (`Rest`, `rest-whole`, `rest-next`), up to the end (`rest-found`, `rest-spent`,
--- `rest-none`); thresholds rise (`rest-higher`). From a start (`start-small`, `start-good`) they are the search (`run-search`), and its answer stands in a buffer (`answers-found`, `answers-none`).
+-- `rest-none`); thresholds rise (`rest-higher`). From a start (`start-small`) they are the search (`run-search`), and its answer stands in a buffer (`answers-found`, `answers-none`).
 -- The functions that run the rounds and the search rest on these.
 use mathlib.Core.Path.{_≡_, refl, sym, ap, subst, _∙_}
 use mathlib.Core.Logic.{⊎-elim}
@@ -33,7 +33,7 @@ use Rattle.search.specs.declared.visiting.Visited.the-variants.{On, Hit,
 use Rattle.search.specs.declared.running.Ending.{Ending}
 use Rattle.search.specs.declared.running.Ending.the-variants.{Found, NoPlan, Spent}
 use Rattle.search.proofs.Scans.{figure-at, figure-mark}
-use Rattle.search.proofs.Instance.{words-lawful, good-start, search-on-words}
+use Rattle.search.proofs.Instance.{words-lawful, search-on-words}
 
 -- the first threshold, as what a round before it would have left
 begin-again : (e : Estimate) (k : ℕ → ℕ → Answer) → begin e (λ T. k T 0) ≡ conclude (on 0 e) k
@@ -203,11 +203,6 @@ start-small {b} valid s ok =
     let h = valid .sized .head in
     let e : length s ≡ positions b = labelled-length (positions b) (labelCount b) s ok in
     (omega (arith, h .sizes .n-high), λ i l. label-below b h s ok i (omega arith))
-
-pub start-good :
-    {b words moves weights table : List ℕ} → Ready b words moves weights table → (s : List ℕ) → stateOk b s ≡ true
-    → (w : ℕ) → w ≡ pack s → Good b w
-start-good {b} y s ok w e = subst (Good b) (sym e) (good-start y s ok)
 
 -- a plan found is no longer than the step limit
 pub found-fits :

@@ -11,7 +11,7 @@ use native.Mathlib.Numerals.{add-one}
 use native.Mathlib.Omega.{arith}
 use lib.Dec.{eqb, ltb}
 use lib.ListN.{length, getD}
-use borrow.Author.Tests.{eqb-true, eqb-false, eq-eqb, ne-eqb, ltb-true, ltb-false, lt-ltb, le-ltb, le-leb, lt-leb}
+use borrow.Author.Tests.{eqb-true, eqb-false, eq-eqb, ne-eqb, ltb-true, ltb-false, lt-ltb, le-leb, lt-leb}
 use Rattle.basics.proofs.Truth.{and-intro, and-right-false}
 use Rattle.basics.proofs.Order.{same?}
 use Rattle.blocks.specs.Layout.{rules}
@@ -20,19 +20,14 @@ use Rattle.words.specs.Ranking.{rankWord}
 use Rattle.rounds.specs.Systems.{Estimate, mark, at, plus, lower}
 use Rattle.rounds.specs.Rounds.{free, Progress, on, Offer, cut, over, occurs, offer, extend}
 use Rattle.rounds.proofs.Equations.{offer-none, offer-seen, offer-mark, offer-over, offer-due, extend-none, extend-cut, extend-over}
-use Rattle.search.specs.Exercises.{below, entryEstimate}
+use Rattle.search.specs.Exercises.{entryEstimate}
 use Rattle.search.specs.Limits.{threshold, ruleCount, goalCount, positionCount}
 use Rattle.search.specs.OnWords.{wordSystem, wordEstimate, figureOf, seen, onPath}
 use Rattle.search.specs.Parts.{Here, systemAt, estimateAt, Next, extendFrom, NextDue}
+use Rattle.search.proofs.Estimates.{below-at, below-mark}
 use Rattle.search.proofs.GoodWords.{positions-few, rules-few, good-step, rank-in}
 
 -- ---- figures as numbers
-
-below-at : (top x : ℕ) → x < top → below top x ≡ at x
-below-at top x l = ap (λ (b : Bool). cond b (at x) mark) (lt-ltb x top l)
-
-below-mark : (top x : ℕ) → top ≤ x → below top x ≡ mark
-below-mark top x l = ap (λ (b : Bool). cond b (at x) mark) (le-ltb x top l)
 
 pub figure-at : (x : ℕ) → x < 18446744073709551615 → figureOf x ≡ at x
 figure-at x l = below-at 18446744073709551615 x l

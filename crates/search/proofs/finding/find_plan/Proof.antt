@@ -1,3 +1,5 @@
+-- `search::finding::find_plan` meets its contract.
+-- The rounds on the words of the compiled block are the search on its states; a plan found is copied to the buffer.
 use mathlib.Core.Path.{_≡_, refl, subst, _∙_}
 use mathlib.Core.List.{List, [], _∷_}
 use Prim.Native.Nat.{ℕ, _≤_}
@@ -14,19 +16,12 @@ use Rattle.search.specs.declared.running.Ending.{Ending}
 use Rattle.search.specs.declared.running.Ending.the-variants.{Found}
 use Rattle.search.proofs.GoodWords.{rank-in}
 use Rattle.search.proofs.Demand.{low-estimates, kept}
-use Rattle.search.proofs.Runs.{start-small, start-good, run-search, found-fits, answers-found, answers-none}
+use Rattle.search.proofs.Instance.{good-start}
+use Rattle.search.proofs.Runs.{start-small, run-search, found-fits, answers-found, answers-none}
 use Rattle.search.proofs.running.Ending.{the-type}
 use borrow.Author.Needs.{needs}
 use Rattle.search.proofs.finding.find_plan.Statement.{statement}
 use Rattle.search.proofs.finding.find_plan.Tie as tie
-use Rattle.search.proofs.finding.find_plan.Reads as reads
-use Rattle.search.proofs.finding.find_plan.Lts as lts
-use Rattle.basics.proofs.copy.Reads as copy-reads
-use Rattle.blocks.proofs.layout.positions.Reads as positions-reads
-use Rattle.search.proofs.running.run_rounds.Reads as run-rounds-reads
-use Rattle.search.proofs.scanning.figure.Reads as figure-reads
-use Rattle.words.proofs.compiling.compile.Reads as compile-reads
-use Rattle.words.proofs.packing.pack.Reads as pack-reads
 
 -- the arguments, where the arrays are compiled, and these with the table
 abbrev start : tie.After-compile → tie.Start
@@ -97,7 +92,7 @@ figure-requires c κs =
     let d = c .before .before .before in
     let e = c .positions .ensures .0 in (
       omega (arith, e, start d .pre .0 .0 .sized .head .sizes .n-high),
-      rw e (rank-in (arrays d) _ (start-good (arrays d) _ (start d .pre .0 .1) _ (c .before .before .pack .ensures))),
+      rw e (rank-in (arrays d) _ (good-start (arrays d) _ (start d .pre .0 .1) _ (c .before .before .pack .ensures))),
       omega arith,
     )
 
@@ -107,7 +102,7 @@ run-rounds-requires c κs =
     let d = c .before .before .before .before .before .before .before .before .before in
     let p = start d .pre .0 in
     let packed = c .before .before .before .before .before .before .before .before .pack in
-    (arrays d, start-good (arrays d) _ (p .1) _ (packed .ensures), p .2, refl, refl)
+    (arrays d, good-start (arrays d) _ (p .1) _ (packed .ensures), p .2, refl, refl)
 
 -- src/finding.rt:56:26
 enum-known-ending : tie.Need-enum-known-ending

@@ -1,14 +1,10 @@
+-- `search::running::round` meets its contract.
+-- The limits are written into an array, and the visit at depth 0 is the round.
 use native.Mathlib.Omega.{arith}
 use borrow.Author.Needs.{needs}
 use Rattle.search.proofs.Runs.{here-first, round-done}
 use Rattle.search.proofs.running.round.Statement.{statement}
 use Rattle.search.proofs.running.round.Tie as tie
-use Rattle.search.proofs.running.round.Reads as reads
-use Rattle.search.proofs.running.round.Lts as lts
-use Rattle.blocks.proofs.layout.goals.Reads as goals-reads
-use Rattle.blocks.proofs.layout.positions.Reads as positions-reads
-use Rattle.blocks.proofs.layout.rules.Reads as rules-reads
-use Rattle.search.proofs.visiting.visit.Reads as visit-reads
 
 -- src/running.rt:46:9
 rules-requires : tie.Need-rules-requires

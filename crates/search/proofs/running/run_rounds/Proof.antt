@@ -1,3 +1,5 @@
+-- `search::running::run_rounds` meets its contract.
+-- What is left of the rounds equals the whole; each next threshold is higher, up to the cost limit.
 use mathlib.Core.Path.{refl}
 use Prim.Native.Nat.{suc, _-_}
 use native.Mathlib.Omega.{arith}
@@ -6,9 +8,6 @@ use borrow.Author.Needs.{needs}
 use Rattle.search.proofs.Runs.{Rest, rest-whole, rest-none, cost-small, rest-found, rest-spent, rest-next, rest-higher}
 use Rattle.search.proofs.running.run_rounds.Statement.{statement}
 use Rattle.search.proofs.running.run_rounds.Tie as tie
-use Rattle.search.proofs.running.run_rounds.Reads as reads
-use Rattle.search.proofs.running.run_rounds.Lts as lts
-use Rattle.search.proofs.running.round.Reads as round-reads
 
 abbrev Inv-loop : tie.InvT-loop
 Inv-loop block words moves weights table path₀ plan₀ steps cost allowance first threshold₀ visits₀ path plan threshold visits =
