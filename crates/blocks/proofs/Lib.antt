@@ -2,5 +2,6 @@
 -- The language and the public calls read a block by these laws, and not by its layout.
 pub mod TermCases
 pub mod Offsets
+pub mod FrameLaws
 pub mod Accepted
 pub mod StateLaws

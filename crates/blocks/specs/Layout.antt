@@ -1,7 +1,9 @@
 -- The exercise block as a list of bytes: its head, its map, its rules and its goals, each behind a name.
 -- Only these definitions know the layout; all others go by the names and their laws.
 use Prim.Native.Nat.{ℕ, _+_, _*_, _^_}
+use mathlib.Core.Bool.{cond}
 use mathlib.Core.List.{List, _∷_}
+use lib.Dec.{leb, eqb}
 use lib.ListN.{getD}
 use Rattle.basics.specs.Lists.{tabulate}
 
@@ -65,6 +67,13 @@ goalAt b g = ruleAt b (rules b) + g * positions b
 
 unfoldable pub blockLength : List ℕ → ℕ
 blockLength b = goalAt b (goals b)
+
+-- the frames behind the head, the map, each rule and each goal: how many there are, and how many bytes frame i has
+unfoldable pub frameCount : List ℕ → ℕ
+frameCount b = 1 + rules b + goals b
+
+unfoldable pub frameLength : List ℕ → ℕ → ℕ
+frameLength b i = cond (eqb i 0) (labels b) (cond (leb i (rules b)) (ruleWidth b) (positions b))
 
 -- a side: the terms' bytes from a place on, by position
 abbrev pub sideAt : List ℕ → ℕ → ℕ → ℕ

@@ -5,7 +5,7 @@ ghost use lib.Dec.{eqb};
 ghost use lib.ListN.{length};
 ghost use lib.Seq.{sets};
 ghost use Rattle.basics.specs.Bounded.{first};
-ghost use Rattle.blocks.specs.Layout.{sideAt, headByte, positions, labels, abstracts, rules, goals, labelCount, abstractCount, abstractStates, headLength, mapByte, mapAt, ruleWidth, ruleAt, leftAt, rightAt, goalAt, blockLength, costOf, relabelHead, relabelledLength};
+ghost use Rattle.blocks.specs.Layout.{sideAt, headByte, positions, labels, abstracts, rules, goals, labelCount, abstractCount, abstractStates, headLength, mapByte, mapAt, ruleWidth, ruleAt, leftAt, rightAt, goalAt, blockLength, frameCount, frameLength, costOf, relabelHead, relabelledLength};
 ghost use Rattle.blocks.specs.Validity.{Headed, Sized};
 use super::labels::AbstractLabel;
 use super::labels::ConcreteLabel;
@@ -160,6 +160,28 @@ pub fn block_length(block: &[u8]) -> usize
     ensures { λ r. ⌜ (r ≡ blockLength (now (block .entry))) × (r ≤ 2261) ⌝ }
 {
     goal_at(block, goals(block))
+}
+
+// How many frames stand behind the head: the map, each rule and each goal.
+pub fn frame_count(block: &[u8]) -> usize
+    requires { ⌜ Headed (now block) ⌝ }
+    ensures { λ r. ⌜ (r ≡ frameCount (now (block .entry))) × (r ≤ 73) ⌝ }
+{
+    1 + rules(block) + goals(block)
+}
+
+// How many bytes frame i has.
+pub fn frame_length(block: &[u8], i: usize) -> usize
+    requires { ⌜ Headed (now block) ⌝ }
+    ensures { λ r. ⌜ r ≡ frameLength (now (block .entry)) i ⌝ }
+{
+    if i == 0 {
+        return labels(block);
+    }
+    if i <= rules(block) {
+        return rule_width(block);
+    }
+    positions(block)
 }
 
 // The cost of rule r.

@@ -15,6 +15,8 @@ pub use applying::apply_rule;
 pub use checking::check_block;
 pub use estimating::Estimate;
 pub use estimating::look_up_estimate;
+pub use frames::Reading;
+pub use frames::read_exercise;
 pub use goals::GoalTest;
 pub use goals::test_goals;
 pub use predecessors::Predecessor;

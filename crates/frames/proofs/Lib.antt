@@ -1,0 +1,11 @@
+-- The laws of digits, of lines and of reading, and what the walks over a reader share.
+-- The proofs of the reader's functions, and what is said of printed lines, rest on them.
+pub mod DigitLaws
+pub mod LineLaws
+pub mod LinePlaces
+pub mod ReadingLaws
+pub mod AcceptedText
+pub mod ReadBytes
+pub mod WrittenLines
+pub mod WrittenExercises
+pub mod ReaderParts

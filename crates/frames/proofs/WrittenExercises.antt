@@ -1,0 +1,153 @@
+-- Every valid block can be read from its text: `read-written`. Its frames make it up, their lines pass every condition of the reader, and so it stands in the buffer again.
+-- It shows that the reader refuses no exercise.
+use mathlib.Core.Path.{_≡_, refl, sym, ap, ap₂, _∙_, subst}
+use mathlib.Core.Bool.{true}
+use mathlib.Core.List.{List, [], _∷_, _++_, map, flatMap, flatten}
+use Prim.Native.Nat.{ℕ, zero, suc, _+_, _≤_}
+use native.Mathlib.Nat.{add-zero, zero-add}
+use native.Mathlib.Omega.{arith}
+use lib.Dec.{ltb, eqb}
+use lib.ListN.{length, take, drop, take-append-drop, length-drop}
+use lib.Seq.{length-take-le}
+use borrow.Author.Tests.{eq-eqb, lt-ltb, le-leb}
+use Rattle.basics.proofs.Truth.{and-intro}
+use Rattle.basics.specs.Lists.{atFront}
+use Rattle.refusals.specs.Answers.{told, verdict, outcome}
+use Rattle.refusals.proofs.Verdicts.{verdict-behind}
+use Rattle.blocks.specs.Layout.{headLength, blockLength, frameCount, frameLength}
+use Rattle.blocks.specs.Validity.{Headed, Sized, Valid, blockConditions}
+use Rattle.blocks.proofs.Accepted.{head-ok, valid-accepted}
+use Rattle.blocks.proofs.FrameLaws.{frameAt, frames-all, frames-rise, same-length, head-alone}
+use Rattle.frames.specs.Lines.{lineOk, lineBytes, lineOf}
+use Rattle.frames.specs.Reading.{headOf, blockOf, linesOk, linesFit, readConditions, frameConditions, contentConditions, readExercise}
+use Rattle.frames.specs.Writing.{framesFrom, framesOf, textOf}
+use Rattle.frames.proofs.AcceptedText.{content-decides}
+use Rattle.frames.proofs.WrittenLines.{Bytes, AllBytes, written-ok, written-bytes, written-lines}
+
+-- parts of bytes are bytes
+bytes-take : (n : ℕ) (x : List ℕ) → Bytes x → Bytes (take n x)
+bytes-take zero x small i = omega arith
+bytes-take (suc n) [] small i = small i
+bytes-take (suc n) (b ∷ x) small zero = small 0
+bytes-take (suc n) (b ∷ x) small (suc i) = bytes-take n x (λ j. small (suc j)) i
+
+bytes-drop : (n : ℕ) (x : List ℕ) → Bytes x → Bytes (drop n x)
+bytes-drop zero x small = small
+bytes-drop (suc n) [] small = small
+bytes-drop (suc n) (b ∷ x) small = bytes-drop n x (λ j. small (suc j))
+
+frames-bytes : (head : List ℕ) (i k : ℕ) (rest : List ℕ) → Bytes rest → AllBytes (framesFrom head i k rest)
+frames-bytes head i zero rest small = tt
+frames-bytes head i (suc k) rest small =
+    (bytes-take (frameLength head i) rest small, frames-bytes head (suc i) k (drop (frameLength head i) rest) (bytes-drop (frameLength head i) rest small))
+
+-- written frames: each line is right, and their bytes are the frames
+lines-right : (fs : List (List ℕ)) → AllBytes fs → linesOk (map lineOf fs) ≡ true
+lines-right [] small = refl
+lines-right (f ∷ fs) small =
+    and-intro (lineOk (lineOf f)) (linesOk (map lineOf fs)) (written-ok f (small .0)) (lines-right fs (small .1))
+
+bytes-back : (fs : List (List ℕ)) → AllBytes fs → blockOf (map lineOf fs) ≡ flatten fs
+unfolding flatMap flatten
+bytes-back [] small = refl
+bytes-back (f ∷ fs) small = ap₂ (λ (x y : List ℕ). x ++ y) (written-bytes f (small .0)) (bytes-back fs (small .1))
+
+module _ (head : List ℕ) where
+  -- how much is left for frames i to i + k
+  abbrev Left : ℕ → ℕ → List ℕ → Type 0
+  Left i k rest = frameAt head i + length rest ≡ frameAt head (i + k)
+
+  one-on : (i k : ℕ) → frameAt head (i + suc k) ≡ frameAt head (suc i + k)
+  one-on i k = ap (frameAt head) (omega arith)
+
+  -- there is enough for frame i, and what it leaves is enough for the others
+  enough : (i k : ℕ) (rest : List ℕ) → Left i (suc k) rest → frameLength head i ≤ length rest
+  unfolding frameAt
+  enough i k rest l =
+      omega (arith, l, one-on i k, frames-rise head (suc i) k)
+
+  left-on : (i k : ℕ) (rest : List ℕ) → Left i (suc k) rest → Left (suc i) k (drop (frameLength head i) rest)
+  unfolding frameAt
+  left-on i k rest l =
+      omega (arith, l, one-on i k, enough i k rest l, length-drop (frameLength head i) rest)
+
+  frames-joined : (i k : ℕ) (rest : List ℕ) → Left i k rest → flatten (framesFrom head i k rest) ≡ rest
+  unfolding flatten
+  frames-joined i zero [] l = refl
+  frames-joined i zero (b ∷ rest) l = absurd (omega (arith, l, ap (frameAt head) (add-zero i)))
+  frames-joined i (suc k) rest l =
+      let f = frameLength head i in
+      ap (λ (x : List ℕ). take f rest ++ x) (frames-joined (suc i) k (drop f rest) (left-on i k rest l)) ∙ take-append-drop f rest
+
+  frames-fit :
+      (i k : ℕ) (rest : List ℕ) → i + k ≡ frameCount head → Bytes rest → Left i k rest
+      → linesFit head i (map lineOf (framesFrom head i k rest)) ≡ true
+  frames-fit i zero rest e small l = eq-eqb i (frameCount head) (omega arith)
+  frames-fit i (suc k) rest e small l =
+      let f = frameLength head i in
+      let long : length (lineBytes (lineOf (take f rest))) ≡ f = ap length (written-bytes (take f rest) (bytes-take f rest small)) ∙ length-take-le f rest (enough i k rest l) in
+      and-intro (ltb i (frameCount head)) _ (lt-ltb i (frameCount head) (omega arith))
+      (and-intro (eqb (length (lineBytes (lineOf (take f rest)))) f) _ (eq-eqb (length (lineBytes (lineOf (take f rest)))) f long)
+      (frames-fit (suc i) k (drop f rest) (omega arith) (bytes-drop f rest small) (left-on i k rest l)))
+
+module _ (b : List ℕ) (v : Valid b) (small : Bytes b) where
+  abbrev head : List ℕ
+  head = take headLength b
+
+  abbrev rest : List ℕ
+  rest = drop headLength b
+
+  abbrev lines : List (List ℕ)
+  lines = map lineOf (framesOf b)
+
+  -- the head has five bytes, is in its limits, and asks for what stands behind it
+  five : length head ≡ headLength
+  five = length-take-le headLength b (v .sized .head .long)
+
+  head-right : Headed head
+  head-right = head-alone head rest five (subst Headed (sym (take-append-drop headLength b)) (v .sized .head))
+
+  long : blockLength head ≡ length b
+  long =
+      sym (same-length head rest five) ∙ ap blockLength (take-append-drop headLength b) ∙ sym (v .sized .len)
+
+  left : Left head 0 (frameCount head) rest
+  unfolding frameAt
+  left =
+      omega (arith, ap (frameAt head) (zero-add (frameCount head)), frames-all head, long, length-drop headLength b, v .sized .head .long)
+
+  all-bytes : AllBytes (framesOf b)
+  all-bytes =
+      (bytes-take headLength b small, frames-bytes head 0 (frameCount head) rest (bytes-drop headLength b small))
+
+  head-back : headOf lines ≡ head
+  head-back = written-bytes head (bytes-take headLength b small)
+
+  -- the frames make up the block
+  block-back : blockOf lines ≡ b
+  unfolding flatten
+  block-back =
+      bytes-back (framesOf b) all-bytes
+      ∙ ap (λ (x : List ℕ). head ++ x) (frames-joined head 0 (frameCount head) rest left)
+      ∙ take-append-drop headLength b
+
+  frames-pass : (room : ℕ) → length b ≤ room → verdict (frameConditions lines room) ≡ told tt
+  unfolding readConditions
+  frames-pass room l =
+      rw (lines-right (framesOf b) all-bytes, head-back, eq-eqb (length head) headLength five, head-ok head head-right, frames-fit head 0 (frameCount head) rest (zero-add (frameCount head)) (bytes-drop headLength b small) left, le-leb (blockLength head) room (omega (arith, long)))
+
+  content-passes : (room : ℕ) → verdict (contentConditions lines room) ≡ told tt
+  content-passes room =
+      sym (content-decides lines room (subst Sized (sym block-back) (v .sized)))
+      ∙ ap (λ (x : List ℕ). verdict (blockConditions x)) block-back ∙ valid-accepted b v
+
+  passes : (room : ℕ) → length b ≤ room → verdict (readConditions lines room) ≡ told tt
+  unfolding readConditions
+  passes room l =
+      verdict-behind (frameConditions lines room) (contentConditions lines room) (frames-pass room l) ∙ content-passes room
+
+  pub read-written :
+      (out : List ℕ) → length b ≤ length out → readExercise (textOf b) out ≡ outcome (told (length b)) (atFront b out)
+  unfolding readExercise textOf
+  read-written out l =
+      rw (written-lines (framesOf b) all-bytes, passes (length out) l, block-back)

@@ -1,0 +1,125 @@
+-- `frames::reading::lines_fit` meets its contract.
+-- The loop's invariant: the lines that are left fit from frame i on exactly where all fit.
+use mathlib.Core.Path.{_≡_, refl, sym, ap, ap₂, _∙_}
+use mathlib.Core.Bool.{Bool, _&&_}
+use mathlib.Core.List.{List}
+use Prim.Native.Nat.{ℕ, suc, _+_, _-_, _≤_}
+use native.Mathlib.Omega.{arith}
+use native.Mathlib.Numerals.{add-one}
+use lib.Dec.{ltb, eqb}
+use lib.ListN.{length, drop}
+use denote.Ref.{now}
+use borrow.Author.Needs.{needs}
+use borrow.Author.Tests.{lt-ltb, le-ltb, eq-eqb, ne-eqb}
+use Rattle.basics.proofs.Truth.{and-right-false}
+use Rattle.blocks.specs.Layout.{frameCount, frameLength}
+use Rattle.frames.specs.Lines.{linesOf, lineBytes}
+use Rattle.frames.specs.Places.{lineFrom}
+use Rattle.frames.specs.Reading.{linesFit}
+use Rattle.frames.specs.declared.lines.Line.{Line}
+use Rattle.frames.proofs.LineLaws.{line-some}
+use Rattle.frames.proofs.ReadingLaws.{behind, fit-from, fit-end}
+use Rattle.frames.proofs.reading.lines_fit.Statement.{statement}
+use Rattle.frames.proofs.reading.lines_fit.Tie as tie
+
+abbrev Inv-loop : tie.InvT-loop
+Inv-loop head text «from» count at₀ i₀ at i =
+    (i ≤ count) × (linesFit head i (linesOf (drop at text)) ≡ linesFit head 0 (linesOf (drop «from» text)))
+
+abbrev μ-loop : tie.MeasureT-loop
+μ-loop head text «from» count at₀ i₀ at i = length text - at
+
+frame-count-requires : tie.Need-frame-count-requires Inv-loop μ-loop
+frame-count-requires c κs = search needs
+
+loop-holds : tie.Need-loop-holds Inv-loop μ-loop
+loop-holds c = (search needs, refl)
+
+line-from-requires : tie.Need-line-from-requires Inv-loop μ-loop
+line-from-requires c κs = search needs
+
+module _ (c : tie.After-line-from Inv-loop μ-loop) where
+  abbrev start : tie.Start Inv-loop μ-loop
+  start = c .before .before .before .before .before .before
+
+  abbrev x : List ℕ
+  x = now (start .args .text)
+
+  abbrev head : List ℕ
+  head = now (start .args .head)
+
+  abbrev at : ℕ
+  at = c .before .before .loop .at
+
+  abbrev i : ℕ
+  i = c .before .before .loop .i
+
+  -- where the next line begins, and how many bytes this one has
+  onward : c .line-from .result .next ≡ at + length (lineFrom x at)
+  onward = ap (λ (l : Line). l .next) (c .line-from .ensures)
+
+  counted : c .line-from .result .bytes ≡ length (lineBytes (lineFrom x at))
+  counted = ap (λ (l : Line). l .bytes) (c .line-from .ensures)
+
+  -- the tests of this line
+  abbrev tested : Bool → Bool → Bool
+  tested few fits = few && (fits && linesFit head (suc i) (behind x at))
+
+  turn :
+      (few fits : Bool) → ltb i (frameCount head) ≡ few → eqb (length (lineBytes (lineFrom x at))) (frameLength head i) ≡ fits
+      → linesFit head 0 (linesOf (drop (start .args .«from») x)) ≡ tested few fits
+  turn few fits p q =
+      sym (c .before .before .loop .inv .1) ∙ fit-from x at (c .before .loop-test .taken) head i ∙ ap₂ tested p q
+
+returns : tie.Need-returns Inv-loop μ-loop
+returns c =
+    let d = c .before in
+    sym (turn d _ _ (le-ltb (i d) (frameCount (head d)) (omega arith)) refl)
+
+frame-length-requires : tie.Need-frame-length-requires Inv-loop μ-loop
+frame-length-requires c κs = search needs
+
+returns-2 : tie.Need-returns-2 Inv-loop μ-loop
+returns-2 c =
+    let d = c .before .before .before .before in
+    sym (turn d _ _ refl (ne-eqb (length (lineBytes (lineFrom (x d) (at d)))) (frameLength (head d) (i d)) (λ e. c .if2 .taken (counted d ∙ e ∙ sym (c .before .before .frame-length .ensures))))
+    ∙ and-right-false (ltb (i d) (frameCount (head d))) _ refl)
+
+add-i : tie.Need-add-i Inv-loop μ-loop
+add-i c = search needs
+
+loop-less : tie.Need-loop-less Inv-loop μ-loop
+loop-less c =
+    let d = c .before .before .before .before in
+    omega (arith, onward d, line-some (x d) (at d) (d .before .loop-test .taken))
+
+loop-again : tie.Need-loop-again Inv-loop μ-loop
+loop-again c =
+    let d = c .before .before .before .before in
+    let few = lt-ltb (i d) (frameCount (head d)) (omega arith) in
+    let fits = eq-eqb (length (lineBytes (lineFrom (x d) (at d)))) (frameLength (head d) (i d)) (sym (counted d) ∙ c .if2 .left ∙ c .before .before .frame-length .ensures) in
+    (search needs, ap₂ (λ (j k : ℕ). linesFit (head d) j (linesOf (drop k (x d)))) (add-one (i d)) (onward d) ∙ sym (turn d _ _ few fits))
+
+returns-3 : tie.Need-returns-3 Inv-loop μ-loop
+returns-3 c =
+    let s = c .before .before .before .before .before in
+    let loop = c .before .loop in
+    ap (eqb (loop .i)) (c .before .before .frame-count .ensures .0)
+    ∙ sym (sym (loop .inv .1) ∙ fit-end (now (s .args .text)) (loop .at) (c .loop-test .left) (now (s .args .head)) (loop .i))
+
+pub lines-fit-spec : {M : Type 1} → statement M
+lines-fit-spec =
+    tie.close
+    (tie.spec
+    Inv-loop
+    μ-loop
+    frame-count-requires
+    loop-holds
+    line-from-requires
+    returns
+    frame-length-requires
+    returns-2
+    add-i
+    loop-less
+    loop-again
+    returns-3)

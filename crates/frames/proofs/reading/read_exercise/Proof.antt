@@ -1,0 +1,158 @@
+-- `frames::reading::read_exercise` meets its contract.
+-- Refused with the buffer as it was, first by the frames and then by the content, or the block at its front.
+use mathlib.Core.Path.{_≡_, sym, ap, ap₂, _∙_}
+use mathlib.Core.List.{List}
+use Prim.Native.Nat.{ℕ, _≤_}
+use native.Mathlib.Omega.{arith}
+use lib.ListN.{length, take, replicate}
+use denote.Ref.{now}
+use borrow.Author.Needs.{needs}
+use Rattle.basics.specs.Lists.{atFront}
+use Rattle.basics.proofs.Lists.{front-taken}
+use Rattle.refusals.specs.Answers.{Answer, told, verdict, Outcome, outcome, guarded}
+use Rattle.refusals.specs.Refusals.{verdictOf}
+use Rattle.refusals.proofs.Verdicts.{verdict-behind, verdict-before}
+use Rattle.blocks.specs.Validity.{blockConditions}
+use Rattle.blocks.proofs.FrameLaws.{block-short}
+use Rattle.frames.specs.Lines.{linesOf}
+use Rattle.frames.specs.Reading.{blockOf, frameConditions, contentConditions, readConditions, readExercise}
+use Rattle.frames.proofs.AcceptedText.{FramesAccepted, frames-accepted, block-length, block-sized, content-decides}
+use Rattle.frames.proofs.reading.read_exercise.Statement.{statement}
+use Rattle.frames.proofs.reading.read_exercise.Tie as tie
+
+-- the text's lines, the room and the block
+abbrev lines : tie.Start → List (List ℕ)
+lines s = linesOf (now (s .args .text))
+
+abbrev room : tie.Start → ℕ
+room s = length (now (s .args .out))
+
+abbrev block : tie.Start → List ℕ
+block s = blockOf (lines s)
+
+-- the outcome by the verdict
+abbrev settled : tie.Start → Answer (Unit {0}) → Outcome ℕ
+settled s verdict =
+    let out = now (s .args .out) in
+    guarded verdict out (outcome (told (length (block s))) (atFront (block s) out))
+
+check-lines-requires : tie.Need-check-lines-requires
+check-lines-requires c κs = search needs
+
+enum-known-checked : tie.Need-enum-known-checked
+enum-known-checked c = search needs
+
+returns : tie.Need-returns
+unfolding readExercise readConditions
+returns c =
+    let s = c .before .before .before .before .before .before in
+    let against = sym (c .before .before .before .check-lines .ensures) ∙ ap verdictOf (c .before .checked .given .1) in
+    sym (ap (settled s) (verdict-before (frameConditions (lines s) (room s)) (contentConditions (lines s) (room s)) _ against))
+
+enum-told : tie.Need-enum-told
+enum-told c = search needs
+
+-- the frames are accepted
+framed : (c : tie.After-enum-told) → verdict (frameConditions (lines (c .before .before .before .before .before)) (room (c .before .before .before .before .before))) ≡ told tt
+framed c = sym (c .before .before .check-lines .ensures) ∙ ap verdictOf (c .enum-told .given .1)
+
+accepted : (c : tie.After-enum-told) → FramesAccepted (lines (c .before .before .before .before .before)) (room (c .before .before .before .before .before))
+accepted c =
+    let s = c .before .before .before .before .before in
+    frames-accepted (lines s) (room s) (framed c)
+
+-- the block fits the array
+short : (c : tie.After-enum-told) → length (block (c .before .before .before .before .before)) ≤ 2261
+short c =
+    let s = c .before .before .before .before .before in
+    omega (arith, block-length (lines s) (room s) (accepted c), block-short _ (accepted c .head))
+
+slice-aggregate-decode-lines : tie.Need-slice-aggregate-decode-lines
+slice-aggregate-decode-lines c = search needs
+
+decode-lines-requires : tie.Need-decode-lines-requires
+decode-lines-requires c κs = omega (arith, short (c .before))
+
+array-share-prefix-block : tie.Need-array-share-prefix-block
+array-share-prefix-block c = omega (arith, short (c .before .before .before), c .before .decode-lines .ensures .0)
+
+-- the part that is checked is the block
+part :
+    (c : tie.After-decode-lines)
+    → take (c .decode-lines .result) (c .decode-lines .last .1 .0) ≡ block (c .before .before .before .before .before .before .before)
+part c =
+    let b = block (c .before .before .before .before .before .before .before) in
+    ap (take (c .decode-lines .result)) (c .decode-lines .ensures .1) ∙ front-taken b (replicate 2304 0) (c .decode-lines .result) (c .decode-lines .ensures .0)
+
+slice-aggregate-check : tie.Need-slice-aggregate-check
+slice-aggregate-check c = c .before .before .decode-lines .ensures .0 ∙ sym (ap length (part (c .before .before)))
+
+check-requires : tie.Need-check-requires
+check-requires c κs = search needs
+
+-- once the frames are accepted, the content decides
+content :
+    (c : tie.After-check)
+    → verdict (readConditions (lines (c .before .before .before .before .before .before .before .before .before .before)) (room (c .before .before .before .before .before .before .before .before .before .before))) ≡ verdictOf (c .check .result)
+unfolding readConditions
+content c =
+    let s = c .before .before .before .before .before .before .before .before .before .before in
+    let e = c .before .before .before .before .before in
+    verdict-behind (frameConditions (lines s) (room s)) (contentConditions (lines s) (room s)) (framed e)
+    ∙ sym (content-decides (lines s) (room s) (block-sized (lines s) (room s) (accepted e)))
+    ∙ ap (λ (b : List ℕ). verdict (blockConditions b)) (sym (part (c .before .before .before)))
+    ∙ sym (c .check .ensures)
+
+enum-known-content : tie.Need-enum-known-content
+enum-known-content c = search needs
+
+returns-2 : tie.Need-returns-2
+unfolding readExercise
+returns-2 c =
+    sym (ap (settled (c .before .before .before .before .before .before .before .before .before .before .before .before .before)) (content (c .before .before .before) ∙ ap verdictOf (c .before .content .given .1)))
+
+enum-told-2 : tie.Need-enum-told-2
+enum-told-2 c = search needs
+
+slice-aggregate-copy : tie.Need-slice-aggregate-copy
+slice-aggregate-copy c = search needs
+
+copy-requires : tie.Need-copy-requires
+copy-requires c κs =
+    let d = c .before .before .before .before .before .before .before in
+    let s = c .before .before .before .before .before .before .before .before .before .before .before .before .before .before in
+    let a = accepted (d .before .before) in
+    let n = d .decode-lines .ensures .0 in
+    (omega (arith, n, short (d .before .before), d .decode-lines .kept .1 .0), omega (arith, n, block-length (lines s) (room s) a, a .room-left))
+
+same-length : tie.Need-same-length
+same-length c = search needs
+
+returns-3 : tie.Need-returns-3
+unfolding readExercise
+returns-3 c =
+    let s = c .before .before .before .before .before .before .before .before .before .before .before .before .before .before .before .before .before in
+    let d = c .before .before .before .before .before .before .before .before .before .before in
+    ap₂ (λ (n : ℕ) (b : List ℕ). outcome (told n) b) (d .decode-lines .ensures .0) (c .before .before .copy .ensures ∙ ap (λ (b : List ℕ). atFront b (now (s .args .out))) (part d))
+    ∙ sym (ap (settled s) (content (c .before .before .before .before .before .before .before) ∙ ap verdictOf (c .before .before .before .before .before .enum-told2 .given .1)))
+
+pub read-exercise-spec : {M : Type 1} → statement M
+read-exercise-spec =
+    tie.close
+    (tie.spec
+    check-lines-requires
+    enum-known-checked
+    returns
+    enum-told
+    slice-aggregate-decode-lines
+    decode-lines-requires
+    array-share-prefix-block
+    slice-aggregate-check
+    check-requires
+    enum-known-content
+    returns-2
+    enum-told-2
+    slice-aggregate-copy
+    copy-requires
+    same-length
+    returns-3)

@@ -1,0 +1,69 @@
+-- Reading an exercise, as a public call: `readExercise` is the answer with the final contents of the lent buffer, for every text.
+-- `readConditions` are the numbers in the reader's order, over the text's lines; `readingOf` gives the document's answer for each case of the enum.
+use Prim.Native.Nat.{ℕ, suc}
+use mathlib.Core.Bool.{Bool, true, _&&_}
+use mathlib.Core.List.{List, [], _∷_, flatMap, tail}
+use lib.Dec.{leb, ltb, eqb}
+use lib.ListN.{length, take, drop}
+use Rattle.basics.specs.Lists.{atFront}
+use Rattle.refusals.specs.Answers.{Answer, refused, told, Condition, _unless_, verdict, Outcome, outcome, guarded}
+use Rattle.refusals.specs.Refusals.{refusalNumber}
+use Rattle.blocks.specs.Layout.{headLength, blockLength, frameCount, frameLength}
+use Rattle.blocks.specs.Validity.{headOk, mapOk, termsOk, boundOk}
+use Rattle.frames.specs.Lines.{linesOf, lineOk, lineBytes}
+use Rattle.frames.specs.Places.{firstLine}
+use Rattle.frames.specs.declared.reading.Reading.{Reading}
+use Rattle.frames.specs.declared.reading.Reading.the-variants.{Done, Refused}
+
+-- the length of the block
+abbrev pub readingOf : Reading → Answer ℕ
+readingOf (Done length) = told length
+readingOf (Refused refusal) = refused (refusalNumber refusal)
+
+-- "Head, map, each rule and each goal is one frame a line": the head, and the whole block
+abbrev pub headOf : List (List ℕ) → List ℕ
+headOf ls = lineBytes (firstLine ls)
+
+abbrev pub blockOf : List (List ℕ) → List ℕ
+blockOf ls = flatMap lineBytes ls
+
+-- 1: each line is pairs of digits with a line feed
+abbrev pub linesOk : List (List ℕ) → Bool
+linesOk [] = true
+linesOk (l ∷ ls) = lineOk l && linesOk ls
+
+-- 2, head line: ten digits
+abbrev pub headLineOk : List (List ℕ) → Bool
+headLineOk ls = eqb (length (headOf ls)) headLength
+
+-- 2, others: from frame i on there is a line for each frame that the head demands, of its length, and no further one
+abbrev pub linesFit : List ℕ → ℕ → List (List ℕ) → Bool
+linesFit head i [] = eqb i (frameCount head)
+linesFit head i (l ∷ ls) =
+    ltb i (frameCount head) && (eqb (length (lineBytes l)) (frameLength head i) && linesFit head (suc i) ls)
+
+-- "The reader's order is 1, 2 (head line), 3, 2 (others), 11, 5, 6, 7"; `room` is the length of the buffer
+unfoldable pub readConditions : List (List ℕ) → ℕ → List Condition
+readConditions ls room =
+    1 unless linesOk ls
+    ∷ 2 unless headLineOk ls
+    ∷ 3 unless headOk (headOf ls)
+    ∷ 2 unless linesFit (headOf ls) 0 (tail ls)
+    ∷ 11 unless leb (blockLength (headOf ls)) room
+    ∷ 5 unless mapOk (blockOf ls)
+    ∷ 6 unless termsOk (blockOf ls)
+    ∷ 7 unless boundOk (blockOf ls)
+    ∷ []
+
+-- those on lines, head and room, and those on what the block holds
+abbrev pub frameConditions : List (List ℕ) → ℕ → List Condition
+frameConditions ls room = take 5 (readConditions ls room)
+
+abbrev pub contentConditions : List (List ℕ) → ℕ → List Condition
+contentConditions ls room = drop 5 (readConditions ls room)
+
+-- the block stands at the front of the buffer
+unfoldable pub readExercise : List ℕ → List ℕ → Outcome ℕ
+readExercise x out =
+    guarded (verdict (readConditions (linesOf x) (length out))) out
+    (outcome (told (length (blockOf (linesOf x)))) (atFront (blockOf (linesOf x)) out))

@@ -1,0 +1,137 @@
+// Reading an exercise from its text.
+ghost use mathlib.Core.Path.{_≡_};
+ghost use mathlib.Core.Bool.{true};
+ghost use Prim.Native.Nat.{_≤_};
+ghost use lib.ListN.{length, drop};
+ghost use Rattle.basics.specs.Lists.{atFront};
+ghost use Rattle.refusals.specs.Answers.{verdict, outcome};
+ghost use Rattle.refusals.specs.Refusals.{verdictOf};
+ghost use Rattle.blocks.specs.Validity.{Headed};
+ghost use Rattle.frames.specs.Lines.{linesOf};
+ghost use Rattle.frames.specs.Reading.{readingOf, headOf, blockOf, linesOk, headLineOk, linesFit, frameConditions, readExercise};
+use super::lines::decode_line;
+use super::lines::line_end;
+use super::reader::line_from;
+use basics::copy;
+use blocks::layout;
+use refusals::Refusal;
+use refusals::Verdict;
+
+// What reading answers: the length of the block.
+pub enum Reading {
+    Done(usize),
+    Refused(Refusal),
+}
+
+// Whether each line of a text is pairs of digits with a line feed.
+fn lines_ok(text: &[u8]) -> bool
+    ensures { λ r. ⌜ r ≡ linesOk (linesOf (now (text .entry))) ⌝ }
+{
+    let mut at: usize = 0;
+    while at < text.len() {
+        let line = line_from(text, at);
+        if !line.ok {
+            return false;
+        }
+        at = line.next;
+    }
+    true
+}
+
+// Whether the lines from `from` on are as many as the head demands, each of its frame's length.
+fn lines_fit(head: &[u8], text: &[u8], from: usize) -> bool
+    requires { ⌜ Headed (now head) ⌝ }
+    ensures { λ r. ⌜ r ≡ linesFit (now (head .entry)) 0 (linesOf (drop from (now (text .entry)))) ⌝ }
+{
+    let count = layout::frame_count(head);
+    let mut at = from;
+    let mut i: usize = 0;
+    while at < text.len() {
+        let line = line_from(text, at);
+        if count <= i {
+            return false;
+        }
+        if line.bytes != layout::frame_length(head, i) {
+            return false;
+        }
+        at = line.next;
+        i += 1;
+    }
+    i == count
+}
+
+// Whether the head line of a text has ten digits.
+fn head_line_ok(text: &[u8]) -> bool
+    ensures { λ r. ⌜ r ≡ headLineOk (linesOf (now (text .entry))) ⌝ }
+{
+    let line = line_from(text, 0);
+    line.bytes == layout::HEAD_LENGTH
+}
+
+// The bytes of the head line.
+pub fn decode_head(text: &[u8]) -> [u8; 5]
+    requires { ⌜ headLineOk (linesOf (now text)) ≡ true ⌝ }
+    ensures { λ r. ⌜ r ≡ headOf (linesOf (now (text .entry))) ⌝ }
+{
+    let mut head = [0u8; 5];
+    let end = line_end(text, 0);
+    decode_line(&text[..end], &mut head, 0);
+    head
+}
+
+// The lines and the head of a text, and the room for its block: 1, 2 for the head line, 3, 2 for the others, 11.
+fn check_lines(text: &[u8], room: usize) -> Verdict
+    ensures { λ r. ⌜ verdictOf r ≡ verdict (frameConditions (linesOf (now (text .entry))) room) ⌝ }
+{
+    if !lines_ok(text) {
+        return Verdict::Refused(Refusal::Character);
+    }
+    if !head_line_ok(text) {
+        return Verdict::Refused(Refusal::Line);
+    }
+    let head = decode_head(text);
+    if !blocks::validity::head_ok(&head) {
+        return Verdict::Refused(Refusal::Head);
+    }
+    if !lines_fit(&head, text, line_end(text, 0)) {
+        return Verdict::Refused(Refusal::Line);
+    }
+    if room < layout::block_length(&head) {
+        return Verdict::Refused(Refusal::Buffer);
+    }
+    Verdict::Accepted
+}
+
+// Writes the bytes of all lines of a text at the front of `out`, and gives their number.
+fn decode_lines(text: &[u8], out: &mut [u8]) -> usize
+    requires { ⌜ length (blockOf (linesOf (now text))) ≤ length (now out) ⌝ }
+    ensures { λ n. ⌜ (n ≡ length (blockOf (linesOf (now (text .entry))))) × (now (out .exit) ≡ atFront (blockOf (linesOf (now (text .entry)))) (now (out .entry))) ⌝ }
+{
+    let mut at: usize = 0;
+    let mut to: usize = 0;
+    while at < text.len() {
+        let line = line_from(text, at);
+        let next = line.next;
+        to = decode_line(&text[at..next], out, to);
+        at = next;
+    }
+    to
+}
+
+// Reads an exercise from its text: its block is written at the front of `out`. Refused with 1, 2 (head line), 3, 2 (other lines), 11, 5, 6, 7, in this order.
+pub fn read_exercise(text: &[u8], out: &mut [u8]) -> Reading
+    ensures { λ r. ⌜ outcome (readingOf r) (now (out .exit)) ≡ readExercise (now (text .entry)) (now (out .entry)) ⌝ }
+{
+    let checked = check_lines(text, out.len());
+    if let Verdict::Refused(refusal) = checked {
+        return Reading::Refused(refusal);
+    }
+    let mut block = [0u8; 2304];
+    let length = decode_lines(text, &mut block);
+    let content = blocks::validity::check(&block[..length]);
+    if let Verdict::Refused(refusal) = content {
+        return Reading::Refused(refusal);
+    }
+    copy(&block, length, out);
+    Reading::Done(length)
+}
