@@ -1,16 +1,16 @@
 -- The starred exercises, proved together: `starred`.
--- antt computes what can be computed from the definitions, which `computing` and `searching` open; that there is no other predecessor follows from the rule's form, and that
+-- antt computes what can be computed from the definitions, which `computing`, `searching` and `printing` open; that there is no other predecessor follows from the rule's form, and that
 -- no list costs less than input E's table says from the certificate.
 use mathlib.Core.Path.{_≡_, refl, sym, ap}
 use mathlib.Core.Bool.{true, false}
-use mathlib.Core.List.{List, [], _∷_}
+use mathlib.Core.List.{List, [], _∷_, flatMap}
 use Prim.Native.Nat.{ℕ, _≤_, _<_}
 use native.Mathlib.Omega.{arith}
 use lib.Dec.{lit<, lit≤}
 use lib.ListN.{getD}
 use Rattle.basics.proofs.Truth.{true-false}
 use Rattle.refusals.specs.Answers.{told, outcome}
-use Rattle.blocks.specs.Layout.{labels, rules, headByte, labelCount, abstractCount, abstractStates, mapByte, mapAt, ruleWidth, ruleAt, leftAt, rightAt, goalAt, blockLength, costOf, relabelHead}
+use Rattle.blocks.specs.Layout.{labels, rules, headByte, labelCount, abstractCount, abstractStates, mapByte, mapAt, ruleWidth, ruleAt, leftAt, rightAt, goalAt, blockLength, frameCount, frameLength, costOf, relabelHead}
 use Rattle.blocks.specs.Validity.{sizesOk, headOk, lengthOk, mapOk, sideOk, ruleTermsOk, goalTermsOk, termsOk, ruleBound, boundOk, blockConditions, Valid}
 use Rattle.blocks.specs.States.{labelled, stateOk}
 use Rattle.blocks.proofs.Accepted.{accepted-valid}
@@ -41,7 +41,11 @@ use Rattle.engine.specs.Predecessors.{stepBackConditions, stepBackFrom}
 use Rattle.engine.specs.Reversing.{reversibleConditions, testReversible}
 use Rattle.engine.specs.TableCalls.{tableConditions, fillTable, testTable}
 use Rattle.engine.specs.Searching.{searchConditions, findPlan}
-use Rattle.exercises.specs.Starred.{Starred, exampleBlock, exampleState, exampleImage, pairBlock, inputE, tableE}
+use Rattle.frames.specs.Lines.{isDigit, digitValue, digitOf}
+use Rattle.frames.specs.Reading.{readConditions}
+use Rattle.par_lines.specs.Queries.{queryConditions, searchFor, answerLine}
+use Rattle.par_lines.specs.Output.{headReads, exerciseCount, openConditions, parOutput}
+use Rattle.exercises.specs.Starred.{Starred, exampleBlock, exampleState, exampleImage, pairBlock, inputE, tableE, characters, sessionE}
 
 -- what the definitions are opened for
 computing : Unit {0}
@@ -52,6 +56,11 @@ computing = tt
 searching : Unit {0}
 unfolding relabelState entry estimate lower andThen behind takeUp conclude capped begin arrive offer extend visit round rounds roundsFrom search visits searchFrom searchConditions findPlan
 searching = tt
+
+-- and what `par` is opened for besides
+printing : Unit {0}
+unfolding sessionE isDigit digitValue digitOf flatMap frameCount frameLength readConditions headReads exerciseCount openConditions queryConditions searchFor answerLine parOutput
+printing = tt
 
 -- the example block, its rule, and the two states
 example-valid : Valid exampleBlock
@@ -141,6 +150,13 @@ e-entry k l =
     rw (sym (ap (λ (i : ℕ). getD tableE i 0) (rank-unrank inputE h k (omega (arith, e-states)))))
     (least-entry inputE e-valid tableE e-least (unrank inputE k) (unrank-state inputE h k))
 
+-- what `par` prints
+e-printed :
+    parOutput sessionE
+    ≡ characters "0003000000050000000A020005\n02000000000000000009\n01000000000000000006\n0100000000000000000B\n00000000000000000001\n"
+unfolding computing searching printing
+e-printed = refl
+
 pub starred : Starred
 unfolding computing searching
 starred =
@@ -164,4 +180,5 @@ starred =
       search-step-limit = refl;
       search-zeros = refl;
       search-at-goal = refl;
+      par-prints = e-printed;
     }

@@ -2,6 +2,8 @@
 -- They are proved together in proofs/Starred.antt.
 use mathlib.Core.Path.{_≡_}
 use Prim.Native.Nat.{ℕ, _<_}
+use Prim.Native.Char.{code}
+use Prim.Native.String.{String}
 use mathlib.Core.Bool.{true, false}
 use mathlib.Core.List.{List, [], _∷_}
 use lib.ListN.{getD}
@@ -22,6 +24,7 @@ use Rattle.engine.specs.Predecessors.{stepBackFrom}
 use Rattle.engine.specs.Reversing.{testReversible}
 use Rattle.engine.specs.TableCalls.{fillTable, testTable}
 use Rattle.engine.specs.Searching.{searchAnswer, findPlan}
+use Rattle.par_lines.specs.Output.{parOutput}
 
 -- one rule, <A,A,1,-,B,C> to <2,-,-,-,C,B>, over eight labels; the map sends all labels to one, and every state is a goal
 unfoldable pub exampleBlock : List ℕ
@@ -66,6 +69,16 @@ tableE = mark ∷ mark ∷ mark ∷ 2 ∷ mark ∷ 1 ∷ 0 ∷ mark ∷ []
 -- a plan buffer of eight bytes
 abbrev pub roomE : List ℕ
 roomE = 9 ∷ 9 ∷ 9 ∷ 9 ∷ 9 ∷ 9 ∷ 9 ∷ 9 ∷ []
+
+-- the characters of a text
+abbrev pub characters : String → List ℕ
+characters String.[] = []
+characters (String._∷_ c s) = code c ∷ characters s
+
+-- input E as text, and query lines: from <1,2,0> with D = 8, B = 100, V = 100; with V = 9; with B = 4; with D = 2; and from the goal itself
+unfoldable pub sessionE : List ℕ
+sessionE =
+    characters "0303020601\n000101\n011000FF0010FF\n010010FF1000FF\n01FF1000FF0010\n01FF0010FF1000\n0310FF0000FF10\n0300FF1010FF00\n020100\n010200080000006400000064\n010200080000006400000009\n010200080000000400000064\n010200020000006400000064\n020100080000006400000064\n"
 
 pub record Starred : Type 0 where
   -- the example rule takes <4,4,1,7,5,6> to <2,4,1,7,6,5>, written at the front of the buffer
@@ -114,3 +127,7 @@ pub record Starred : Type 0 where
       ≡ outcome (told (searchAnswer 0 3 5 19)) (2 ∷ 0 ∷ 5 ∷ 9 ∷ 9 ∷ 9 ∷ 9 ∷ 9 ∷ [])
   -- from the goal itself the plan has no steps, after one visit
   pub search-at-goal : findPlan inputE (2 ∷ 1 ∷ 0 ∷ []) 8 100 100 tableE roomE ≡ outcome (told (searchAnswer 0 0 0 1)) roomE
+  -- what `par` prints for these queries: found with 3 steps, cost 5, 10 visits and plan 2, 0, 5; spent after 9 visits; no plan after 6, and after 11; found with no steps after 1
+  pub par-prints :
+      parOutput sessionE
+      ≡ characters "0003000000050000000A020005\n02000000000000000009\n01000000000000000006\n0100000000000000000B\n00000000000000000001\n"

@@ -1,5 +1,6 @@
 -- Each entry of a table of least costs is the least cost from its state, in the terms of the language (`least-entry`), and so is each of the filled table
--- (`filled-least`), which passes the lower-bound test (`filled-passes`).
+-- (`filled-least`), which has an entry for each abstract state (`filled-length`) and passes the lower-bound test (`filled-passes`), so that its estimates are lower bounds (`filled-low`,
+-- `filled-small`). Costs are bytes where the block's elements are (`cost-bytes`).
 -- They say what a fill is good for; fixed tables are shown exact by the first.
 use mathlib.Core.Path.{_≡_, sym, _∙_}
 use mathlib.Core.Bool.{true}
@@ -7,22 +8,23 @@ use mathlib.Core.List.{List}
 use mathlib.Core.Logic.{inl, inr, ⊎-elim}
 use Prim.Native.Nat.{ℕ, _≤_, _<_}
 use native.Mathlib.Omega.{arith}
-use lib.ListN.{getD}
-use Rattle.blocks.specs.Layout.{rules, abstractStates}
+use lib.ListN.{length, getD}
+use Rattle.blocks.specs.Layout.{rules, ruleAt, abstractStates, costOf}
 use Rattle.blocks.specs.Validity.{Valid}
 use Rattle.blocks.specs.States.{stateOk, abstractOk}
 use Rattle.psvn.specs.Runs as runs
-use Rattle.psvn.specs.Relabelling.{relabelBlock}
+use Rattle.psvn.specs.Relabelling.{relabelBlock, relabelState}
 use Rattle.psvn.specs.Ranks.{rank}
-use Rattle.psvn.proofs.Relabelled.{rules-relabelled, cost-relabelled}
-use Rattle.psvn.proofs.Stepping.{abstract-states}
+use Rattle.psvn.proofs.Relabelled.{rules-relabelled, cost-relabelled, states-relabelled}
+use Rattle.psvn.proofs.Stepping.{relabelled-state, abstract-states}
 use Rattle.psvn.proofs.RelabelTwice.{relabelled-valid}
-use Rattle.distances.specs.Graphs.{reaches, totalCost, Least, LeastTable}
+use Rattle.distances.specs.Graphs.{mark, reaches, totalCost, Least, LeastTable}
 use Rattle.distances.specs.LeastCosts.{leastCosts}
 use Rattle.distances.specs.Filling.{Cheap}
 use Rattle.distances.proofs.LeastCostLaws.{least-costs, least-costs-pass}
 use Rattle.tables.specs.Abstraction.{graphOf}
-use Rattle.tables.specs.Tables.{entry, passesTest}
+use Rattle.tables.specs.Tables.{entry, estimate, passesTest, LowerBound}
+use Rattle.tables.proofs.Promises.{lower-bound}
 use Rattle.tables.proofs.OverRanks.{rank-relabelled, rank-in, reaches-rank, cost-rank, relabelled-abstract}
 use Rattle.filling.specs.FilledTables.{filled, CostBytes, LeastCost}
 
@@ -61,6 +63,11 @@ module _ (b : List ℕ) (v : Valid b) where
       rw (sym (rank-relabelled b u))
       (least-at-rank u ok′ (getD t (rank a u) 0) (h .least (rank a u) (rank-in a v′ (relabelled-abstract b) u ok′)))
 
+-- a block of bytes
+pub cost-bytes : (b : List ℕ) → ((i : ℕ) → getD b i 0 ≤ 255) → CostBytes b
+unfolding costOf
+cost-bytes b small r l = small (ruleAt b r)
+
 -- the filled table, where costs are bytes
 module _ (b : List ℕ) (v : Valid b) (bytes : CostBytes b) where
   few : abstractStates (relabelBlock b) ≤ 16384
@@ -79,3 +86,17 @@ module _ (b : List ℕ) (v : Valid b) (bytes : CostBytes b) where
   pub filled-passes : passesTest b (filled b) ≡ true
   unfolding passesTest filled
   filled-passes = least-costs-pass (graphOf (relabelBlock b)) cheap few
+
+  pub filled-length : length (filled b) ≡ abstractStates b
+  unfolding filled
+  filled-length = least-costs (graphOf (relabelBlock b)) cheap few .len ∙ states-relabelled b
+
+  -- what its estimates promise
+  pub filled-low : LowerBound b (estimate b (filled b))
+  filled-low = lower-bound b v (filled b) filled-passes
+
+  pub filled-small : (s : List ℕ) → stateOk b s ≡ true → estimate b (filled b) s ≤ mark
+  unfolding estimate
+  filled-small s ok =
+      ⊎-elim (λ n. let e = n .0 in omega arith) (λ n. let e = n .0 in omega arith)
+      (filled-least (relabelState b s) (relabelled-state b v s ok))
