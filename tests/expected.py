@@ -168,6 +168,12 @@ def zeros(n, labels, abstracts, rules, goals):
     return reference.check_block([n, labels, abstracts, rules, goals] + [0] * length)
 
 
+def heads_around(x):
+    """Each number of a head around its limits."""
+    heads = [(x, 2, 1, 0, 1), (15 + x, 2, 1, 0, 1), (1, x, 1, 0, 1), (1, 15 + x, 1, 0, 1), (1, 2, x, 0, 1)]
+    return heads + [(1, 2, 1 + x, 0, 1), (1, 2, 1, 63 + x, 1), (1, 2, 1, 0, x), (1, 2, 1, 0, 7 + x)]
+
+
 def faulty(faults):
     """Input E with each fault of the set."""
     block = list(E)
@@ -199,9 +205,7 @@ def exercises():
     numbers(zeros(n, 2, 2, 0, 1) for n in (14, 15))
     print('n, L, K, R, G around their limits')
     for x in range(3):
-        heads = [(x, 2, 1, 0, 1), (15 + x, 2, 1, 0, 1), (1, x, 1, 0, 1), (1, 15 + x, 1, 0, 1), (1, 2, x, 0, 1)]
-        heads += [(1, 2, 1 + x, 0, 1), (1, 2, 1, 63 + x, 1), (1, 2, 1, 0, x), (1, 2, 1, 0, 7 + x)]
-        numbers(zeros(*head) for head in heads)
+        numbers(zeros(*head) for head in heads_around(x))
     places = [('each byte as input E\'s first left term', 9), ('as its first right term', 12)]
     places += [('as its first goal term', 50), ('as its first cost', 8), ('as its first map byte', 5)]
     for title, place in places:
@@ -987,6 +991,354 @@ def search_trials():
     run_batches(SearchBatch, 250)
 
 
+# Input E's text.
+E_TEXT = ('\n'.join(INPUT_E.split()) + '\n').encode()
+
+
+def replaced(text, start, stop, by=b''):
+    """A text with a part replaced; where the part ends before it begins, what stands between comes twice."""
+    return text[:start] + by + text[stop:]
+
+
+def text_of(block):
+    """A block as text, a frame a line by its head, whatever that holds; no line is empty."""
+    n, labels, _, rules, _ = block[:5]
+    lengths = itertools.chain([5, labels], [1 + 2 * n] * rules, itertools.repeat(n))
+    rest, lines = bytes(block), []
+    while rest:
+        length = max(next(lengths), 1)
+        lines.append(rest[:length].hex().upper().encode() + b'\n')
+        rest = rest[length:]
+    return b''.join(lines)
+
+
+def faulty_text(k):
+    """Input E's text and the buffer's length, with a set of faults."""
+    names = ['character', 'head line', 'head', 'line', 'buffer', 'map', 'term', 'variable']
+    changes = {'character': (113, b'a'), 'head': (9, b'9'), 'map': (12, b'2'), 'term': (109, b'3'), 'variable': (26, b'11')}
+    faults, text = subset(k, names), E_TEXT
+    for fault in faults & changes.keys():
+        place, by = changes[fault]
+        text = replaced(text, place, place + len(by), by)
+    text = text[2 if 'head line' in faults else 0 : 33] + text[48 if 'line' in faults else 33 :]
+    return text, 52 if 'buffer' in faults else 56
+
+
+def worked_texts():
+    def reading(text, room=56):
+        value, out = reference.read_exercise(text, [170] * room)
+        numbers([answer(value), *out, *[170] * (56 - room)])
+
+    def readings(*edits):
+        for edit in edits:
+            reading(replaced(E_TEXT, *edit))
+
+    def row(cases):
+        """Answers, and a sum over them and the buffers. A case is a text, or a text and the buffer's length."""
+        total, answers = Sum(), []
+        for case in cases:
+            text, room = case if isinstance(case, tuple) else (case, 56)
+            value, out = reference.read_exercise(text, [170] * room)
+            answers.append(answer(value))
+            total.mix(answer(value), *out, *[170] * (56 - room))
+        numbers([*answers, total.total])
+
+    print("input E's text")
+    reading(E_TEXT)
+    print(
+        'a lower-case digit, a head line of eight digits, a head out of limits, a line missing, a buffer of 52 bytes, map byte 2, term 3,'
+        ' an unbound variable'
+    )
+    for fault in range(8):
+        reading(*faulty_text(1 << fault))
+    print('every set of these faults: a row has the sets of the first four, rows run through the sets of the last four; sums')
+    for others in range(0, 256, 16):
+        row(faulty_text(others + k) for k in range(16))
+    print(
+        "in the map's line a digit left out, a digit more; in the head line; a digit moved from the map's line to rule 0's,"
+        " from rule 0's to the map's"
+    )
+    readings((16, 17), (17, 17, b'0'), (9, 10), (10, 10, b'0'), (16, 18, b'\n1'), (17, 19, b'0\n'))
+    print(
+        "a carriage return before the first line feed, before the last, for the last; a blank before, in, behind the map's line,"
+        ' for a digit; a zero byte for a digit, behind the text; lower case in the head line'
+    )
+    readings((10, 10, b'\r'), (114, 114, b'\r'), (114, 115, b'\r'), (11, 11, b' '), (13, 13, b' '), (17, 17, b' '), (13, 14, b' '))
+    readings((13, 14, b'\0'), (115, 115, b'\0'), (1, 2, b'a'))
+    places = [("each character as the first digit of rule 0's cost: the answers and the cost", 18), ('as the second', 19)]
+    for title, place in places:
+        print(title)
+        texts = [replaced(E_TEXT, place, place + 1, bytes([character])) for character in range(256)]
+        answers = [reference.read_exercise(text, [170] * 56) for text in texts]
+        for at in range(0, 256, 32):
+            numbers(x for value, out in answers[at : at + 32] for x in (answer(value), out[8]))
+    print(
+        'the last line unended; no text; one line feed, two; an empty line behind the text, in front of it, within it; the head line alone'
+    )
+    for text in (E_TEXT[:-1], b'', b'\n', b'\n\n', E_TEXT + b'\n', b'\n' + E_TEXT, replaced(E_TEXT, 33, 33, b'\n'), E_TEXT[:11]):
+        reading(text)
+    print("behind the text a goal's line, a query's, a goal's unended, a goal's with a lower-case digit, with an odd number")
+    for more in (b'020100\n', b'010200080000006400000064\n', b'020100', b'02010a\n', b'02010\n'):
+        reading(E_TEXT + more)
+    lines = reference.lines_of(E_TEXT)
+    print('each line left out; sum')
+    row(b''.join(lines[:i] + lines[i + 1 :]) for i in range(9))
+    print('each line doubled')
+    row(b''.join(lines[: i + 1] + lines[i:]) for i in range(9))
+    print('each line exchanged with the next')
+    row(b''.join(lines[:i] + [lines[i + 1], lines[i]] + lines[i + 2 :]) for i in range(8))
+    print('each line without its first pair')
+    row(b''.join(lines[:i] + [lines[i][2:]] + lines[i + 1 :]) for i in range(9))
+    print('each line with a pair more')
+    row(b''.join(lines[:i] + [b'00' + lines[i]] + lines[i + 1 :]) for i in range(9))
+    print('each line feed but the last moved to the front by two digits, by one, to the back by one, by two; sum')
+    for at in itertools.accumulate(map(len, lines[:8])):
+        joined = replaced(E_TEXT, at - 1, at)
+        row(replaced(joined, at - 1 + by, at - 1 + by, b'\n') for by in (-2, -1, 1, 2))
+    edits_of = {
+        'each character left out; sum': lambda at: (at, at + 1),
+        'each doubled': lambda at: (at + 1, at),
+        'a line feed for each': lambda at: (at, at + 1, b'\n'),
+        'a line feed before each': lambda at: (at, at, b'\n'),
+        'the digit 0 for each': lambda at: (at, at + 1, b'0'),
+        'the text cut before each': lambda at: (at, 115),
+        'the text from each on': lambda at: (0, at),
+    }
+    for title, edit in edits_of.items():
+        print(title)
+        row(replaced(E_TEXT, *edit(at)) for at in range(115))
+    print('a head line of twelve digits, of eight; both with a head out of limits; another head line in front')
+    readings((10, 10, b'00'), (8, 10), (9, 10, b'900'), (0, 10, b'00030206'), (0, 0, b'0303020600\n'))
+    print('the head line alone: n from 1 to 16, K from 1 to 16; sums')
+    for n in range(1, 17):
+        row(text_of([n, 16, k, 0, 1]) for k in range(1, 17))
+    print('the head line alone: n, L, K, R, G around their limits; sums')
+    for x in range(3):
+        row(text_of(head) for head in heads_around(x))
+    print("input E's text into 0 to 56 bytes; sum")
+    row((E_TEXT, room) for room in range(57))
+    print('into 52, 53, 54 bytes')
+    for room in (52, 53, 54):
+        reading(E_TEXT, room)
+    print('the smallest exercise, into 56, 7, 6 bytes')
+    for room in (56, 7, 6):
+        reading(b'0101010001\n00\n00\n', room)
+
+    def largest(*edit, room=2300):
+        text = replaced(text_of([16, 16, 1, 64, 8] + [0] * 2256), *edit)
+        value, out = reference.read_exercise(text, [170] * room)
+        total = Sum()
+        total.mix(*out, *[170] * (2300 - room))
+        numbers([answer(value), total.total])
+
+    print('the largest, into 2300, 2261, 2260 bytes; sums; its last line missing, one more, unended')
+    for room in (2300, 2261, 2260):
+        largest(0, 0, room=room)
+    for edit in [(4563, 4596), (4596, 4563), (4595, 4596)]:
+        largest(*edit)
+    print("its last map byte, the last goal's last term, the last rule's last term changed: good and bad")
+    for place, pair in [(41, b'01'), (4593, b'FF'), (4593, b'20'), (4329, b'0F'), (4329, b'10')]:
+        largest(place, place + 2, pair)
+    print('line feeds up to 40,000 characters; the last a lower-case digit, a digit; the head out of limits; the head line unpaired')
+    for place, by in [(39999, b'\n'), (39999, b'a'), (39999, b'0'), (9, b'9'), (9, b'\n')]:
+        reading(replaced(E_TEXT.ljust(40000, b'\n'), place, place + 1, by))
+
+
+def query_line(start, steps, limit, allowance):
+    return (bytes([*start, steps]) + limit.to_bytes(4, 'big') + allowance.to_bytes(4, 'big')).hex().upper().encode() + b'\n'
+
+
+def print_session(data):
+    print(reference.par(data).decode())
+
+
+def worked_sessions():
+    first = query_line([1, 2, 0], 8, 100, 100)
+    whole = E_TEXT + first
+
+    def queries(*lines):
+        print_session(E_TEXT + b''.join(lines))
+
+    def all_replaced(*edits):
+        for edit in edits:
+            print_session(replaced(whole, *edit))
+
+    def limits(start, *triples):
+        queries(*(query_line(start, *triple) for triple in triples))
+
+    print('input E from <1,2,0>: D = 8, B = 100, V = 100; V = 9; B = 4; D = 2; D = 65; then from the goal')
+    triples = [(8, 100, 100), (8, 100, 9), (8, 4, 100), (2, 100, 100), (65, 100, 100)]
+    queries(*(query_line([1, 2, 0], *triple) for triple in triples), query_line([2, 1, 0], 8, 100, 100))
+    print('the first of them alone, twice; no queries')
+    for count in (1, 2, 0):
+        queries(*[first] * count)
+    print('D = 0, 1, 3, 64, 65, 255; B = 0, 5, 1280, 83886080, 4294967295; V = 0, 10, 2560, 167772160, 4294967295')
+    limits([1, 2, 0], *((steps, 100, 100) for steps in (0, 1, 3, 64, 65, 255)))
+    limits([1, 2, 0], *((8, limit, 100) for limit in (0, 5, 1280, 83886080, 4294967295)))
+    limits([1, 2, 0], *((8, 100, allowance) for allowance in (0, 10, 2560, 167772160, 4294967295)))
+    print('from <2,1,0> and from <0,0,0>: D = 0; B = 0; V = 0, 1; all three 0')
+    for start in ([2, 1, 0], [0, 0, 0]):
+        limits(start, (0, 100, 100), (8, 0, 100), (8, 100, 0), (8, 100, 1), (0, 0, 0))
+    print('the last query line unended, alone, behind another; an unended part of it')
+    for lines in ([first[:-1]], [first, first[:-1]], [first, first[:1]]):
+        queries(*lines)
+    print('an empty line before a query, between two, behind one; three empty lines')
+    for lines in ([b'\n', first], [first, b'\n', first], [first, b'\n'], [b'\n'] * 3):
+        queries(*lines)
+    print(
+        'before a query one with lower case, a carriage return at its end, a blank in front, behind, a zero byte behind,'
+        ' a digit more, a digit less'
+    )
+    ended = [first[:-2] + b'a', first[:-1] + b'\r', b' ' + first[:-1], first[:-1] + b' ', first[:-1] + b'\0']
+    for line in ended + [first[:-1] + b'0', first[:-2]]:
+        queries(line + b'\n', first)
+    print(
+        "before a query one with a pair more, a pair less, a goal's line, the head line, two in one line, a label 3, labels 255"
+    )
+    ended = [first[:-1] + b'00', first[:-3], b'020100', b'0303020601', first[:-1] * 2]
+    for line in ended + [query_line(start, 8, 100, 100)[:-1] for start in ([1, 2, 3], [255] * 3)]:
+        queries(line + b'\n', first)
+    print('queries with every set of these faults: a lower-case digit, a pair more, a label 3, D = 65')
+    lines = []
+    for k in range(16):
+        faults = subset(k, ['character', 'length', 'state', 'limit'])
+        line = query_line([3 if 'state' in faults else 1, 2, 0], 65 if 'limit' in faults else 8, 100, 100)
+        pair = b'6a' if 'character' in faults else b'64'
+        lines.append(line[:22] + (b'00' if 'length' in faults else b'') + pair + b'\n')
+    queries(*lines)
+    print(
+        "no input; one line feed, two; the head line alone, unended, with only the map's line behind; all lines but the last;"
+        ' the last unended'
+    )
+    for data in (b'', b'\n', b'\n\n', E_TEXT[:11], E_TEXT[:10], E_TEXT[:18], E_TEXT[:108], E_TEXT[:114]):
+        print_session(data)
+    print("a carriage return in the head line, in the map's line, in the last of the exercise")
+    all_replaced((10, 10, b'\r'), (17, 17, b'\r'), (114, 114, b'\r'))
+    print(
+        "an empty line in front, within, behind the exercise; the map's line, a rule's, the goal's left out; the goal's doubled"
+    )
+    all_replaced((0, 0, b'\n'), (33, 33, b'\n'), (115, 115, b'\n'), (11, 18), (18, 33), (108, 115), (115, 108))
+    print('one rule less, one more, one goal more, one label more by the head')
+    all_replaced((7, 8, b'5'), (7, 8, b'7'), (9, 10, b'2'), (3, 4, b'4'))
+    print('lower case behind a head line of eight digits, of twelve, behind a head out of limits, in the line behind the exercise')
+    all_replaced((8, 14, b'\n10a'), (10, 14, b'00\n00a'), (9, 14, b'9\n00a'), (115, 115, b'0a\n'))
+    print(
+        'a lower-case digit, a head line of eight digits, a head out of limits, a line missing, map byte 2, term 3,'
+        ' an unbound variable'
+    )
+    for fault in (1, 2, 4, 8, 32, 64, 128):
+        print_session(faulty_text(fault)[0] + first)
+    print('every set of these faults, the last three slowest')
+    for k in range(128):
+        print_session(faulty_text(k // 16 * 32 + k % 16)[0] + first)
+
+    def exercise(block, *lines):
+        print_session(text_of(block) + b''.join(query_line(*line) for line in lines))
+
+    print('64 steps of cost 255: D = 64, B = 16320, V = 65; V = 64; B = 16319; D = 63; then 63 steps')
+    sides = [('-' * (6 - ones) + '0' + '1' * ones, '-' * (6 - ones) + '1' + '0' * ones) for ones in range(7)]
+    deep = block_of(7, 2, [(255, left, right) for left, right in sides], ['1000000'], [0, 1])
+    zeros = [0] * 7
+    bounds = [(64, 16320, 65), (64, 16320, 64), (64, 16319, 65), (63, 16320, 65)]
+    exercise(deep, *((zeros, *bound) for bound in bounds), ([0] * 6 + [1], 63, 16065, 64))
+    print('no plan within 11 steps, after 81140 visits: V = 100000, 81140, 81139, 70000')
+    flips = [(1, '-' * i + a + '-' * (3 - i), '-' * i + b + '-' * (3 - i)) for i in range(4) for a, b in ('01', '10')]
+    exercise(block_of(4, 3, flips, ['2222']), *(([0] * 4, 11, 100, allowance) for allowance in (100000, 81140, 81139, 70000)))
+    print('a table of 16384 entries: from <0,0,0,0,0,0,0>; from <3,2,1,0,1,2,3>, with D = 13; from the goal')
+    raised = [(label + 2, f'{label}------', f'{label + 1}------') for label in range(3)]
+    ring = block_of(7, 4, [(1, 'ABCDEFG', 'BCDEFGA'), *raised], ['3333333'], [0, 1, 2, 3])
+    starts = [(zeros, 64), ([3, 2, 1, 0, 1, 2, 3], 64), ([3, 2, 1, 0, 1, 2, 3], 13), ([3] * 7, 64)]
+    exercise(ring, *((start, steps, 1000, 1000) for start, steps in starts))
+    print('the largest exercise, from <0,..,0>, which is a goal, and from <0,..,0,15>')
+    exercise([16, 16, 1, 64, 8] + [0] * 2256, ([0] * 16, 8, 100, 100), ([0] * 15 + [15], 8, 100, 100))
+    print(
+        'a query, an empty line and a long one, 32768, 32769, 32770, 40000 bytes in all; the long line unended, 32768 and 32769 bytes in all'
+    )
+    long = whole + b'\n'
+    for length in (32768, 32769, 32770, 40000):
+        print_session(long.ljust(length - 1, b'0') + b'\n')
+    for length in (32768, 32769):
+        print_session(long.ljust(length, b'0'))
+
+
+# What stands for a character of a text, or is put in.
+CHARACTERS = b'0123456789ABCDEFabcdef\n\n \r\0G/:@\xB0'
+
+
+def damaged_text(random, text, kinds):
+    """A text that is damaged 16 times in `kinds`."""
+    kind, at, index = random.choose(kinds), random.choose(len(text)), random.choose(32)
+
+    def line_end(place):
+        found = text.find(b'\n', place)
+        return len(text) if found < 0 else found
+
+    def change_digit(place):
+        """No line feed is changed."""
+        return (0, 0) if line_end(place) == place else (place, place + 1, CHARACTERS[index % 16 : index % 16 + 1])
+
+    byte, start, end = CHARACTERS[index : index + 1], text.rfind(b'\n', 0, at) + 1, line_end(at)
+    pair = at - (at - start) % 2
+    second = line_end(0) + 1
+    length = line_end(second) - second
+    damages = [
+        (at, at + 1, byte),
+        (at, at + 1),
+        (at, at, byte),
+        (at, len(text)),
+        (pair, pair + 2),
+        (pair + 2, pair),
+        (pair, pair, b'\n'),
+        (end, end + 1),
+        (end + 1, start),
+        (start, end + 1),
+        (end - 2, end + 1, b'\n' + text[end - 2 : end]) if end > 1 else (0, 0),
+        (end, end + 3, text[end + 1 : end + 3] + b'\n') if end + 2 < len(text) else (0, 0),
+        *[change_digit(at)] * 2,
+        *[change_digit(second + at % length if length > 0 else second)] * 2,
+    ]
+    return replaced(text, *damages[kind]) if kind < len(damages) else text
+
+
+def text_trials():
+    random = Random()
+    print('accepted, refused with 1, 2, 3, 5, 6, 7, 11; sum')
+    for _ in range(16):
+        total, counts = Sum(), collections.Counter()
+        for _ in range(1000):
+            block, _ = random_block(random)
+            text = damaged_text(random, damaged_text(random, text_of(block), 32), 128)
+            near, more = random.choose(2) == 0, random.choose(8)
+            room = max(len(block) + more - 2, 0) if near else len(block) + 8
+            value, out = reference.read_exercise(text, [170] * room)
+            total.mix(answer(value), *out, *[170] * (240 - room))
+            counts[value[0] if isinstance(value, tuple) else value] += 1
+        numbers([*(counts[value] for value in ('done', 1, 2, 3, 5, 6, 7, 11)), total.total])
+
+
+def random_query(random, head):
+    """A query line, most often right."""
+    start = random_state(random, head)
+    steps = 64 + random.choose(3) if random.choose(12) == 0 else random.choose(7)
+
+    def number(most):
+        high, low = most
+        return random.choose(high) * 256 + random.choose(low)
+
+    kind = random.choose(4)
+    limit = reference.MARK if kind == 0 else number((1, 8) if kind == 1 else (3, 256))
+    allowance = number((1, 16) if random.choose(4) == 0 else (2, 256))
+    return query_line(start, steps, limit, allowance)
+
+
+def session_trials():
+    random = Random()
+    for _ in range(600):
+        block = random_search_block(random)
+        lines = [random_query(random, block) for _ in range(random.choose(5))]
+        print_session(damaged_text(random, text_of(block) + b''.join(lines), 32))
+
+
 def counter(direction, cost):
     """0 1 .. 1 at the end become 1 0 .. 0, up to all ones; the other way round where the direction is -1."""
     sides = [('-' * (13 - ones) + '0' + '1' * ones, '-' * (13 - ones) + '1' + '0' * ones) for ones in range(14)]
@@ -1036,5 +1388,6 @@ def fill_order():
 
 if __name__ == '__main__':
     programs = [back_calls, back_trials, exercises, fill_order, recorded_runs, replay_trials, retracing]
-    programs += [search_trials, table_trials, trials, wide_states, worked_searches, worked_tables]
+    programs += [search_trials, session_trials, table_trials, text_trials, trials, wide_states]
+    programs += [worked_searches, worked_sessions, worked_tables, worked_texts]
     {program.__name__: program for program in programs}[sys.argv[1]]()

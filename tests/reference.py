@@ -1,4 +1,5 @@
-"""An independent reading of the language: blocks, states, matching, applying, goals, relabelling, stepping back, reversible rules, replay, tables, search.
+"""An independent reading of the language: blocks, states, matching, applying, goals, relabelling, stepping back, reversible rules, replay,
+tables, search, exercises as text, and what the program `par` prints.
 
 It shares nothing with the crates. The expected outputs of the test programs are made from it (expected.py).
 """
@@ -17,20 +18,26 @@ class Refused(Exception):
         self.number = number
 
 
+def frame_lengths(block):
+    """How many bytes each frame of a block has by its head: the head itself, the map, each rule, each goal."""
+    if len(block) < 5:
+        raise Refused(3)
+    n, labels, abstracts, rules, goals = block[:5]
+    if not (1 <= n <= 16 and 1 <= labels <= 16 and 1 <= abstracts <= labels):
+        raise Refused(3)
+    if rules > 64 or not 1 <= goals <= 8 or abstracts**n > 16384:
+        raise Refused(3)
+    return [5, labels] + [1 + 2 * n] * rules + [n] * goals
+
+
 class Exercise:
     """A block taken apart. Terms are ('label', x), ('variable', v), ('dash',) or None for no term."""
 
     def __init__(self, block):
-        if len(block) < 5:
-            raise Refused(3)
-        self.n, self.labels, self.abstracts, self.rule_count, self.goal_count = block[:5]
-        if not (1 <= self.n <= 16 and 1 <= self.labels <= 16 and 1 <= self.abstracts <= self.labels):
-            raise Refused(3)
-        if self.rule_count > 64 or not 1 <= self.goal_count <= 8 or self.abstracts ** self.n > 16384:
-            raise Refused(3)
-        n, width = self.n, 1 + 2 * self.n
-        if len(block) != 5 + self.labels + self.rule_count * width + self.goal_count * n:
+        if len(block) != sum(frame_lengths(block)):
             raise Refused(4)
+        self.n, self.labels, self.abstracts, self.rule_count, self.goal_count = block[:5]
+        n, width = self.n, 1 + 2 * self.n
         self.known = {}
         rest = list(block[5:])
         self.map, rest = rest[: self.labels], rest[self.labels :]
@@ -455,3 +462,84 @@ def look_up(block, state, table):
         return 'entry', accepted_abstraction(block, state, table).estimate(state, table)
     except Refused as r:
         return r.number
+
+
+def lines_of(text):
+    """The lines of a text, each with its line feed; an unended last one has none."""
+    *ended, rest = bytes(text).split(b'\n')
+    return [line + b'\n' for line in ended] + ([rest] if rest else [])
+
+
+def frame_of(line):
+    """The bytes that the digits of a line stand for."""
+    digits = line.removesuffix(b'\n')
+    if digits == line or len(digits) % 2 or set(digits) - set(b'0123456789ABCDEF'):
+        raise Refused(1)
+    return list(bytes.fromhex(digits.decode()))
+
+
+def read_frames(lines):
+    """The frames of a text's lines, and how many bytes each should have by the first of them."""
+    frames = [frame_of(line) for line in lines]
+    if not frames or len(frames[0]) != 5:
+        raise Refused(2)
+    return frames, frame_lengths(frames[0])
+
+
+def read_exercise(text, out):
+    """The answer, ('done', length) or a number, and the contents of the buffer afterwards."""
+    try:
+        frames, lengths = read_frames(lines_of(text))
+        if [len(frame) for frame in frames] != lengths:
+            raise Refused(2)
+        block = sum(frames, [])
+        if len(out) < len(block):
+            raise Refused(11)
+        Exercise(block)
+        return ('done', len(block)), written(block, out)
+    except Refused as r:
+        return r.number, list(out)
+
+
+def exercise_lines(lines):
+    """How many lines `par` takes for the exercise: all that the head asks for, or the head line alone where it fails."""
+    try:
+        return len(read_frames(lines[:1])[1])
+    except Refused:
+        return 1
+
+
+def answer_query(block, table, line):
+    """The bytes that `par` prints for a query line."""
+    try:
+        query, n = frame_of(line), block[0]
+        if len(query) != n + 9:
+            raise Refused(2)
+        limit, allowance = (int.from_bytes(query[at : at + 4], 'big') for at in (n + 1, n + 5))
+        found, plan = find_plan(block, query[:n], query[n], limit, allowance, table, [0] * 64)
+        if not isinstance(found, tuple):
+            raise Refused(found)
+        status, steps, cost, visits = found
+        number = ['found', 'no plan', 'spent'].index(status)
+        return bytes([number, steps, *cost.to_bytes(4, 'big'), *visits.to_bytes(4, 'big'), *plan[:steps]])
+    except Refused as r:
+        return bytes([255, r.number])
+
+
+def answer_frames(data):
+    """The frames that `par` prints, one a line, for the bytes of its input."""
+    if len(data) > 32768:
+        return [bytes([255, 2])]
+    lines = lines_of(data)
+    count = exercise_lines(lines)
+    found, block = read_exercise(b''.join(lines[:count]), [0] * 32768)
+    if not isinstance(found, tuple):
+        return [bytes([255, found])]
+    block = block[: found[1]]
+    table = abstraction(tuple(block)).least_costs()
+    return [answer_query(block, table, line) for line in lines[count:]]
+
+
+def par(data):
+    """What the program `par` prints for the bytes of its input."""
+    return b''.join(frame.hex().upper().encode() + b'\n' for frame in answer_frames(data))

@@ -4,6 +4,7 @@ use engine::Estimate;
 use engine::Filling;
 use engine::GoalTest;
 use engine::Predecessor;
+use engine::Reading;
 use engine::Relabelling;
 use engine::Replay;
 use engine::Reversibility;
@@ -40,6 +41,14 @@ pub fn relabelling_number(answer: Relabelling) -> u64 {
     match answer {
         Relabelling::Done(length) => 100 + length as u64 % 65536,
         Relabelling::Refused(refusal) => number(refusal) as u64,
+    }
+}
+
+// 100 and the length of the block that was read.
+pub fn reading_number(answer: Reading) -> u64 {
+    match answer {
+        Reading::Done(length) => 100 + length as u64 % 65536,
+        Reading::Refused(refusal) => number(refusal) as u64,
     }
 }
 

@@ -1,5 +1,6 @@
-// Input E's block, and faults.
+// Input E as a block and as text, and both with faults.
 use super::parts::put;
+use super::texts::copy_part;
 
 // How many bytes input E's block has.
 pub const E_LENGTH: usize = 53;
@@ -28,4 +29,30 @@ pub fn faulty_e(set: u8) -> [u8; 54] {
     let mut block = E;
     put(&mut block, 12, fault(set, 1, 17, 0));
     block
+}
+
+// How many characters input E's text has.
+pub const E_TEXT_LENGTH: usize = 115;
+
+// Input E's text, as document 01 prints its lines.
+const E_TEXT: [u8; 115] =
+    *b"0303020601\n000101\n011000FF0010FF\n010010FF1000FF\n01FF1000FF0010\n01FF0010FF1000\n0310FF0000FF10\n0300FF1010FF00\n020100\n";
+
+pub fn text_e() -> [u8; 115] {
+    E_TEXT
+}
+
+// Writes input E's text with a set of faults, and gives its length.
+// Faults: 1 a lower-case digit in the last line, 2 a head line of eight digits, 4 a head out of limits, 8 a rule line missing, 32 a map byte, 64 a goal's term, 128 a right variable.
+pub fn write_faulty_text(out: &mut [u8], set: u8) -> usize {
+    let mut text = E_TEXT;
+    put(&mut text, 113, fault(set, 1, b'a', b'0'));
+    put(&mut text, 9, fault(set, 4, b'9', b'1'));
+    put(&mut text, 12, fault(set, 32, b'2', b'0'));
+    put(&mut text, 109, fault(set, 64, b'3', b'2'));
+    put(&mut text, 26, fault(set, 128, b'1', b'0'));
+    put(&mut text, 27, fault(set, 128, b'1', b'0'));
+    let behind = copy_part(out, 0, &text, fault(set, 2, 2, 0) as usize, 33);
+    let rest = fault(set, 8, 48, 33) as usize;
+    copy_part(out, behind, &text, rest, E_TEXT_LENGTH)
 }

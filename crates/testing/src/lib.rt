@@ -1,10 +1,11 @@
-// What the test programs share: parts of buffers and tables, the numbers they print for answers, printing itself, input E, and sums.
+// What the test programs share: parts of buffers and tables, the numbers they print for answers, printing itself, input E as a block and as text, sums, and texts.
 mod answers;
 mod inputs;
 mod parts;
 mod printing;
 mod sums;
 mod table_parts;
+mod texts;
 
 pub use answers::application_number;
 pub use answers::estimate_entry;
@@ -12,6 +13,7 @@ pub use answers::estimate_number;
 pub use answers::filling_number;
 pub use answers::goal_test_number;
 pub use answers::predecessor_number;
+pub use answers::reading_number;
 pub use answers::relabelling_number;
 pub use answers::replay_cost;
 pub use answers::replay_index;
@@ -24,9 +26,12 @@ pub use answers::search_visits;
 pub use answers::table_test_number;
 pub use answers::verdict_number;
 pub use inputs::E_LENGTH;
+pub use inputs::E_TEXT_LENGTH;
 pub use inputs::fault;
 pub use inputs::faulty_e;
 pub use inputs::input_e;
+pub use inputs::text_e;
+pub use inputs::write_faulty_text;
 pub use parts::byte_at;
 pub use parts::front;
 pub use parts::front_mut;
@@ -53,3 +58,7 @@ pub use table_parts::put_entry;
 pub use table_parts::raised;
 pub use table_parts::table_length;
 pub use table_parts::wide_entry;
+pub use texts::copy_part;
+pub use texts::replace;
+pub use texts::write_line;
+pub use texts::write_text;
