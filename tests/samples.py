@@ -5,22 +5,16 @@ NAME is e, tiles, pancake or yard.
 """
 import sys
 
+import expected
 import reference
 
 FREE, ANY = 0x10, 0xFF
 
 
-def line(numbers):
-    return ''.join(f'{number:02X}' for number in numbers)
-
-
 def text(head, mapped, rules, goals, queries):
     """An exercise and its queries, one frame or query a line."""
-    lines = [line(head), line(mapped)]
-    lines += [line([cost, *left, *right]) for cost, left, right in rules]
-    lines += [line(goal) for goal in goals]
-    lines += [f'{line([*start, steps])}{cost:08X}{visits:08X}' for start, steps, cost, visits in queries]
-    return ''.join(f'{each}\n' for each in lines)
+    frames = [head, mapped, *([cost, *left, *right] for cost, left, right in rules), *goals]
+    return expected.text_of(sum(map(list, frames), [])) + b''.join(expected.query_line(*query) for query in queries)
 
 
 def exchange(n, source, target, cost):
@@ -74,5 +68,5 @@ SAMPLES = {'e': e, 'tiles': tiles, 'pancake': pancake, 'yard': yard}
 if __name__ == '__main__':
     written = SAMPLES[sys.argv[1]]()
     if sys.argv[2:] == ['answers']:
-        written = bytes(reference.par(written.encode())).decode()
-    sys.stdout.write(written)
+        written = reference.par(written)
+    sys.stdout.buffer.write(written)

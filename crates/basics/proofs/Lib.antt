@@ -3,6 +3,7 @@
 pub mod Truth
 pub mod Bounded
 pub mod Lists
+pub mod ByteLists
 pub mod Digits
 pub mod Order
 pub mod Pigeonhole

@@ -130,6 +130,10 @@ front-whole new old h = ap (λ (l : List ℕ). new ++ l) (drop-of-length-le old 
 pub front-longer : (new old : List ℕ) → length old ≤ length (atFront new old)
 front-longer new old = omega (arith, length-append new (drop (length new) old), length-drop (length new) old)
 
+-- what is written lies in the list
+pub front-fits : (new old : List ℕ) → length new ≤ length (atFront new old)
+front-fits new old = omega (arith, length-append new (drop (length new) old))
+
 -- what is read back of a list at the front
 pub front-taken : (new old : List ℕ) (n : ℕ) → n ≡ length new → take n (atFront new old) ≡ new
 front-taken new old n e = take-at new (drop (length new) old) n (sym e)

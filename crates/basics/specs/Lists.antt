@@ -1,8 +1,8 @@
--- Lists made by a function of the index (`tabulate`), lists joined by one (`joined`), and a list written over the front of another (`atFront`).
+-- Lists made by a function of the index (`tabulate`), lists joined by one (`joined`), a list written over the front of another (`atFront`), and lists of bytes (`Bytes`).
 -- States, relabelled blocks and the contents of lent buffers are stated with these.
-use Prim.Native.Nat.{ℕ, zero, suc}
+use Prim.Native.Nat.{ℕ, zero, suc, _≤_}
 use mathlib.Core.List.{List, [], _∷_, _++_}
-use lib.ListN.{length, drop}
+use lib.ListN.{length, getD, drop}
 
 -- f i, f (i + 1), .. : n elements
 abbrev pub tabulateFrom : ℕ → ℕ → (ℕ → ℕ) → List ℕ
@@ -21,3 +21,7 @@ joined (suc n) f = joined n f ++ f n
 -- `new` at the front of `old`, whose elements behind it are kept
 abbrev pub atFront : List ℕ → List ℕ → List ℕ
 atFront new old = new ++ drop (length new) old
+
+-- the elements are bytes
+abbrev pub Bytes : List ℕ → Type 0
+Bytes l = (i : ℕ) → getD l i 0 ≤ 255

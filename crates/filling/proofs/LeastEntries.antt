@@ -9,6 +9,7 @@ use mathlib.Core.Logic.{inl, inr, ⊎-elim}
 use Prim.Native.Nat.{ℕ, _≤_, _<_}
 use native.Mathlib.Omega.{arith}
 use lib.ListN.{length, getD}
+use Rattle.basics.specs.Lists.{Bytes}
 use Rattle.blocks.specs.Layout.{rules, ruleAt, abstractStates, costOf}
 use Rattle.blocks.specs.Validity.{Valid}
 use Rattle.blocks.specs.States.{stateOk, abstractOk}
@@ -64,7 +65,7 @@ module _ (b : List ℕ) (v : Valid b) where
       (least-at-rank u ok′ (getD t (rank a u) 0) (h .least (rank a u) (rank-in a v′ (relabelled-abstract b) u ok′)))
 
 -- a block of bytes
-pub cost-bytes : (b : List ℕ) → ((i : ℕ) → getD b i 0 ≤ 255) → CostBytes b
+pub cost-bytes : (b : List ℕ) → Bytes b → CostBytes b
 unfolding costOf
 cost-bytes b small r l = small (ruleAt b r)
 

@@ -1,11 +1,12 @@
 -- What is read from digits are bytes: of a line (`line-small`) and of an exercise's lines (`block-small`).
 -- That the costs of an exercise read from text are bytes rests on it.
 use mathlib.Core.Logic.{⊎-elim}
-use mathlib.Core.List.{List, [], _∷_, _++_, flatMap}
+use mathlib.Core.List.{List, [], _∷_, flatMap}
 use Prim.Native.Nat.{ℕ, zero, suc, _≤_, _<_}
 use native.Mathlib.Omega.{arith}
-use lib.ListN.{getD}
+use Rattle.basics.specs.Lists.{Bytes}
 use Rattle.basics.proofs.Order.{below?}
+use Rattle.basics.proofs.ByteLists.{bytes-append}
 use Rattle.frames.specs.Lines.{digitValue, lineBytes}
 use Rattle.frames.specs.Reading.{blockOf}
 use Rattle.frames.proofs.DigitLaws.{decimal, letter, below, between, above}
@@ -22,20 +23,13 @@ digit-small c =
     ⊎-elim (λ l. let h : c ≤ 70 = omega arith in omega (arith, letter c e h .value))
     (λ f. let h : 70 < c = omega arith in omega (arith, above c h .value)) (below? c 71)) (below? c 65)) (below? c 58)) (below? c 48)
 
-pub line-small : (l : List ℕ) (i : ℕ) → getD (lineBytes l) i 0 ≤ 255
+pub line-small : (l : List ℕ) → Bytes (lineBytes l)
 line-small [] i = omega arith
 line-small (c ∷ []) i = omega arith
 line-small (c ∷ d ∷ l) zero = omega (arith, digit-small c, digit-small d)
 line-small (c ∷ d ∷ l) (suc i) = line-small l i
 
--- two lists of bytes behind one another
-behind-small :
-    (a b : List ℕ) → ((i : ℕ) → getD a i 0 ≤ 255) → ((i : ℕ) → getD b i 0 ≤ 255) → (i : ℕ) → getD (a ++ b) i 0 ≤ 255
-behind-small [] b p q i = q i
-behind-small (x ∷ a) b p q zero = p 0
-behind-small (x ∷ a) b p q (suc i) = behind-small a b (λ j. p (suc j)) q i
-
-pub block-small : (ls : List (List ℕ)) (i : ℕ) → getD (blockOf ls) i 0 ≤ 255
+pub block-small : (ls : List (List ℕ)) → Bytes (blockOf ls)
 unfolding flatMap
-block-small [] i = omega arith
-block-small (l ∷ ls) i = behind-small (lineBytes l) (blockOf ls) (line-small l) (block-small ls) i
+block-small [] = λ i. omega arith
+block-small (l ∷ ls) = bytes-append (lineBytes l) (blockOf ls) (line-small l) (block-small ls)

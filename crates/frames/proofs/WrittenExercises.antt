@@ -10,8 +10,9 @@ use lib.Dec.{ltb, eqb}
 use lib.ListN.{length, take, drop, take-append-drop, length-drop}
 use lib.Seq.{length-take-le}
 use borrow.Author.Tests.{eq-eqb, lt-ltb, le-leb}
+use Rattle.basics.specs.Lists.{atFront, Bytes}
 use Rattle.basics.proofs.Truth.{and-intro}
-use Rattle.basics.specs.Lists.{atFront}
+use Rattle.basics.proofs.ByteLists.{bytes-take, bytes-drop}
 use Rattle.refusals.specs.Answers.{told, verdict, outcome}
 use Rattle.refusals.proofs.Verdicts.{verdict-behind}
 use Rattle.blocks.specs.Layout.{headLength, blockLength, frameCount, frameLength}
@@ -22,19 +23,7 @@ use Rattle.frames.specs.Lines.{lineOk, lineBytes, lineOf}
 use Rattle.frames.specs.Reading.{headOf, blockOf, linesOk, linesFit, readConditions, frameConditions, contentConditions, readExercise}
 use Rattle.frames.specs.Writing.{framesFrom, framesOf, textOf}
 use Rattle.frames.proofs.AcceptedText.{content-decides}
-use Rattle.frames.proofs.WrittenLines.{Bytes, AllBytes, written-ok, written-bytes, written-lines}
-
--- parts of bytes are bytes
-bytes-take : (n : ℕ) (x : List ℕ) → Bytes x → Bytes (take n x)
-bytes-take zero x small i = omega arith
-bytes-take (suc n) [] small i = small i
-bytes-take (suc n) (b ∷ x) small zero = small 0
-bytes-take (suc n) (b ∷ x) small (suc i) = bytes-take n x (λ j. small (suc j)) i
-
-bytes-drop : (n : ℕ) (x : List ℕ) → Bytes x → Bytes (drop n x)
-bytes-drop zero x small = small
-bytes-drop (suc n) [] small = small
-bytes-drop (suc n) (b ∷ x) small = bytes-drop n x (λ j. small (suc j))
+use Rattle.frames.proofs.WrittenLines.{AllBytes, written-ok, written-bytes, written-lines}
 
 frames-bytes : (head : List ℕ) (i k : ℕ) (rest : List ℕ) → Bytes rest → AllBytes (framesFrom head i k rest)
 frames-bytes head i zero rest small = tt

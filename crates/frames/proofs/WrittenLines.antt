@@ -1,20 +1,16 @@
 -- What is written can be read: the line of bytes is right (`written-ok`), has those bytes (`written-bytes`), and lines behind one another are the lines of their text (`written-lines`).
--- They say that what `par` prints is a text in the reader's form.
+-- That a written exercise is read back rests on these.
 use mathlib.Core.Path.{_≡_, refl, ap, ap₂, _∙_}
 use mathlib.Core.Bool.{Bool, true, false, _&&_}
 use mathlib.Core.List.{List, [], _∷_, _++_, map, flatMap}
 use Prim.Native.Nat.{ℕ, suc, _+_, _*_, _/_, _%_, _≤_, _<_}
 use native.Mathlib.Omega.{arith}
 use lib.Dec.{eqb}
-use lib.ListN.{getD}
 use borrow.Author.Tests.{ne-eqb}
+use Rattle.basics.specs.Lists.{Bytes}
 use Rattle.basics.proofs.Truth.{true-false, and-intro}
 use Rattle.frames.specs.Lines.{lineFeed, isDigit, digitValue, digitOf, inFront, linesOf, lineOk, lineBytes, lineOf}
 use Rattle.frames.proofs.DigitLaws.{below, digit-back}
-
--- the elements are bytes
-abbrev pub Bytes : List ℕ → Type 0
-Bytes bs = (i : ℕ) → getD bs i 0 ≤ 255
 
 module _ (b : ℕ) (small : b ≤ 255) where
   high-small : b / 16 < 16

@@ -7,10 +7,11 @@ use mathlib.Core.List.{List, [], _∷_}
 use Prim.Native.Nat.{ℕ, _+_, _≤_, _<_}
 use native.Mathlib.Omega.{arith}
 use lib.Dec.{leb}
-use lib.ListN.{length, getD, drop}
-use lib.Seq.{getD-drop}
+use lib.ListN.{length, drop}
 use borrow.Author.Tests.{le-leb, lt-leb}
+use Rattle.basics.specs.Lists.{Bytes}
 use Rattle.basics.proofs.Digits.{value-below, value-digits}
+use Rattle.basics.proofs.ByteLists.{bytes-drop}
 use Rattle.refusals.specs.Answers.{Answer, refused, told, _unless_, verdict, answered}
 use Rattle.refusals.proofs.Verdicts.{verdict-told, verdict-parts}
 use Rattle.blocks.specs.Layout.{positions}
@@ -31,7 +32,7 @@ use Rattle.par_lines.specs.Output.{longestInput, blockRoom, exerciseLine
 use Rattle.par_lines.specs.Promises.{QueryMeans, ExerciseMeans, Means}
 
 -- a number of four bytes is below 2^32, and such a number has four bytes
-four-below : (q : List ℕ) → ((i : ℕ) → getD q i 0 ≤ 255) → numberOf q < 4294967296
+four-below : (q : List ℕ) → Bytes q → numberOf q < 4294967296
 four-below q small = value-below (λ i. 256) q 4 (λ i l. let h = small i in omega arith)
 
 four-back : (x : ℕ) → x < 4294967296 → numberOf (bytesOf x) ≡ x
@@ -56,7 +57,7 @@ module _ (b : List ℕ) (valid : Valid b) (bytes : CostBytes b) (line : List ℕ
 
   -- the limits are numbers of four bytes
   limit-below : (k : ℕ) → numberOf (drop k q) < 4294967296
-  limit-below k = four-below (drop k q) (λ i. omega (arith, getD-drop k q i 0, line-small line (k + i)))
+  limit-below k = four-below (drop k q) (bytes-drop k q (line-small line))
 
   pub query-means : QueryMeans b line
   unfolding answerLine

@@ -6,9 +6,9 @@ use Prim.Native.Nat.{ℕ, _≤_}
 use native.Mathlib.Omega.{arith}
 use lib.Dec.{leb}
 use lib.ListN as list
-use lib.ListN.{take, drop, length-append}
+use lib.ListN.{take}
 use Rattle.basics.specs.Lists.{atFront}
-use Rattle.basics.proofs.Lists.{front-taken}
+use Rattle.basics.proofs.Lists.{front-taken, front-fits}
 use Rattle.refusals.specs.Answers.{Answer, refused, told, verdict}
 use Rattle.refusals.proofs.Verdicts.{told-refused, verdict-told}
 use Rattle.blocks.specs.Layout.{abstractStates}
@@ -19,7 +19,7 @@ use Rattle.frames.specs.Lines.{linesOf}
 use Rattle.frames.specs.Reading.{readConditions}
 use Rattle.frames.proofs.AcceptedText.{read-valid}
 use Rattle.frames.proofs.ReadBytes.{block-small}
-use Rattle.par_lines.specs.Output.{longestInput, blockRoom, exerciseLines, exerciseOf, openConditions, Exercise, exercise, Session, session, openedFor, openExercise}
+use Rattle.par_lines.specs.Output.{longestInput, blockRoom, exerciseLines, exerciseOf, openConditions, Exercise, exercise, OpenOutcome, openOutcome, openedFor, openExercise}
 use Rattle.par_lines.proofs.OpeningLaws.{exerciseEnd}
 
 pub record OpenedWell (x block table : List ℕ) (length states queries : ℕ) : Type 0 where
@@ -37,24 +37,20 @@ unfolding openConditions
 open-valid x h =
     read-valid (exerciseLines (linesOf x)) blockRoom (verdict-told 2 (leb (list.length x) longestInput) (readConditions (exerciseLines (linesOf x)) blockRoom) h .1)
 
--- a front of a list is no longer than the list
-front-fits : (new old : List ℕ) → list.length new ≤ list.length (atFront new old)
-front-fits new old = omega (arith, length-append new (drop (list.length new) old))
-
 module _ (x block table block′ table′ : List ℕ) (length states queries : ℕ) where
   by-verdict :
       (v : Answer (Unit {0})) → verdict (openConditions x) ≡ v
-      → session (told (exercise length states queries)) block′ table′ ≡ openedFor v x block table → OpenedWell x block′ table′ length states queries
+      → openOutcome (told (exercise length states queries)) block′ table′ ≡ openedFor v x block table → OpenedWell x block′ table′ length states queries
   by-verdict (refused k) h e =
-      let answers : _≡_ {A = Answer Exercise} (told (exercise length states queries)) (refused k) = ap (λ (s : Session). s .answer) e in
+      let answers : _≡_ {A = Answer Exercise} (told (exercise length states queries)) (refused k) = ap (λ (s : OpenOutcome). s .answer) e in
       absurd (told-refused refl answers)
   by-verdict (told u) h e =
       let b = exerciseOf x in
       let fields : _≡_ {A = Answer Exercise} (told (exercise length states queries)) (told (exercise (list.length b) (abstractStates b) (exerciseEnd x))) =
-      ap (λ (s : Session). s .answer) e in
+      ap (λ (s : OpenOutcome). s .answer) e in
       let same : exercise length states queries ≡ exercise (list.length b) (abstractStates b) (exerciseEnd x) = cc in
-      let left : block′ ≡ atFront b block = ap (λ (s : Session). s .block) e in
-      let filled-in : table′ ≡ atFront (filled b) table = ap (λ (s : Session). s .table) e in
+      let left : block′ ≡ atFront b block = ap (λ (s : OpenOutcome). s .block) e in
+      let filled-in : table′ ≡ atFront (filled b) table = ap (λ (s : OpenOutcome). s .table) e in
       let long : length ≡ list.length b = ap (λ (o : Exercise). o .length) same in
       let valid = open-valid x h in
       let many : states ≡ list.length (filled b) =
@@ -70,6 +66,6 @@ module _ (x block table block′ table′ : List ℕ) (length states queries : �
         begins = ap (λ (o : Exercise). o .queries) same;
       }
 
-  pub opened-well : session (told (exercise length states queries)) block′ table′ ≡ openExercise x block table → OpenedWell x block′ table′ length states queries
+  pub opened-well : openOutcome (told (exercise length states queries)) block′ table′ ≡ openExercise x block table → OpenedWell x block′ table′ length states queries
   unfolding openExercise
   opened-well e = by-verdict (verdict (openConditions x)) refl e

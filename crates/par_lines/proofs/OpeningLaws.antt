@@ -1,7 +1,7 @@
 -- Where the lines end that the reader receives: behind the first line if the head fails (`end-failed`), else behind the frames (`end-read`); the text up to there has those lines
 -- (`exercise-text`), and the text behind it the query lines (`query-text`).
 -- Opening an exercise rests on these.
-use mathlib.Core.Path.{_≡_, refl, sym, ap, _∙_}
+use mathlib.Core.Path.{_≡_, sym, ap, _∙_}
 use mathlib.Core.Bool.{Bool, true, false, _&&_}
 use mathlib.Core.List.{List, flatten}
 use Prim.Native.Nat.{ℕ, _+_, _≤_}
@@ -9,6 +9,7 @@ use native.Mathlib.Nat.{zero-add}
 use native.Mathlib.Numerals.{one-add}
 use native.Mathlib.Omega.{arith}
 use lib.ListN.{length, take, drop, length-take}
+use Rattle.basics.proofs.Truth.{and-grouped}
 use Rattle.blocks.specs.Layout.{frameCount}
 use Rattle.blocks.specs.Validity.{headOk}
 use Rattle.frames.specs.Lines.{linesOf, lineOk}
@@ -22,11 +23,7 @@ pub head-tested :
     (ls : List (List ℕ)) (line head : Bool) → (lineOk (firstLine ls) && headLineOk ls) ≡ line → headOk (headOf ls) ≡ head
     → headReads ls ≡ (line && head)
 unfolding headReads
-head-tested ls line head p q = grouped (lineOk (firstLine ls)) (headLineOk ls) (headOk (headOf ls)) ∙ rw (p, q)
-  where
-    grouped : (a b c : Bool) → (a && (b && c)) ≡ ((a && b) && c)
-    grouped true b c = refl
-    grouped false b c = refl
+head-tested ls line head p q = and-grouped (lineOk (firstLine ls)) (headLineOk ls) (headOk (headOf ls)) ∙ rw (p, q)
 
 module _ (x : List ℕ) where
   -- where the exercise's lines end

@@ -4,7 +4,8 @@ use mathlib.Core.Path.{_≡_, refl, ap}
 use mathlib.Core.List.{List, [], _∷_}
 use Prim.Native.Nat.{ℕ, _+_, _*_, _≤_}
 use native.Mathlib.Omega.{arith}
-use lib.ListN.{length, drop, length-append}
+use lib.ListN.{length}
+use Rattle.basics.proofs.Lists.{front-fits}
 use Rattle.frames.specs.Lines.{lineOf}
 use Rattle.par_lines.specs.Queries.{Written}
 
@@ -14,4 +15,4 @@ line-length (b ∷ bs) = omega (arith, line-length bs)
 
 pub written-fits : {line old new : List ℕ} {n : ℕ} → Written line old n new → n ≤ length new
 written-fits {line} {old} w =
-    omega (arith, w .told, ap length (w .front), length-append line (drop (length line) old))
+    omega (arith, w .told, ap length (w .front), front-fits line old)

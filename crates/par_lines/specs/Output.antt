@@ -74,20 +74,20 @@ openingOf (Opened length states queries) = told (exercise length states queries)
 openingOf (Refused refusal) = refused (refusalNumber refusal)
 
 -- the answer, and the final contents of the lent block and table
-pub record Session : Type 0 where
+pub record OpenOutcome : Type 0 where
   pub answer : Answer Exercise
   pub block : List ℕ
   pub table : List ℕ
 
-abbrev pub session : Answer Exercise → List ℕ → List ℕ → Session
-session answer block table = record { answer = answer; block = block; table = table }
+abbrev pub openOutcome : Answer Exercise → List ℕ → List ℕ → OpenOutcome
+openOutcome answer block table = record { answer = answer; block = block; table = table }
 
 -- refused with both as they were, or the block and its filled table at their fronts
-abbrev pub openedFor : Answer (Unit {0}) → List ℕ → List ℕ → List ℕ → Session
-openedFor (refused number) x block table = session (refused number) block table
+abbrev pub openedFor : Answer (Unit {0}) → List ℕ → List ℕ → List ℕ → OpenOutcome
+openedFor (refused number) x block table = openOutcome (refused number) block table
 openedFor (told u) x block table =
-    session (told (exercise (length (exerciseOf x)) (abstractStates (exerciseOf x)) (length (flatten (exerciseLines (linesOf x))))))
+    openOutcome (told (exercise (length (exerciseOf x)) (abstractStates (exerciseOf x)) (length (flatten (exerciseLines (linesOf x))))))
     (atFront (exerciseOf x) block) (atFront (filled (exerciseOf x)) table)
 
-unfoldable pub openExercise : List ℕ → List ℕ → List ℕ → Session
+unfoldable pub openExercise : List ℕ → List ℕ → List ℕ → OpenOutcome
 openExercise x block table = openedFor (verdict (openConditions x)) x block table

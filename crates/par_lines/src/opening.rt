@@ -8,7 +8,7 @@ ghost use Rattle.blocks.specs.Layout.{abstractStates};
 ghost use Rattle.blocks.specs.Validity.{Valid};
 ghost use Rattle.filling.specs.FilledTables.{filled};
 ghost use Rattle.frames.specs.Lines.{linesOf};
-ghost use Rattle.par_lines.specs.Output.{blockRoom, tableRoom, exerciseLines, openingOf, session, openExercise};
+ghost use Rattle.par_lines.specs.Output.{blockRoom, tableRoom, exerciseLines, openingOf, openOutcome, openExercise};
 use basics::and;
 use blocks::layout;
 use frames::Reading;
@@ -71,7 +71,7 @@ fn fill_whole(block: &[u8], table: &mut [u32]) -> usize
 // Opens the exercise in buffers that hold every block and every table.
 fn open_within(input: &[u8], block: &mut [u8], table: &mut [u32]) -> Opening
     requires { ⌜ (length (now block) ≡ blockRoom) × (length (now table) ≡ tableRoom) ⌝ }
-    ensures { λ r. ⌜ session (openingOf r) (now (block .exit)) (now (table .exit)) ≡ openExercise (now (input .entry)) (now (block .entry)) (now (table .entry)) ⌝ }
+    ensures { λ r. ⌜ openOutcome (openingOf r) (now (block .exit)) (now (table .exit)) ≡ openExercise (now (input .entry)) (now (block .entry)) (now (table .entry)) ⌝ }
 {
     if LONGEST_INPUT < input.len() {
         return Opening::Refused(Refusal::Line);
@@ -93,7 +93,7 @@ fn open_within(input: &[u8], block: &mut [u8], table: &mut [u32]) -> Opening
 
 // Opens the exercise at the front of the input: its block is written at the front of `block`, and its table is filled at the front of `table`.
 pub fn open(input: &[u8], block: &mut [u8; 2304], table: &mut [u32; 16384]) -> Opening
-    ensures { λ r. ⌜ session (openingOf r) (now (block .exit)) (now (table .exit)) ≡ openExercise (now (input .entry)) (now (block .entry)) (now (table .entry)) ⌝ }
+    ensures { λ r. ⌜ openOutcome (openingOf r) (now (block .exit)) (now (table .exit)) ≡ openExercise (now (input .entry)) (now (block .entry)) (now (table .entry)) ⌝ }
 {
     open_within(input, block, table)
 }

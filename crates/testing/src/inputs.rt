@@ -1,6 +1,7 @@
-// Input E as a block and as text, and both with faults.
+// Input E as a block and as text, and both with faults; the largest exercise.
 use super::parts::put;
 use super::texts::copy_part;
+use super::texts::write_text;
 
 // How many bytes input E's block has.
 pub const E_LENGTH: usize = 53;
@@ -55,4 +56,15 @@ pub fn write_faulty_text(out: &mut [u8], set: u8) -> usize {
     let behind = copy_part(out, 0, &text, fault(set, 2, 2, 0) as usize, 33);
     let rest = fault(set, 8, 48, 33) as usize;
     copy_part(out, behind, &text, rest, E_TEXT_LENGTH)
+}
+
+// Writes the text of the largest exercise: sixteen positions and labels, one abstract label, 64 rules and eight goals, with zeros behind the head. 2,261 bytes, and 4,596 characters.
+pub fn write_largest_text(out: &mut [u8]) -> usize {
+    let mut block = [0u8; 2261];
+    put(&mut block, 0, 16);
+    put(&mut block, 1, 16);
+    put(&mut block, 2, 1);
+    put(&mut block, 3, 64);
+    put(&mut block, 4, 8);
+    write_text(out, &block)
 }

@@ -32,6 +32,7 @@ pub use inputs::faulty_e;
 pub use inputs::input_e;
 pub use inputs::text_e;
 pub use inputs::write_faulty_text;
+pub use inputs::write_largest_text;
 pub use parts::byte_at;
 pub use parts::front;
 pub use parts::front_mut;

@@ -6,19 +6,13 @@ use testing::copy_part;
 use testing::front;
 use testing::put;
 use testing::text_e;
-use testing::write_text;
+use testing::write_largest_text;
 
-// Sixteen positions and labels, one abstract label, 64 rules and eight goals, with zeros behind the head; and two queries.
+// The largest exercise, and two queries.
 pub fn print_largest() {
     testing::title(b"the largest exercise, from <0,..,0>, which is a goal, and from <0,..,0,15>");
-    let mut block = [0u8; 2261];
-    put(&mut block, 0, 16);
-    put(&mut block, 1, 16);
-    put(&mut block, 2, 1);
-    put(&mut block, 3, 64);
-    put(&mut block, 4, 8);
     let mut input = [0u8; 4700];
-    let length = write_text(&mut input, &block);
+    let length = write_largest_text(&mut input);
     let middle = copy_part(
         &mut input,
         length,

@@ -11,7 +11,7 @@ use testing::put;
 use testing::reading_number;
 use testing::replace;
 use testing::text_e;
-use testing::write_text;
+use testing::write_largest_text;
 
 fn print_all_rooms() {
     let mut sum: u64 = 0;
@@ -32,21 +32,10 @@ pub fn print_rooms() {
     print_reading(&text_e(), 54);
 }
 
-// Sixteen positions and labels, one abstract label, 64 rules and eight goals, with zeros behind the head: 2,261 bytes, and 4,596 characters.
-fn write_largest(out: &mut [u8]) -> usize {
-    let mut block = [0u8; 2261];
-    put(&mut block, 0, 16);
-    put(&mut block, 1, 16);
-    put(&mut block, 2, 1);
-    put(&mut block, 3, 64);
-    put(&mut block, 4, 8);
-    write_text(out, &block)
-}
-
-// Reads its text with a part replaced, into the first `room` of 2,300 bytes; prints the answer, and the sum of all of them.
+// Reads the largest exercise's text with a part replaced, into the first `room` of 2,300 bytes; prints the answer, and the sum of all of them.
 fn print_largest(from: usize, to: usize, by: &[u8], room: usize) {
     let mut whole = [0u8; 4700];
-    let length = write_largest(&mut whole);
+    let length = write_largest_text(&mut whole);
     let mut text = [0u8; 4700];
     let end = replace(&mut text, front(&whole, length), from, to, by);
     let mut out = [170u8; 2300];

@@ -4,7 +4,7 @@ use mathlib.Core.Path.{sym, ap, _∙_}
 use lib.Seq.{length-take-le}
 use denote.Ref.{now}
 use borrow.Author.Needs.{needs}
-use Rattle.par_lines.specs.Output.{openingOf, session}
+use Rattle.par_lines.specs.Output.{openingOf, openOutcome}
 use Rattle.par_lines.specs.declared.opening.Opening.{Opening}
 use Rattle.par_lines.proofs.OpenedWell.{OpenedWell, opened-well}
 use Rattle.sessions.proofs.print_session.Statement.{statement}
@@ -28,7 +28,7 @@ left :
     → OpenedWell (now (c .before .before .before .before .before .before .before .args .input)) (c .before .before .before .«open» .last .1 .0) (c .before .before .before .«open» .last .1 .1 .0) (c .before .opening2 .given .0 .0) (c .before .opening2 .given .0 .1 .0) (c .before .opening2 .given .0 .1 .1 .0)
 left c =
     let o = c .before .before .before .«open» in
-    opened-well _ _ _ _ _ _ _ _ (ap (λ (r : Opening). session (openingOf r) (o .last .1 .0) (o .last .1 .1 .0)) (sym (c .before .opening2 .given .1)) ∙ o .ensures)
+    opened-well _ _ _ _ _ _ _ _ (ap (λ (r : Opening). openOutcome (openingOf r) (o .last .1 .0) (o .last .1 .1 .0)) (sym (c .before .opening2 .given .1)) ∙ o .ensures)
 
 array-share-prefix-block : tie.Need-array-share-prefix-block
 array-share-prefix-block c = left c .block-fits

@@ -20,7 +20,7 @@ use Rattle.filling.specs.FilledTables.{filled}
 use Rattle.frames.specs.Lines.{linesOf}
 use Rattle.frames.specs.Reading.{readingOf, blockOf, readConditions, readExercise}
 use Rattle.frames.proofs.AcceptedText.{read-valid}
-use Rattle.par_lines.specs.Output.{longestInput, blockRoom, exerciseLines, exerciseOf, openConditions, exercise, Session, session, openedFor, openExercise}
+use Rattle.par_lines.specs.Output.{longestInput, blockRoom, exerciseLines, exerciseOf, openConditions, exercise, OpenOutcome, openOutcome, openedFor, openExercise}
 use Rattle.par_lines.proofs.OpeningLaws.{exercise-text, end-inside}
 use Rattle.par_lines.proofs.opening.open_within.Statement.{statement}
 use Rattle.par_lines.proofs.opening.open_within.Tie as tie
@@ -29,7 +29,7 @@ abbrev input : tie.Start → List ℕ
 input s = now (s .args .input)
 
 -- what is opened by a verdict
-abbrev opened : tie.Start → Answer (Unit {0}) → Session
+abbrev opened : tie.Start → Answer (Unit {0}) → OpenOutcome
 opened s v = openedFor v (input s) (now (s .args .block)) (now (s .args .table))
 
 -- what the reader says of the exercise's lines
@@ -39,8 +39,8 @@ said s = verdict (readConditions (exerciseLines (linesOf (input s))) blockRoom)
 -- an open exercise, part by part
 told-so :
     {n m k j p q : ℕ} {block block′ table table′ : List ℕ} → n ≡ m → k ≡ j → p ≡ q → block ≡ block′ → table ≡ table′
-    → session (told (exercise n k p)) block table ≡ session (told (exercise m j q)) block′ table′
-told-so a b c d e = λ i. session (told (exercise (a i) (b i) (c i))) (d i) (e i)
+    → openOutcome (told (exercise n k p)) block table ≡ openOutcome (told (exercise m j q)) block′ table′
+told-so a b c d e = λ i. openOutcome (told (exercise (a i) (b i) (c i))) (d i) (e i)
 
 -- input that is too long
 refused-long : (x : List ℕ) → longestInput < length x → verdict (openConditions x) ≡ refused 2
@@ -145,7 +145,7 @@ returns-2 c =
     let s = start d in
     let k = refusalNumber (c .before .reading .given .0 .0) in
     let no = not-read d k (ap readingOf (c .before .reading .given .1)) in
-    ap (λ (l : List ℕ). session (refused k) l (now (s .args .table))) (no .1)
+    ap (λ (l : List ℕ). openOutcome (refused k) l (now (s .args .table))) (no .1)
     ∙ sym (ap (opened s) (judged (d .before .before .before .before) ∙ no .0))
 
 same-length-2 : tie.Need-same-length-2
