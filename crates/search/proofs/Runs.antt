@@ -27,7 +27,7 @@ use Rattle.search.specs.Exercises.{searchFrom}
 use Rattle.search.specs.Promises.{Kept}
 use Rattle.search.specs.OnWords.{wordSystem, wordEstimate, figureOf, seen}
 use Rattle.search.specs.Parts.{Good, Ready, Here, Done, systemAt, estimateAt, progressOf, HitWithin, Answers, answerOf, FoundWithin}
-use Rattle.search.specs.declared.visiting.Tally.{Tally}
+use Rattle.tallies.specs.declared.Tally.{Tally}
 use Rattle.search.specs.declared.visiting.Visited.{Visited}
 use Rattle.search.specs.declared.visiting.Visited.the-variants.{On, Hit, Stop}
 use Rattle.search.specs.declared.running.Ending.{Ending}

@@ -1,7 +1,7 @@
 -- The extensions of a list, rule by rule: figures as numbers (`figure-sum`, `figure-none`, `lower-min`), the states of a path (`from-less`, `occurs-path`), and what each rule
 -- leaves of the extensions (`Same`: `pass-idle`, `pass-over`, `pass-seen`), up to the next one that is due (`found-due`) or the last (`none-due`).
 -- The function that looks for the next extension rests on these.
-use mathlib.Core.Path.{_≡_, refl, sym, ap, _∙_}
+use mathlib.Core.Path.{_≡_, refl, sym, ap, ap₂, _∙_}
 use mathlib.Core.Logic.{⊎-elim}
 use mathlib.Core.Bool.{Bool, true, false, cond, _||_}
 use mathlib.Core.List.{List}
@@ -20,6 +20,8 @@ use Rattle.words.specs.Ranking.{rankWord}
 use Rattle.rounds.specs.Systems.{Estimate, mark, at, plus, lower}
 use Rattle.rounds.specs.Rounds.{free, Progress, on, Offer, cut, over, occurs, offer, extend}
 use Rattle.rounds.proofs.Equations.{offer-none, offer-seen, offer-mark, offer-over, offer-due, extend-none, extend-cut, extend-over}
+use Rattle.tallies.specs.declared.Tally.{Tally}
+use Rattle.tallies.specs.Tallies.{overshotBy}
 use Rattle.search.specs.Exercises.{entryEstimate}
 use Rattle.search.specs.Limits.{threshold, ruleCount, goalCount, positionCount}
 use Rattle.search.specs.OnWords.{wordSystem, wordEstimate, figureOf, seen, onPath}
@@ -68,29 +70,38 @@ figure-is f g e q = go e q (ltb f 18446744073709551615) refl
         absurd (omega arith)
 
 -- one more figure, as numbers
-pub lower-min : (f x : ℕ) → f < 18446744073709551615 → lower f (figureOf x) ≡ figureOf (min f x)
+pub lower-min : (f x : ℕ) → f < 18446744073709551615 → lower f (figureOf x) ≡ figureOf (min x f)
 unfolding lower
 lower-min f x l = go (ltb x 18446744073709551615) refl
   where
-    go : (b : Bool) → ltb x 18446744073709551615 ≡ b → lower f (figureOf x) ≡ figureOf (min f x)
-    go true e = ap (lower f) (figure-at x (ltb-true x 18446744073709551615 e)) ∙ sym (figure-at (min f x) (omega arith))
+    go : (b : Bool) → ltb x 18446744073709551615 ≡ b → lower f (figureOf x) ≡ figureOf (min x f)
+    go true e =
+        let k = ltb-true x 18446744073709551615 e in
+        let m : min f x ≡ min x f = omega arith in
+        ap (lower f) (figure-at x k) ∙ ap at m ∙ sym (figure-at (min x f) (omega arith))
     go false e =
         let k = ltb-false x 18446744073709551615 e in
-        let m : min f x ≡ f = omega arith in
+        let m : min x f ≡ f = omega arith in
         ap (lower f) (figure-mark x k) ∙ sym (ap figureOf m ∙ figure-at f l)
 
 -- no figure lowers nothing
-min-none : (f x : ℕ) → 18446744073709551615 ≤ f → figureOf (min f x) ≡ figureOf x
+min-none : (f x : ℕ) → 18446744073709551615 ≤ f → figureOf (min x f) ≡ figureOf x
 min-none f x l = go (ltb x 18446744073709551615) refl
   where
-    go : (b : Bool) → ltb x 18446744073709551615 ≡ b → figureOf (min f x) ≡ figureOf x
-    go true e = let k = ltb-true x 18446744073709551615 e in let m : min f x ≡ x = omega arith in ap figureOf m
-    go false e = let k = ltb-false x 18446744073709551615 e in figure-mark (min f x) (omega arith) ∙ sym (figure-mark x k)
+    go : (b : Bool) → ltb x 18446744073709551615 ≡ b → figureOf (min x f) ≡ figureOf x
+    go true e = let k = ltb-true x 18446744073709551615 e in let m : min x f ≡ x = omega arith in ap figureOf m
+    go false e = let k = ltb-false x 18446744073709551615 e in figure-mark (min x f) (omega arith) ∙ sym (figure-mark x k)
 
 -- what is the same either way
-pub same-either : (b : Bool) (x y : ℕ) → y ≡ x → cond b x y ≡ x
+pub same-either : (b : Bool) (x y : Tally) → y ≡ x → cond b x y ≡ x
 same-either true x y e = refl
 same-either false x y e = e
+
+-- a figure that is no lower leaves the tally as it is
+pub no-lower : (x : Tally) (f : ℕ) → x .least ≤ f → overshotBy x f ≡ x
+no-lower x f l =
+    let m : min (x .least) f ≡ x .least = omega arith in
+    ap (λ (least : ℕ). record { visits = x .visits; least = least }) m
 
 -- ---- the states of a path
 
@@ -148,11 +159,11 @@ module _
 
 module _ (words moves weights table path limits : List ℕ) (depth cost : ℕ) where
   -- what is left of the extensions by the rules from i on is what is left from j on
-  pub record Same (i x j y : ℕ) : Type 0 where
+  pub record Same (i : ℕ) (x : Tally) (j : ℕ) (y : Tally) : Type 0 where
     pub same :
-        (next : Next) (u : ℕ)
-        → extendFrom words moves weights table path limits depth cost next i u x
-        ≡ extendFrom words moves weights table path limits depth cost next j u y
+        (next : Next)
+        → extendFrom words moves weights table path limits depth cost next i x
+        ≡ extendFrom words moves weights table path limits depth cost next j y
 
   -- what rule i offers
   abbrev offered-at : ℕ → Offer ℕ
@@ -161,19 +172,22 @@ module _ (words moves weights table path limits : List ℕ) (depth cost : ℕ) w
       (getD path depth 0) cost i
 
   -- a step of the extensions, counted by the rule
-  module _ (i : ℕ) (low : i < ruleCount limits) (x y : ℕ) (next : Next) (u : ℕ) where
-    abbrev run : ℕ → ℕ → Estimate → Progress
-    run m j o =
+  module _ (i : ℕ) (low : i < ruleCount limits) (x y : Tally) (counted : x .visits ≡ y .visits) (next : Next) where
+    abbrev run : ℕ → ℕ → ℕ → Estimate → Progress
+    run m j u o =
         extend (systemAt words moves limits) (estimateAt weights table limits) (threshold limits) next (seen path depth)
         (getD path depth 0) cost m j u o
 
     one-more :
-        (o : Estimate) → run (suc (ruleCount limits - (i + 1))) i (figureOf x) ≡ run (ruleCount limits - (i + 1)) (suc i) o
-        → o ≡ figureOf y → run (ruleCount limits - i) i (figureOf x) ≡ run (ruleCount limits - (i + 1)) (i + 1) (figureOf y)
+        (o : Estimate)
+        → run (suc (ruleCount limits - (i + 1))) i (x .visits) (figureOf (x .least)) ≡ run (ruleCount limits - (i + 1)) (suc i) (x .visits) o
+        → o ≡ figureOf (y .least)
+        → run (ruleCount limits - i) i (x .visits) (figureOf (x .least)) ≡ run (ruleCount limits - (i + 1)) (i + 1) (y .visits) (figureOf (y .least))
     one-more o step q =
         let e : ruleCount limits - i ≡ suc (ruleCount limits - (i + 1)) = omega arith in
-        ap (λ (m : ℕ). run m i (figureOf x)) e ∙ step ∙ ap (run (ruleCount limits - (i + 1)) (suc i)) q
-        ∙ ap (λ (j : ℕ). run (ruleCount limits - (i + 1)) j (figureOf y)) (sym (add-one i))
+        ap (λ (m : ℕ). run m i (x .visits) (figureOf (x .least))) e ∙ step
+        ∙ ap₂ (run (ruleCount limits - (i + 1)) (suc i)) counted q
+        ∙ ap (λ (j : ℕ). run (ruleCount limits - (i + 1)) j (y .visits) (figureOf (y .least))) (sym (add-one i))
 
   -- rule i applies: the state that it makes, its cost and the figure, as the code has them
   pub record Tried (i n child charge total : ℕ) : Type 0 where
@@ -184,47 +198,48 @@ module _ (words moves weights table path limits : List ℕ) (depth cost : ℕ) w
     pub placed : n ≡ positionCount limits
     pub told : figureOf total ≡ plus (cost + charge) (wordEstimate weights table n child)
 
-  pub same-start : (i x : ℕ) → Same i x i x
-  same-start i x = record { same = λ next u. refl }
+  pub same-start : (i : ℕ) (x : Tally) → Same i x i x
+  same-start i x = record { same = λ next. refl }
 
-  pub same-then : {i x j y k z : ℕ} → Same i x j y → Same j y k z → Same i x k z
-  same-then a b = record { same = λ next u. a .same next u ∙ b .same next u }
+  pub same-then : {i j k : ℕ} {x y z : Tally} → Same i x j y → Same j y k z → Same i x k z
+  same-then a b = record { same = λ next. a .same next ∙ b .same next }
 
   -- no rule is left
   pub none-due :
-      {i x j y : ℕ} → Same i x j y → ruleCount limits ≤ j
-      → (next : Next) (u : ℕ) → extendFrom words moves weights table path limits depth cost next i u x ≡ on u (figureOf y)
-  none-due {i} {x} {j} {y} a l next u =
+      {i j : ℕ} {x y : Tally} → Same i x j y → ruleCount limits ≤ j
+      → (next : Next) → extendFrom words moves weights table path limits depth cost next i x ≡ on (y .visits) (figureOf (y .least))
+  none-due {i} {j} {x} {y} a l next =
       let Y = systemAt words moves limits in
       let h = estimateAt weights table limits in
       let e : ruleCount limits - j ≡ 0 = omega arith in
-      a .same next u
-      ∙ ap (λ (m : ℕ). extend Y h (threshold limits) next (seen path depth) (getD path depth 0) cost m j u (figureOf y)) e
-      ∙ extend-none Y h free (threshold limits) (seen path depth) (getD path depth 0) cost next 0 j u (figureOf y)
+      a .same next
+      ∙ ap (λ (m : ℕ). extend Y h (threshold limits) next (seen path depth) (getD path depth 0) cost m j (y .visits) (figureOf (y .least))) e
+      ∙ extend-none Y h free (threshold limits) (seen path depth) (getD path depth 0) cost next 0 j (y .visits) (figureOf (y .least))
 
   module _ (i : ℕ) (low : i < ruleCount limits) where
-    pass-cut : offered-at i ≡ cut → (x y : ℕ) → figureOf x ≡ figureOf y → Same i x (i + 1) y
-    pass-cut e x y q =
+    pass-cut :
+        offered-at i ≡ cut → (x y : Tally) → x .visits ≡ y .visits → figureOf (x .least) ≡ figureOf (y .least) → Same i x (i + 1) y
+    pass-cut e x y counted q =
         record {
-          same = λ next u.
-              one-more i low x y next u (figureOf x)
+          same = λ next.
+              one-more i low x y counted next (figureOf (x .least))
               (extend-cut (systemAt words moves limits) (estimateAt weights table limits) free (threshold limits) (seen path depth)
-              (getD path depth 0) cost next (ruleCount limits - (i + 1)) i u (figureOf x) e)
+              (getD path depth 0) cost next (ruleCount limits - (i + 1)) i (x .visits) (figureOf (x .least)) e)
               q;
         }
 
-    pass-noted : (f : ℕ) → offered-at i ≡ over f → f < 18446744073709551615 → (x : ℕ) → Same i x (i + 1) (min f x)
+    pass-noted : (f : ℕ) → offered-at i ≡ over f → f < 18446744073709551615 → (x : Tally) → Same i x (i + 1) (overshotBy x f)
     pass-noted f e l x =
         record {
-          same = λ next u.
-              one-more i low x (min f x) next u (lower f (figureOf x))
+          same = λ next.
+              one-more i low x (overshotBy x f) refl next (lower f (figureOf (x .least)))
               (extend-over (systemAt words moves limits) (estimateAt weights table limits) free (threshold limits) (seen path depth)
-              (getD path depth 0) cost next (ruleCount limits - (i + 1)) i u (figureOf x) f e)
-              (lower-min f x l);
+              (getD path depth 0) cost next (ruleCount limits - (i + 1)) i (x .visits) (figureOf (x .least)) f e)
+              (lower-min f (x .least) l);
         }
 
     -- a rule that does not apply
-    pub pass-idle : appliesWord words moves i (getD path depth 0) ≡ false → (x y : ℕ) → y ≡ x → Same i x (i + 1) y
+    pub pass-idle : appliesWord words moves i (getD path depth 0) ≡ false → (x y : Tally) → y ≡ x → Same i x (i + 1) y
     pass-idle e x y q =
         let w = getD path depth 0 in
         let stuck =
@@ -232,7 +247,7 @@ module _ (words moves weights table path limits : List ℕ) (depth cost : ℕ) w
         (and-right-false (ltb i (ruleCount limits)) (appliesWord words moves i w) e) in
         pass-cut
         (offer-none (systemAt words moves limits) (estimateAt weights table limits) free (threshold limits) (seen path depth) w cost i stuck)
-        x y (ap figureOf (sym q))
+        x y (ap (λ (t : Tally). t .visits) (sym q)) (ap (λ (t : Tally). figureOf (t .least)) (sym q))
 
   module _ {i n child charge total : ℕ} (t : Tried i n child charge total) where
     steps : systemAt words moves limits .step i (getD path depth 0) ≡ option.some child
@@ -251,23 +266,23 @@ module _ (words moves weights table path limits : List ℕ) (depth cost : ℕ) w
         (t .told ∙ ap (λ (k : ℕ). plus (cost + charge) (wordEstimate weights table k child)) (t .placed))
 
     -- it comes to a state of the path
-    pub pass-seen : onPath path depth child ≡ true → (x y : ℕ) → y ≡ x → Same i x (i + 1) y
+    pub pass-seen : onPath path depth child ≡ true → (x y : Tally) → y ≡ x → Same i x (i + 1) y
     pass-seen e x y q =
         pass-cut i (t .low)
         (offer-seen (systemAt words moves limits) (estimateAt weights table limits) free (threshold limits) (seen path depth)
         (getD path depth 0) cost i child steps (occurs-as true e))
-        x y (ap figureOf (sym q))
+        x y (ap (λ (t : Tally). t .visits) (sym q)) (ap (λ (t : Tally). figureOf (t .least)) (sym q))
 
     -- it comes to a state that is not on the path, with a figure above the threshold or with none
-    pass-new : threshold limits < total → onPath path depth child ≡ false → (x : ℕ) → Same i x (i + 1) (min total x)
+    pass-new : threshold limits < total → onPath path depth child ≡ false → (x : Tally) → Same i x (i + 1) (overshotBy x total)
     pass-new above e x = go figured
       where
-        go : Figure total (cost + charge) (estimateAt weights table limits child) → Same i x (i + 1) (min total x)
+        go : Figure total (cost + charge) (estimateAt weights table limits child) → Same i x (i + 1) (overshotBy x total)
         go (marked m l) =
             pass-cut i (t .low)
             (offer-mark (systemAt words moves limits) (estimateAt weights table limits) free (threshold limits) (seen path depth)
             (getD path depth 0) cost i child steps m (occurs-as false e))
-            x (min total x) (sym (min-none total x l))
+            x (overshotBy x total) refl (sym (min-none total (x .least) l))
         go (rated k m f l) =
             let g : total ≡ cost + costWord words i + k = omega (arith, t .paid) in
             pass-noted i (t .low) total
@@ -278,23 +293,23 @@ module _ (words moves weights table path limits : List ℕ) (depth cost : ℕ) w
             l x
 
     pub pass-over :
-        threshold limits < total → (x y : ℕ) → y ≡ cond (onPath path depth child) x (min total x) → Same i x (i + 1) y
+        threshold limits < total → (x y : Tally) → y ≡ cond (onPath path depth child) x (overshotBy x total) → Same i x (i + 1) y
     pass-over above x y q = go (onPath path depth child) refl
       where
         go : (b : Bool) → onPath path depth child ≡ b → Same i x (i + 1) y
-        go true e = pass-seen e x y (q ∙ ap (λ (b : Bool). cond b x (min total x)) e)
-        go false e = rw (q ∙ ap (λ (b : Bool). cond b x (min total x)) e) (pass-new above e x)
+        go true e = pass-seen e x y (q ∙ ap (λ (b : Bool). cond b x (overshotBy x total)) e)
+        go false e = rw (q ∙ ap (λ (b : Bool). cond b x (overshotBy x total)) e) (pass-new above e x)
 
     -- it is due
     pub found-due :
         total ≤ threshold limits → threshold limits ≤ 4294967295 → onPath path depth child ≡ false
-        → (from x y : ℕ) → from ≤ i → Same from x i y
-        → NextDue words moves weights table path limits depth cost from x (record { rule = i; word = child; cost = cost + charge; least = y })
+        → (from : ℕ) (x y : Tally) → from ≤ i → Same from x i y
+        → NextDue words moves weights table path limits depth cost from x (record { rule = i; word = child; cost = cost + charge; tally = y })
     found-due most small e from x y l left = go figured
       where
         go :
             Figure total (cost + charge) (estimateAt weights table limits child)
-            → NextDue words moves weights table path limits depth cost from x (record { rule = i; word = child; cost = cost + charge; least = y })
+            → NextDue words moves weights table path limits depth cost from x (record { rule = i; word = child; cost = cost + charge; tally = y })
         go (marked m k) = absurd (omega arith)
         go (rated k m f z) =
             record {

@@ -16,13 +16,13 @@ use Rattle.basics.proofs.Frames.{outside-none, outside-set, outside-then, outsi
 use Rattle.words.specs.Sides.{appliesWord, stepWord, costWord, meetsWord}
 use Rattle.rounds.specs.Rounds.{Progress, on, hit, upto, extend}
 use Rattle.rounds.proofs.Equations as equations
+use Rattle.tallies.specs.declared.Tally.{Tally}
 use Rattle.search.specs.Limits.{threshold, allowance, stepLimit, ruleCount, goalCount}
 use Rattle.search.specs.OnWords.{figureOf, seen}
 use Rattle.search.specs.Parts.{Good, Here, Next, visitWithin, NextDue, Scanned, systemAt, estimateAt, extendFrom, progressOf, HitWithin, Done}
 use Rattle.search.specs.declared.scanning.Extension.{Extension}
 use Rattle.search.specs.declared.scanning.Scan.{Scan}
 use Rattle.search.specs.declared.scanning.Scan.the-variants.{Over, Due}
-use Rattle.search.specs.declared.visiting.Tally.{Tally}
 use Rattle.search.specs.declared.visiting.Visited.{Visited}
 use Rattle.search.specs.declared.visiting.Visited.the-variants.{On, Hit, Stop}
 use Rattle.search.proofs.GoodWords.{step-made, good-step}
@@ -146,7 +146,7 @@ module _
             {path′ plan′ : List ℕ} {r : Visited} → depth < stepLimit limits
             → Leaves plan path′ plan′
             (extendFrom words moves weights table path limits depth cost (visitWithin words moves weights table limits (stepLimit limits - suc depth)) 0
-            (tally .visits + 1) (tally .least)) r
+            (record { visits = tally .visits + 1; least = tally .least })) r
             → Leaves plan path′ plan′ (here (stepLimit limits - depth)) r
         visit-more l d =
             let some-left : stepLimit limits - depth ≡ suc (stepLimit limits - suc depth) = omega arith in
@@ -168,30 +168,27 @@ module _
   -- ---- extensions
 
   -- what the extensions by the rules from a number on leave, as the definitions have it
-  abbrev fromRule : ℕ → ℕ → ℕ → Progress
+  abbrev fromRule : ℕ → Tally → Progress
   fromRule =
       extendFrom words moves weights table path limits depth cost (visitWithin words moves weights table limits (stepLimit limits - suc depth))
 
   module _ (from : ℕ) (tally : Tally) where
     pub extend-none :
-        (plan : List ℕ) (least : ℕ) (scan : Scan) → Scanned words moves weights table path limits depth cost from (tally .least) scan
-        → scan ≡ Over least
-        → Leaves plan path plan (fromRule from (tally .visits) (tally .least)) (On (record { visits = tally .visits; least = least }))
-    extend-none plan least scan s e =
-        let over : Scanned words moves weights table path limits depth cost from (tally .least) (Over least) = rw e at s in
-        unchanged plan (fromRule from (tally .visits) (tally .least)) (On (record { visits = tally .visits; least = least }))
-        (over (visitWithin words moves weights table limits (stepLimit limits - suc depth)) (tally .visits))
-        tt
+        (plan : List ℕ) (last : Tally) (scan : Scan) → Scanned words moves weights table path limits depth cost from tally scan
+        → scan ≡ Over last → Leaves plan path plan (fromRule from tally) (On last)
+    extend-none plan last scan s e =
+        let over : Scanned words moves weights table path limits depth cost from tally (Over last) = rw e at s in
+        unchanged plan (fromRule from tally) (On last) (over (visitWithin words moves weights table limits (stepLimit limits - suc depth))) tt
 
     -- an extension that is due
     module _
-        (scan : Scan) (e : Extension) (s : Scanned words moves weights table path limits depth cost from (tally .least) scan)
+        (scan : Scan) (e : Extension) (s : Scanned words moves weights table path limits depth cost from tally scan)
         (is : scan ≡ Due e) where
-      pub next-due : NextDue words moves weights table path limits depth cost from (tally .least) e
-      next-due = subst (λ (x : Scan). Scanned words moves weights table path limits depth cost from (tally .least) x) is s
+      pub next-due : NextDue words moves weights table path limits depth cost from tally e
+      next-due = subst (λ (x : Scan). Scanned words moves weights table path limits depth cost from tally x) is s
 
       -- it is also the next one by the rules from its own on
-      pub due-own : NextDue words moves weights table path limits depth cost (e .rule) (e .least) e
+      pub due-own : NextDue words moves weights table path limits depth cost (e .rule) (e .tally) e
       due-own =
           let n = next-due in
           record {
@@ -201,15 +198,15 @@ module _
             cost-low = n .cost-low;
             made = n .made;
             offered = n .offered;
-            same = λ next u. refl;
+            same = λ next. refl;
           }
 
       pub extend-due :
-          {plan path′ plan′ : List ℕ} {r : Visited} → Leaves plan path′ plan′ (fromRule (e .rule) (tally .visits) (e .least)) r
-          → Leaves plan path′ plan′ (fromRule from (tally .visits) (tally .least)) r
+          {plan path′ plan′ : List ℕ} {r : Visited} → Leaves plan path′ plan′ (fromRule (e .rule) (e .tally)) r
+          → Leaves plan path′ plan′ (fromRule from tally) r
       extend-due d =
           record {
-            told = d .told ∙ sym (next-due .same (visitWithin words moves weights table limits (stepLimit limits - suc depth)) (tally .visits));
+            told = d .told ∙ sym (next-due .same (visitWithin words moves weights table limits (stepLimit limits - suc depth)));
             within = d .within;
             path-kept = d .path-kept;
             plan-kept = d .plan-kept;
@@ -217,7 +214,7 @@ module _
 
   -- ---- an extension that is taken up
 
-  module _ (e : Extension) (n : NextDue words moves weights table path limits depth cost (e .rule) (e .least) e) where
+  module _ (e : Extension) (n : NextDue words moves weights table path limits depth cost (e .rule) (e .tally) e) where
     -- the list one rule further: its state is written behind the path, its rule into the plan
     pub here-next :
         depth < stepLimit limits → (plan : List ℕ) → length plan ≡ 64
@@ -248,11 +245,11 @@ module _
 
     -- and it is visited
     module _
-        (used : ℕ) (low : depth < stepLimit limits) (plan : List ℕ) (plan-long : length plan ≡ 64)
+        (low : depth < stepLimit limits) (plan : List ℕ) (plan-long : length plan ≡ 64)
         (path′ plan′ : List ℕ) (r : Visited)
         (d : Done (depth + 1) (stepLimit limits) (threshold limits) (set path (depth + 1) (e .word)) (set plan depth (e .rule)) path′ plan′
         (visitWithin words moves weights table limits (stepLimit limits - (depth + 1)) (seen (set path (depth + 1) (e .word)) (depth + 1))
-        (getD (set path (depth + 1) (e .word)) (depth + 1) 0) (e .cost) used (figureOf (e .least))) r) where
+        (getD (set path (depth + 1) (e .word)) (depth + 1) 0) (e .cost) (e .tally .visits) (figureOf (e .tally .least))) r) where
       abbrev next : Next
       next = visitWithin words moves weights table limits (stepLimit limits - suc depth)
 
@@ -260,28 +257,28 @@ module _
       child :
           Done (suc depth) (stepLimit limits) (threshold limits) (set path (suc depth) (e .word)) (set plan depth (e .rule)) path′ plan′
           (next (seen (set path (suc depth) (e .word)) (suc depth)) (getD (set path (suc depth) (e .word)) (suc depth) 0) (e .cost)
-          used (figureOf (e .least))) r
+          (e .tally .visits) (figureOf (e .tally .least))) r
       child = rw (add-one depth) at d
 
       -- what the visit leaves, as the definitions have it
       left :
-          next (e .word ∷ seen path depth) (e .word) (cost + costWord words (e .rule)) used (figureOf (e .least))
+          next (e .word ∷ seen path depth) (e .word) (cost + costWord words (e .rule)) (e .tally .visits) (figureOf (e .tally .least))
           ≡ progressOf (suc depth) plan′ r
       left =
           let s = seen-next path depth (e .word) (omega (arith, k .path-long, k .steps-few)) in
-          ap (λ (g : ℕ). next (e .word ∷ seen path depth) (e .word) g used (figureOf (e .least))) (sym (n .cost-told))
-          ∙ ap₂ (λ (l : List ℕ) (w : ℕ). next l w (e .cost) used (figureOf (e .least))) (sym (s .1)) (sym (s .0))
+          ap (λ (g : ℕ). next (e .word ∷ seen path depth) (e .word) g (e .tally .visits) (figureOf (e .tally .least))) (sym (n .cost-told))
+          ∙ ap₂ (λ (l : List ℕ) (w : ℕ). next l w (e .cost) (e .tally .visits) (figureOf (e .tally .least))) (sym (s .1)) (sym (s .0))
           ∙ sym (child .told)
 
       -- its rule is one of those left
       counted :
-          fromRule (e .rule) used (e .least)
+          fromRule (e .rule) (e .tally)
           ≡ extend (systemAt words moves limits) (estimateAt weights table limits) (threshold limits) next (seen path depth) (getD path depth 0)
-          cost (suc (ruleCount limits - suc (e .rule))) (e .rule) used (figureOf (e .least))
+          cost (suc (ruleCount limits - suc (e .rule))) (e .rule) (e .tally .visits) (figureOf (e .tally .least))
       counted =
           let one-more : ruleCount limits - e .rule ≡ suc (ruleCount limits - suc (e .rule)) = omega (arith, n .rule-high) in
           ap (λ (m : ℕ). extend (systemAt words moves limits) (estimateAt weights table limits) (threshold limits) next (seen path depth)
-          (getD path depth 0) cost m (e .rule) used (figureOf (e .least))) one-more
+          (getD path depth 0) cost m (e .rule) (e .tally .visits) (figureOf (e .tally .least))) one-more
 
       path-over : Outside (suc depth) 65 path path′
       path-over =
@@ -303,14 +300,14 @@ module _
           (then : Tally) → r ≡ On then → (path″ plan″ : List ℕ) (q : Visited)
           → Done depth (stepLimit limits) (threshold limits) path′ plan′ path″ plan″
           (extendFrom words moves weights table path′ limits depth cost (visitWithin words moves weights table limits (stepLimit limits - suc depth))
-          (e .rule + 1) (then .visits) (then .least)) q
-          → Leaves plan path″ plan″ (fromRule (e .rule) used (e .least)) q
+          (e .rule + 1) then) q
+          → Leaves plan path″ plan″ (fromRule (e .rule) (e .tally)) q
       take-more then is path″ plan″ q f =
-          let told : next (e .word ∷ seen path depth) (e .word) (cost + costWord words (e .rule)) used (figureOf (e .least))
+          let told : next (e .word ∷ seen path depth) (e .word) (cost + costWord words (e .rule)) (e .tally .visits) (figureOf (e .tally .least))
           ≡ on (then .visits) (figureOf (then .least)) = left ∙ ap (progressOf (suc depth) plan′) is in
-          let others : extendFrom words moves weights table path′ limits depth cost next (e .rule + 1) (then .visits) (then .least)
-          ≡ fromRule (suc (e .rule)) (then .visits) (then .least) =
-          ap (λ (i : ℕ). extendFrom words moves weights table path′ limits depth cost next i (then .visits) (then .least)) (add-one (e .rule))
+          let others : extendFrom words moves weights table path′ limits depth cost next (e .rule + 1) then
+          ≡ fromRule (suc (e .rule)) then =
+          ap (λ (i : ℕ). extendFrom words moves weights table path′ limits depth cost next i then) (add-one (e .rule))
           ∙ ap₂ (λ (l : List ℕ) (w : ℕ). extend (systemAt words moves limits) (estimateAt weights table limits) (threshold limits) next l w
           cost (ruleCount limits - suc (e .rule)) (suc (e .rule)) (then .visits) (figureOf (then .least)))
           (seen-kept path path′ depth (path-over .before)) (path-over .before depth (omega arith)) in
@@ -324,7 +321,7 @@ module _
           }
 
       pub take-spent :
-          (u : ℕ) → r ≡ Stop u → Leaves plan path′ plan′ (fromRule (e .rule) used (e .least)) (Stop u)
+          (u : ℕ) → r ≡ Stop u → Leaves plan path′ plan′ (fromRule (e .rule) (e .tally)) (Stop u)
       take-spent u is =
           record {
             told =
@@ -339,7 +336,7 @@ module _
 
       pub take-found :
           (steps total u : ℕ) → r ≡ Hit steps total u
-          → Leaves plan path′ plan′ (fromRule (e .rule) used (e .least)) (Hit steps total u)
+          → Leaves plan path′ plan′ (fromRule (e .rule) (e .tally)) (Hit steps total u)
       take-found steps total u is =
           let w : HitWithin (suc depth) (stepLimit limits) (threshold limits) (Hit steps total u) = rw is at (child .within) in
           let byte : getD plan′ depth 0 ≡ e .rule =

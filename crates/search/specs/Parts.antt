@@ -16,6 +16,7 @@ use Rattle.words.specs.Sides.{costWord}
 use Rattle.words.specs.Compiled.{Compiled}
 use Rattle.rounds.specs.Systems.{System, Estimate}
 use Rattle.rounds.specs.Rounds.{Progress, on, hit, stop, Answer, found, noPlan, spent, plan, upto, due, offer, extend, visit}
+use Rattle.tallies.specs.declared.Tally.{Tally}
 use Rattle.search.specs.Exercises.{searchFrom}
 use Rattle.search.specs.Promises.{Kept}
 use Rattle.search.specs.Limits.{threshold, allowance, stepLimit, ruleCount, goalCount, positionCount}
@@ -69,14 +70,14 @@ visitWithin words moves weights table limits d =
     visit (systemAt words moves limits) (estimateAt weights table limits) (upto (allowance limits)) (threshold limits) d
 
 module _ (words moves weights table path limits : List ℕ) (depth cost : ℕ) where
-  -- the extensions by the rules from i on, after u visits and with a least overshoot
-  abbrev pub extendFrom : Next → ℕ → ℕ → ℕ → Progress
-  extendFrom next i u least =
+  -- the extensions by the rules from i on, with a tally
+  abbrev pub extendFrom : Next → ℕ → Tally → Progress
+  extendFrom next i tally =
       extend (systemAt words moves limits) (estimateAt weights table limits) (threshold limits) next (seen path depth)
-      (getD path depth 0) cost (ruleCount limits - i) i u (figureOf least)
+      (getD path depth 0) cost (ruleCount limits - i) i (tally .visits) (figureOf (tally .least))
 
-  -- e is the next extension that is due by the rules from i on: up to it nothing is visited, and its overshoot is the least
-  pub record NextDue (i least : ℕ) (e : Extension) : Type 0 where
+  -- e is the next extension that is due by the rules from i on: up to it nothing is visited, and its tally has the overshoots
+  pub record NextDue (i : ℕ) (tally : Tally) (e : Extension) : Type 0 where
     pub rule-low : i ≤ e .rule
     pub rule-high : e .rule < ruleCount limits
     pub cost-told : e .cost ≡ cost + costWord words (e .rule)
@@ -86,12 +87,12 @@ module _ (words moves weights table path limits : List ℕ) (depth cost : ℕ) w
         offer (systemAt words moves limits) (estimateAt weights table limits) (threshold limits) (seen path depth)
         (getD path depth 0) cost (e .rule)
         ≡ due (e .word)
-    pub same : (next : Next) (u : ℕ) → extendFrom next i u least ≡ extendFrom next (e .rule) u (e .least)
+    pub same : (next : Next) → extendFrom next i tally ≡ extendFrom next (e .rule) (e .tally)
 
   -- no extension is due any more, or the next one is told
-  abbrev pub Scanned : ℕ → ℕ → Scan → Type 0
-  Scanned i least (Over lowest) = (next : Next) (u : ℕ) → extendFrom next i u least ≡ on u (figureOf lowest)
-  Scanned i least (Due e) = NextDue i least e
+  abbrev pub Scanned : ℕ → Tally → Scan → Type 0
+  Scanned i tally (Over last) = (next : Next) → extendFrom next i tally ≡ on (last .visits) (figureOf (last .least))
+  Scanned i tally (Due e) = NextDue i tally e
 
 -- what a visit at depth leaves, a plan read from the bytes of the whole plan
 abbrev pub progressOf : ℕ → List ℕ → Visited → Progress

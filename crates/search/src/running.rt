@@ -7,10 +7,10 @@ ghost use Rattle.rounds.specs.Rounds as rounds;
 ghost use Rattle.search.specs.OnWords.{wordSystem, wordEstimate, figureOf};
 ghost use Rattle.search.specs.Parts.{Good, Ready, Done, answerOf, FoundWithin};
 use super::scanning::NONE;
-use super::visiting::Tally;
 use super::visiting::Visited;
 use super::visiting::visit;
 use blocks::layout;
+use tallies::Tally;
 
 // What the rounds answer: a plan, with its steps, its cost and the visits; no plan, with the visits; or spent, with the visits.
 pub enum Ending {

@@ -1,14 +1,17 @@
 // The extensions of a list, rule by rule, up to the next one that is due.
 ghost use mathlib.Core.Path.{_≡_};
 ghost use mathlib.Core.Bool.{cond};
-ghost use Prim.Native.Nat.{_≤_, _<_, min};
+ghost use Prim.Native.Nat.{_≤_, _<_};
 ghost use lib.ListN.{length};
 ghost use Rattle.words.specs.Ranking.{rankWord};
 ghost use Rattle.rounds.specs.Systems.{plus};
+ghost use Rattle.tallies.specs.Tallies.{overshotBy};
 ghost use Rattle.search.specs.Limits.{ruleCount};
 ghost use Rattle.search.specs.OnWords.{wordEstimate, figureOf, onPath};
 ghost use Rattle.search.specs.Parts.{Here, Scanned};
 use super::limits;
+use tallies::Tally;
+use tallies::overshot;
 use words::ranking::rank_word;
 use words::sides::applies_word;
 use words::sides::cost_word;
@@ -20,17 +23,17 @@ pub const NONE: u64 = 18446744073709551615;
 // The mark 'no path'.
 const MARK: u32 = 4294967295;
 
-// An extension that is due: its rule, its last state and its cost; and the least overshoot up to it.
+// An extension that is due: its rule, its last state and its cost; and the tally up to it.
 pub struct Extension {
     pub rule: usize,
     pub word: u64,
     pub cost: u64,
-    pub least: u64,
+    pub tally: Tally,
 }
 
-// No extension is due any more, with the least overshoot; or the next one is.
+// No extension is due any more, with the tally; or the next one is.
 pub enum Scan {
-    Over(u64),
+    Over(Tally),
     Due(Extension),
 }
 
@@ -68,17 +71,17 @@ fn on_path(path: &[u64; 65], depth: usize, word: u64) -> bool
     false
 }
 
-// The least overshoot once an extension above the threshold is known: a state on the path gives none.
-fn lowered(path: &[u64; 65], depth: usize, word: u64, figure: u64, least: u64) -> u64
+// The tally once an extension above the threshold is known: a state on the path gives no overshoot, and a figure that is no lower changes nothing.
+fn noted(path: &[u64; 65], depth: usize, word: u64, figure: u64, tally: Tally) -> Tally
     requires { ⌜ depth < 65 ⌝ }
-    ensures { λ r. ⌜ r ≡ cond (onPath (now (path .entry)) depth word) least (min figure least) ⌝ }
+    ensures { λ r. ⌜ r ≡ cond (onPath (now (path .entry)) depth word) tally (overshotBy tally figure) ⌝ }
 {
-    if figure < least {
+    if figure < tally.least {
         if !on_path(path, depth, word) {
-            return figure;
+            return overshot(tally, figure);
         }
     }
-    least
+    tally
 }
 
 // The next extension that is due, by the rules from `from` on. A rule that does not apply, a marked state and a state on the path offer nothing; overshoots are noted. The figure
@@ -93,15 +96,15 @@ pub fn next_due(
     depth: usize,
     cost: u64,
     from: usize,
-    least: u64,
+    tally: Tally,
 ) -> Scan
     requires { ⌜ Here (now words) (now moves) (now weights) (now table) (now path) (now limits) depth cost × (from ≤ ruleCount (now limits)) ⌝ }
-    ensures { λ r. ⌜ Scanned (now (words .entry)) (now (moves .entry)) (now (weights .entry)) (now (table .entry)) (now (path .entry)) (now (limits .entry)) depth cost from least r ⌝ }
+    ensures { λ r. ⌜ Scanned (now (words .entry)) (now (moves .entry)) (now (weights .entry)) (now (table .entry)) (now (path .entry)) (now (limits .entry)) depth cost from tally r ⌝ }
 {
     let word = path[depth];
     let rules = limits::rule_count(limits);
     let n = limits::position_count(limits);
-    let mut lowest = least;
+    let mut so_far = tally;
     let mut rule = from;
     while rule < rules {
         if applies_word(words, moves, rule, word) {
@@ -109,19 +112,19 @@ pub fn next_due(
             let reached = cost + cost_word(words, rule);
             let total = figure(weights, n, table, reached, child);
             if limits::threshold(limits) < total {
-                lowest = lowered(path, depth, child, total, lowest);
+                so_far = noted(path, depth, child, total, so_far);
             } else {
                 if !on_path(path, depth, child) {
                     return Scan::Due(Extension {
                         rule,
                         word: child,
                         cost: reached,
-                        least: lowest,
+                        tally: so_far,
                     });
                 }
             }
         }
         rule += 1;
     }
-    Scan::Over(lowest)
+    Scan::Over(so_far)
 }

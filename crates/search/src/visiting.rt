@@ -9,13 +9,8 @@ use super::limits;
 use super::scanning::Extension;
 use super::scanning::Scan;
 use super::scanning::next_due;
+use tallies::Tally;
 use words::sides::meets_word;
-
-// The visits used and the least overshoot so far (document 01).
-pub struct Tally {
-    pub visits: u32,
-    pub least: u64,
-}
 
 // What a part of a round leaves: the tally; a plan, with its steps, its cost and the visits; or the visits, where one more was due and none is left.
 pub enum Visited {
@@ -90,7 +85,7 @@ fn extend(
     ensures { λ r. ⌜ Done depth (stepLimit (now (limits .entry))) (threshold (now (limits .entry))) (now (path .entry)) (now (plan .entry)) (now (path .exit)) (now (plan .exit))
         (extendFrom (now (words .entry)) (now (moves .entry)) (now (weights .entry)) (now (table .entry)) (now (path .entry)) (now (limits .entry)) depth cost
         (visitWithin (now (words .entry)) (now (moves .entry)) (now (weights .entry)) (now (table .entry)) (now (limits .entry)) (stepLimit (now (limits .entry)) - suc depth))
-        from (tally .visits) (tally .least)) r ⌝ }
+        from tally) r ⌝ }
 {
     let scan = next_due(
         words,
@@ -102,15 +97,10 @@ fn extend(
         depth,
         cost,
         from,
-        tally.least,
+        tally,
     );
     match scan {
-        Scan::Over(least) => {
-            return Visited::On(Tally {
-                visits: tally.visits,
-                least,
-            });
-        }
+        Scan::Over(last) => return Visited::On(last),
         Scan::Due(next) => {
             return take_up(
                 words,
@@ -123,7 +113,6 @@ fn extend(
                 depth,
                 cost,
                 next,
-                tally.visits,
             );
         }
     }
@@ -141,17 +130,17 @@ fn take_up(
     depth: usize,
     cost: u64,
     next: Extension,
-    visits: u32,
 ) -> Visited
     requires { ⌜ Here (now words) (now moves) (now weights) (now table) (now path) (now limits) depth cost × (length (now plan) ≡ 64) ⌝ }
-    requires { ⌜ (depth < stepLimit (now limits)) × NextDue (now words) (now moves) (now weights) (now table) (now path) (now limits) depth cost (next .rule) (next .least) next ⌝ }
+    requires { ⌜ (depth < stepLimit (now limits)) × NextDue (now words) (now moves) (now weights) (now table) (now path) (now limits) depth cost (next .rule) (next .tally) next ⌝ }
     ensures { λ r. ⌜ Done depth (stepLimit (now (limits .entry))) (threshold (now (limits .entry))) (now (path .entry)) (now (plan .entry)) (now (path .exit)) (now (plan .exit))
         (extendFrom (now (words .entry)) (now (moves .entry)) (now (weights .entry)) (now (table .entry)) (now (path .entry)) (now (limits .entry)) depth cost
         (visitWithin (now (words .entry)) (now (moves .entry)) (now (weights .entry)) (now (table .entry)) (now (limits .entry)) (stepLimit (now (limits .entry)) - suc depth))
-        (next .rule) visits (next .least)) r ⌝ }
+        (next .rule) (next .tally)) r ⌝ }
 {
     path[depth + 1] = next.word;
     plan[depth] = next.rule as u8;
+    let tally = next.tally;
     let left = visit(
         words,
         moves,
@@ -162,10 +151,7 @@ fn take_up(
         limits,
         depth + 1,
         next.cost,
-        Tally {
-            visits,
-            least: next.least,
-        },
+        tally,
     );
     match left {
         Visited::On(then) => {

@@ -1,5 +1,5 @@
 -- `search::scanning::next_due` meets its contract.
--- The loop's invariant: what is left from the rule on, with the least overshoot so far, is what is left from the first rule on.
+-- The loop's invariant: what is left from the rule on, with the tally so far, is what is left from the first rule on.
 use mathlib.Core.Path.{sym, _∙_}
 use mathlib.Core.Logic.{⊎-elim}
 use Prim.Native.Nat.{ℕ, _+_, _-_, _≤_, _<_}
@@ -7,20 +7,21 @@ use native.Mathlib.Omega.{arith}
 use denote.Ref.{now}
 use borrow.Author.Tests.{not-true, not-false}
 use borrow.Author.Needs.{needs}
+use Rattle.tallies.specs.declared.Tally.{Tally}
 use Rattle.search.specs.Limits.{ruleCount}
 use Rattle.search.proofs.Scans.{rules-low, positions-low, depth-below, child-in, Same, Tried, same-start, same-then, none-due, pass-idle, pass-seen, pass-over, found-due}
 use Rattle.search.proofs.scanning.next_due.Statement.{statement}
 use Rattle.search.proofs.scanning.next_due.Tie as tie
 
 abbrev Inv-loop : tie.InvT-loop
-Inv-loop words moves weights table path limits depth cost from least word rules n lowest₀ rule₀ lowest rule =
-    (from ≤ rule) × (rule ≤ ruleCount limits) × (ruleCount limits ≤ 64) × (depth < 65) × Same words moves weights table path limits depth cost from least rule lowest
+Inv-loop words moves weights table path limits depth cost from word rules n so-far₀ rule₀ so-far rule =
+    (from ≤ rule) × (rule ≤ ruleCount limits) × (ruleCount limits ≤ 64) × (depth < 65) × Same words moves weights table path limits depth cost from so-far₀ rule so-far
 
 abbrev μ-loop : tie.MeasureT-loop
-μ-loop words moves weights table path limits depth cost from least word rules n lowest₀ rule₀ lowest rule = ruleCount limits - rule
+μ-loop words moves weights table path limits depth cost from word rules n so-far₀ rule₀ so-far rule = ruleCount limits - rule
 
 -- `Same` and `Tried` with the function's arguments
-abbrev SameAt : tie.Start Inv-loop μ-loop → ℕ → ℕ → ℕ → ℕ → Type 0
+abbrev SameAt : tie.Start Inv-loop μ-loop → ℕ → Tally → ℕ → Tally → Type 0
 SameAt s =
     Same (now (s .args .words)) (now (s .args .moves)) (now (s .args .weights)) (now (s .args .table)) (now (s .args .path)) (now (s .args .limits))
     (s .args .depth) (s .args .cost)
@@ -55,7 +56,7 @@ tried c =
 -- it offers nothing to visit
 passed :
     (c : tie.Joined1 Inv-loop μ-loop)
-    → SameAt (c .before .before .before .before .before .before .before .before) (c .before .before .before .loop .rule) (c .before .before .before .loop .lowest) (c .before .before .before .loop .rule + 1) (c .if1 .lowest)
+    → SameAt (c .before .before .before .before .before .before .before .before) (c .before .before .before .loop .rule) (c .before .before .before .loop .so-far) (c .before .before .before .loop .rule + 1) (c .if1 .so-far)
 passed c =
     ⊎-elim
     (λ w.
@@ -108,8 +109,8 @@ figure-requires c κs =
 threshold-requires : tie.Need-threshold-requires Inv-loop μ-loop
 threshold-requires c κs = search needs
 
-lowered-requires : tie.Need-lowered-requires Inv-loop μ-loop
-lowered-requires c κs = search needs
+noted-requires : tie.Need-noted-requires Inv-loop μ-loop
+noted-requires c κs = search needs
 
 on-path-requires : tie.Need-on-path-requires Inv-loop μ-loop
 on-path-requires c κs = search needs
@@ -158,7 +159,7 @@ next-due-spec =
     add-reached
     figure-requires
     threshold-requires
-    lowered-requires
+    noted-requires
     on-path-requires
     returns
     add-rule

@@ -143,7 +143,7 @@ take-up-add-visit t c = search needs
 -- src/visiting.rt:159:9
 take-up-visit-requires : (t : ℕ) → take-up-lts.Need-visit-requires (take-up-claims t) (take-up-at t) take-up.Post
 take-up-visit-requires t c κs =
-    let s = c .before .before .before .before in
+    let s = c .before .before .before .before .before in
     (omega (arith, s .pre), here-next (s .pre .1 .0 .0) (s .args .next) (s .pre .1 .1 .1) (s .pre .1 .1 .0) (now (s .args .plan)) (s .pre .1 .0 .1))
 
 -- src/visiting.rt:175:21
@@ -153,14 +153,14 @@ take-up-enum-known-left t c = search needs
 -- src/visiting.rt:186:17
 take-up-add-extend : (t : ℕ) → take-up-lts.Need-add-extend (take-up-claims t) (take-up-at t) take-up.Post
 take-up-add-extend t c =
-    let s = c .before .before .before .before .before .before .before .before .before .before .before in
+    let s = c .before .before .before .before .before .before .before .before .before .before .before .before in
     omega (arith, rules-low (s .pre .1 .0 .0), s .pre .1 .1 .1 .rule-high)
 
 -- src/visiting.rt:176:13
 take-up-extend-requires : (t : ℕ) → take-up-lts.Need-extend-requires (take-up-claims t) (take-up-at t) take-up.Post
 take-up-extend-requires t c κs =
-    let s = c .before .before .before .before .before .before .before .before .before .before .before in
-    let again = here-again (s .pre .1 .0 .0) (s .args .next) (s .pre .1 .1 .1) (s .args .visits) (s .pre .1 .1 .0) (now (s .args .plan)) (s .pre .1 .0 .1)
+    let s = c .before .before .before .before .before .before .before .before .before .before .before .before in
+    let again = here-again (s .pre .1 .0 .0) (s .args .next) (s .pre .1 .1 .1) (s .pre .1 .1 .0) (now (s .args .plan)) (s .pre .1 .0 .1)
     _ _ _ (c .before .before .before .before .before .before .visit .ensures) in
     let high = s .pre .1 .1 .1 .rule-high in
     (omega (arith, s .pre .0, high), (again, (s .pre .1 .1 .0, omega (arith, high))))
@@ -168,8 +168,8 @@ take-up-extend-requires t c κs =
 -- src/visiting.rt:176:13
 take-up-returns : (t : ℕ) → take-up-lts.Need-returns (take-up-claims t) (take-up-at t) take-up.Post
 take-up-returns t c =
-    let s = c .before .before .before .before .before .before .before .before .before .before .before .before in
-    take-more (s .pre .1 .0 .0) (s .args .next) (s .pre .1 .1 .1) (s .args .visits) (s .pre .1 .1 .0) (now (s .args .plan)) (s .pre .1 .0 .1)
+    let s = c .before .before .before .before .before .before .before .before .before .before .before .before .before in
+    take-more (s .pre .1 .0 .0) (s .args .next) (s .pre .1 .1 .1) (s .pre .1 .1 .0) (now (s .args .plan)) (s .pre .1 .0 .1)
     _ _ _ (c .before .before .before .before .before .before .before .visit .ensures) _ (c .before .before .before .before .before .left .given .1) _ _ _ (c .extend .ensures)
 
 -- src/visiting.rt:190:22
@@ -179,8 +179,8 @@ take-up-enum-known-left-2 t c = search needs
 -- src/visiting.rt:190:45
 take-up-returns-2 : (t : ℕ) → take-up-lts.Need-returns-2 (take-up-claims t) (take-up-at t) take-up.Post
 take-up-returns-2 t c =
-    let s = c .before .before .before .before .before .before .before .before in
-    take-found (s .pre .1 .0 .0) (s .args .next) (s .pre .1 .1 .1) (s .args .visits) (s .pre .1 .1 .0) (now (s .args .plan)) (s .pre .1 .0 .1)
+    let s = c .before .before .before .before .before .before .before .before .before in
+    take-found (s .pre .1 .0 .0) (s .args .next) (s .pre .1 .1 .1) (s .pre .1 .1 .0) (now (s .args .plan)) (s .pre .1 .0 .1)
     _ _ _ (c .before .before .before .visit .ensures) _ _ _ (c .before .left2 .given .1)
 
 -- src/visiting.rt:191:23
@@ -190,8 +190,8 @@ take-up-enum-known-left-3 t c = search needs
 -- src/visiting.rt:191:32
 take-up-returns-3 : (t : ℕ) → take-up-lts.Need-returns-3 (take-up-claims t) (take-up-at t) take-up.Post
 take-up-returns-3 t c =
-    let s = c .before .before .before .before .before .before .before .before in
-    take-spent (s .pre .1 .0 .0) (s .args .next) (s .pre .1 .1 .1) (s .args .visits) (s .pre .1 .1 .0) (now (s .args .plan)) (s .pre .1 .0 .1)
+    let s = c .before .before .before .before .before .before .before .before .before in
+    take-spent (s .pre .1 .0 .0) (s .args .next) (s .pre .1 .1 .1) (s .pre .1 .1 .0) (now (s .args .plan)) (s .pre .1 .0 .1)
     _ _ _ (c .before .before .before .visit .ensures) _ (c .before .left3 .given .1)
 
 -- src/visiting.rt:47:8
