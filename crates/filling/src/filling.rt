@@ -38,7 +38,7 @@ fn clear(
     block: &[u8],
     words: &[u64; 608],
     moves: &[u8; 4384],
-    weights: &[u16; 256],
+    weights: &[u16; 2048],
     ranks: &mut [u64; 16384],
     table: &mut [u32],
 )
@@ -61,7 +61,7 @@ fn fill_relabelled(block: &[u8], table: &mut [u32]) -> bool
 {
     let mut words = [0u64; 608];
     let mut moves = [0u8; 4384];
-    let mut weights = [0u16; 256];
+    let mut weights = [0u16; 2048];
     let mut ranks = [0u64; 16384];
     compile(block, &mut words, &mut moves, &mut weights);
     clear(block, &words, &moves, &weights, &mut ranks, table);

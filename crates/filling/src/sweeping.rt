@@ -11,7 +11,7 @@ fn sweep(
     block: &[u8],
     words: &[u64; 608],
     moves: &[u8; 4384],
-    weights: &[u16; 256],
+    weights: &[u16; 2048],
     ranks: &[u64; 16384],
     table: &mut [u32],
 ) -> bool
@@ -36,7 +36,7 @@ pub fn settle(
     block: &[u8],
     words: &[u64; 608],
     moves: &[u8; 4384],
-    weights: &[u16; 256],
+    weights: &[u16; 2048],
     ranks: &[u64; 16384],
     table: &mut [u32],
 ) -> bool

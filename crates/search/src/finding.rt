@@ -33,7 +33,7 @@ pub fn find_plan(
 {
     let mut words = [0u64; 608];
     let mut moves = [0u8; 4384];
-    let mut weights = [0u16; 256];
+    let mut weights = [0u16; 2048];
     let mut path = [0u64; 65];
     let mut plan = [0u8; 64];
     compile(block, &mut words, &mut moves, &mut weights);

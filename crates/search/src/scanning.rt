@@ -45,7 +45,7 @@ fn wide_entry(entry: u32) -> u64
 }
 
 // The figure of a list of this cost that ends at the word; NONE with the mark.
-pub fn figure(weights: &[u16; 256], n: usize, table: &[u32], cost: u64, word: u64) -> u64
+pub fn figure(weights: &[u16; 2048], n: usize, table: &[u32], cost: u64, word: u64) -> u64
     requires { ⌜ (n ≤ 16) × (rankWord (now weights) n word < length (now table)) × (cost ≤ 8589934592) ⌝ }
     ensures { λ f. ⌜ figureOf f ≡ plus cost (wordEstimate (now (weights .entry)) (now (table .entry)) n word) ⌝ }
 {
@@ -89,7 +89,7 @@ fn noted(path: &[u64; 65], depth: usize, word: u64, figure: u64, tally: Tally) -
 pub fn next_due(
     words: &[u64; 608],
     moves: &[u8; 4384],
-    weights: &[u16; 256],
+    weights: &[u16; 2048],
     table: &[u32],
     path: &[u64; 65],
     limits: &[u64; 8],

@@ -23,7 +23,7 @@ pub enum Visited {
 pub fn visit(
     words: &[u64; 608],
     moves: &[u8; 4384],
-    weights: &[u16; 256],
+    weights: &[u16; 2048],
     table: &[u32],
     path: &mut [u64; 65],
     plan: &mut [u8; 64],
@@ -70,7 +70,7 @@ pub fn visit(
 fn extend(
     words: &[u64; 608],
     moves: &[u8; 4384],
-    weights: &[u16; 256],
+    weights: &[u16; 2048],
     table: &[u32],
     path: &mut [u64; 65],
     plan: &mut [u8; 64],
@@ -122,7 +122,7 @@ fn extend(
 fn take_up(
     words: &[u64; 608],
     moves: &[u8; 4384],
-    weights: &[u16; 256],
+    weights: &[u16; 2048],
     table: &[u32],
     path: &mut [u64; 65],
     plan: &mut [u8; 64],

@@ -23,7 +23,7 @@ fn passes_at(
     block: &[u8],
     words: &[u64; 608],
     moves: &[u8; 4384],
-    weights: &[u16; 256],
+    weights: &[u16; 2048],
     table: &[u32],
     u: usize,
     word: u64,
@@ -53,7 +53,7 @@ fn passes_everywhere(
     block: &[u8],
     words: &[u64; 608],
     moves: &[u8; 4384],
-    weights: &[u16; 256],
+    weights: &[u16; 2048],
     table: &[u32],
 ) -> bool
     requires { ⌜ Ready (now block) (now words) (now moves) (now weights) × (abstractStates (now block) ≤ length (now table)) ⌝ }
@@ -77,7 +77,7 @@ fn passes_relabelled(block: &[u8], table: &[u32]) -> bool
 {
     let mut words = [0u64; 608];
     let mut moves = [0u8; 4384];
-    let mut weights = [0u16; 256];
+    let mut weights = [0u16; 2048];
     compile(block, &mut words, &mut moves, &mut weights);
     passes_everywhere(block, &words, &moves, &weights, table)
 }

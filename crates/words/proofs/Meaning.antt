@@ -2,10 +2,11 @@
 -- goals likewise (`meets-word`), and the rank of the relabelled state (`rank-word`). The words of states and of ranks hold those states (`state-word`, `unpack-word-of`).
 -- The layers that search on words rest on these alone.
 use mathlib.Core.Path.{_≡_, refl, sym, ap, ap₂, _∙_}
+use mathlib.Core.Logic.{_⊎_, inl, inr, ⊎-elim}
 use mathlib.Core.Bool.{Bool, true, false}
 use mathlib.Core.List.{List}
-use Prim.Native.Nat.{ℕ, zero, suc, _+_, _-_, _*_, _^_, _≤_, _<_}
-use native.Mathlib.Nat.{mul-assoc, add-mul, mul-one, zero-mul}
+use Prim.Native.Nat.{ℕ, zero, suc, _+_, _-_, _*_, _/_, _^_, _≤_, _<_}
+use native.Mathlib.Nat.{add-assoc, mul-assoc, add-mul, mul-one, zero-mul}
 use native.Mathlib.Omega.{arith}
 use lib.Bits.{bitAnd}
 use lib.Dec.{eqb}
@@ -15,6 +16,7 @@ use Rattle.basics.specs.Digits.{valueTo}
 use Rattle.basics.proofs.Truth.{true-false, and-true, and-intro, not-so}
 use Rattle.basics.proofs.Bounded.{some-ext}
 use Rattle.basics.proofs.Lists.{getD-tabulate}
+use Rattle.basics.proofs.Order.{same?}
 use Rattle.blocks.specs.Layout.{positions, rules, goals, labelCount, abstractCount, mapAt, costOf, goalOf}
 use Rattle.blocks.specs.Validity.{Headed}
 use Rattle.blocks.specs.States.{stateOk}
@@ -24,12 +26,16 @@ use Rattle.psvn.specs.Relabelling.{relabelState}
 use Rattle.psvn.specs.Ranks.{rank, unrank}
 use Rattle.psvn.proofs.Making.{matches-itself, itself-matches}
 use Rattle.psvn.proofs.RankLaws.{unrank-state}
-use Rattle.words.specs.Packing.{digit, pack, unpack}
+use Rattle.words.specs.Packing.{digit, digitPair, pack, unpack}
 use Rattle.words.specs.Sides.{maskAt, valueAt, goalPlace, rewrittenWord, matchesWord, appliesWord, stepWord, costWord, meetsWord}
-use Rattle.words.specs.Ranking.{rankWord, wordOf, placeValue}
+use Rattle.words.specs.Ranking.{rankPairs, rankWord, wordOf, placeValue, weightOf}
 use Rattle.words.specs.Compiled.{Sided, Compiled}
-use Rattle.words.proofs.WordDigits.{Small, pack-below, unpack-pack, unpack-injective, unpack-length, unpack-at}
+use Rattle.words.proofs.WordDigits.{Small, digit-lt, pack-below, unpack-pack, unpack-injective, unpack-length, unpack-at}
 use Rattle.words.proofs.WordRanks.{place-more, place-last}
+
+-- the pairs that n positions make, and the position that is left where n is odd
+even-or-odd : (n : ℕ) → (2 * (n / 2) ≡ n) ⊎ (suc (2 * (n / 2)) ≡ n)
+even-or-odd n = ⊎-elim (λ e. inl e) (λ d. inr (omega arith)) (same? (2 * (n / 2)) n)
 
 -- a side of its own: a word matches it as the word's state does
 matches-word :
@@ -50,6 +56,11 @@ matches-word n side m v x s w l = go (matches n side (unpack n w)) refl
         let same = eqb-true (rewrittenWord m v x w) w (and-true (eqb (bitAnd w (maskAt m x)) (valueAt m x)) _ q .1) in
         true-false (itself-matches n side (unpack n w) (sym (s .makes w l) ∙ ap (unpack n) same)) e)
         ∙ sym e
+
+-- the weights of a word's first j labels together
+abbrev labelsRank : List ℕ → ℕ → ℕ → ℕ
+labelsRank b w zero = 0
+labelsRank b w (suc j) = labelsRank b w j + weightOf b j (digit w j)
 
 module _ {b m v q : List ℕ} (c : Compiled b m v q) where
   pub applies-word :
@@ -74,7 +85,6 @@ module _ {b m v q : List ℕ} (c : Compiled b m v q) where
       some-ext (λ g. matchesWord m v (goalPlace g) w) (λ g. matches (positions b) (goalOf b g) (unpack (positions b) w)) (goals b) (λ g lg.
       matches-word (positions b) (goalOf b g) m v (goalPlace g) (c .goal g lg) w l)
 
-  -- the sum of weights: the number of the labels before position j, times what they count
   module _ (w : ℕ) (ok : stateOk b (unpack (positions b) w) ≡ true) where
     label-of : (j : ℕ) → j < positions b → getD (relabelState b (unpack (positions b) w)) j 0 ≡ mapAt b j (digit w j)
     unfolding relabelState
@@ -82,31 +92,56 @@ module _ {b m v q : List ℕ} (c : Compiled b m v q) where
         getD-tabulate (positions b) (λ i. mapAt b i (getD (unpack (positions b) w) i 0)) j l
         ∙ ap (mapAt b j) (unpack-at (positions b) w j l)
 
+    -- the weights of the first j labels: the number of the labels before position j, times what they count
     sum-placed :
         (j : ℕ) → j ≤ positions b
-        → rankWord q j w
-        ≡ valueTo (abstractCount b) (relabelState b (unpack (positions b) w)) j * placeValue (abstractCount b) j (positions b - j)
-    unfolding rankWord
+        → labelsRank b w j ≡ valueTo (abstractCount b) (relabelState b (unpack (positions b) w)) j * placeValue (abstractCount b) j (positions b - j)
     sum-placed zero l = sym (zero-mul (placeValue (abstractCount b) 0 (positions b - 0)))
     sum-placed (suc j) l =
         let n = positions b in
         let base = abstractCount b in
         let u = relabelState b (unpack n w) in
-        let low : digit w j < labelCount b j =
-        omega (arith, labelled-at n (labelCount b) (unpack n w) ok j l, unpack-at n w j l) in
         let p = placeValue base (suc j) (n - suc j) in
         ap₂ _+_
         (sum-placed j (omega arith) ∙ ap (λ (y : ℕ). valueTo base u j * y) (place-more base n j l)
         ∙ sym (mul-assoc (valueTo base u j) (base j) p))
-        (c .weighted .weight j (digit w j) l low ∙ ap (λ (y : ℕ). y * p) (sym (label-of j l)))
+        (ap (λ (y : ℕ). y * p) (sym (label-of j l)))
         ∙ sym (add-mul (valueTo base u j * base j) (getD u j 0) p)
+
+    -- the weights of the pairs are those of their labels
+    digit-low : (j : ℕ) → j < positions b → digit w j < labelCount b j
+    digit-low j l =
+        omega (arith, labelled-at (positions b) (labelCount b) (unpack (positions b) w) ok j l, unpack-at (positions b) w j l)
+
+    pairs-sum : (k : ℕ) → 2 * k ≤ positions b → rankPairs q k w ≡ labelsRank b w (2 * k)
+    unfolding rankPairs digitPair
+    pairs-sum zero l = refl
+    pairs-sum (suc k) l =
+        let two : suc (suc (2 * k)) ≡ 2 * suc k = omega arith in
+        let first = weightOf b (2 * k) (digit w (2 * k)) in
+        let second = weightOf b (suc (2 * k)) (digit w (suc (2 * k))) in
+        ap₂ _+_ (pairs-sum k (omega arith))
+        (c .weighted .pair k (digit w (2 * k)) (digit w (suc (2 * k))) (omega arith) (digit-low (2 * k) (omega arith)) (digit-low (suc (2 * k)) (omega arith)))
+        ∙ sym (add-assoc (labelsRank b w (2 * k)) first second) ∙ ap (labelsRank b w) two
+
+    all-pairs : (k : ℕ) → (2 * k ≡ positions b) ⊎ (suc (2 * k) ≡ positions b) → rankWord q (positions b) w ≡ labelsRank b w (positions b)
+    unfolding rankWord rankPairs digitPair
+    all-pairs k (inl e) =
+        let half : (positions b + 1) / 2 ≡ k = omega arith in
+        ap (λ (j : ℕ). rankPairs q j w) half ∙ pairs-sum k (omega arith) ∙ ap (labelsRank b w) e
+    all-pairs k (inr e) =
+        let half : (positions b + 1) / 2 ≡ suc k = omega arith in
+        ap (λ (j : ℕ). rankPairs q j w) half
+        ∙ ap₂ _+_ (pairs-sum k (omega arith))
+        (c .weighted .last k (digit w (2 * k)) (digit w (suc (2 * k))) e (digit-low (2 * k) (omega arith)) (digit-lt w (suc (2 * k))))
+        ∙ ap (labelsRank b w) e
 
     pub rank-word : rankWord q (positions b) w ≡ rank b (relabelState b (unpack (positions b) w))
     unfolding rank
     rank-word =
         let n = positions b in
         let value = valueTo (abstractCount b) (relabelState b (unpack n w)) n in
-        sum-placed n (omega arith) ∙ ap (λ (y : ℕ). value * y) (place-last (abstractCount b) n) ∙ mul-one value
+        all-pairs (n / 2) (even-or-odd n) ∙ sum-placed n (omega arith) ∙ ap (λ (y : ℕ). value * y) (place-last (abstractCount b) n) ∙ mul-one value
 
 -- the words of states and of ranks
 module _ {b : List ℕ} (h : Headed b) where

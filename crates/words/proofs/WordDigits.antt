@@ -1,4 +1,4 @@
--- Base-16 words: the digits of `&`, `|` and of one digit at its place, and that a word of n labels is told by its first n digits (`same-digits`);
+-- Base-16 words: the digits of a byte (`pair-byte`), of `&`, `|` and of one digit at its place, and that a word of n labels is told by its first n digits (`same-digits`);
 -- packing and unpacking undo one another (`unpack-pack`, `pack-unpack`). The leaves on words, compiling and what compiled arrays mean rest on these.
 use mathlib.Core.Path.{_≡_, refl, sym, ap, ap₂, _∙_}
 use mathlib.Core.List.{List, [], _∷_, _++_}
@@ -13,7 +13,7 @@ use lib.ListN.{length, getD}
 use Rattle.basics.specs.Lists.{tabulateFrom}
 use Rattle.basics.proofs.Lists.{length-tabulate, getD-tabulate, tabulate-ext}
 use Rattle.basics.proofs.Order.{same-list}
-use Rattle.words.specs.Packing.{digit, pack, unpack}
+use Rattle.words.specs.Packing.{digit, digitPair, pack, unpack}
 
 -- powers of 16 and of 2
 pow-16 : (i : ℕ) → 16 ^ i ≡ 2 ^ (4 * i)
@@ -50,6 +50,24 @@ digit-next : (w i : ℕ) → digit w (suc i) ≡ digit (w / 16) i
 unfolding digit
 digit-next w i =
     ap (λ (x : ℕ). w / x % 16) (pow-succ' 16 i) ∙ ap (λ (x : ℕ). x % 16) (sym (div-div-eq-div-mul w 16 (16 ^ i)))
+
+-- a byte of the word is a pair of its digits
+pub pair-byte : (w j : ℕ) → w / 256 ^ j % 256 ≡ digitPair w j
+unfolding digitPair digit
+pair-byte w j =
+    let v = w / 16 ^ (2 * j) in
+    let high : w / 16 ^ suc (2 * j) ≡ v / 16 =
+    ap (λ (x : ℕ). w / x) (pow-suc 16 (2 * j)) ∙ sym (div-div-eq-div-mul w (16 ^ (2 * j)) 16) in
+    ap (λ (x : ℕ). w / x % 256) (pairs j) ∙ two v ∙ ap (λ (x : ℕ). x % 16 * 16 + v % 16) (sym high)
+  where
+    pairs : (j : ℕ) → 256 ^ j ≡ 16 ^ (2 * j)
+    pairs zero = refl
+    pairs (suc j) =
+        let e : 2 * j + 2 ≡ 2 * suc j = omega arith in
+        pow-suc 256 j ∙ ap (λ (x : ℕ). x * 256) (pairs j) ∙ sym (pow-add 16 (2 * j) 2) ∙ ap (λ (k : ℕ). 16 ^ k) e
+
+    two : (v : ℕ) → v % 256 ≡ v / 16 % 16 * 16 + v % 16
+    two v = omega arith
 
 -- from n on a word of n labels has no digits
 digit-high : (n w k : ℕ) → w < 16 ^ n → n ≤ k → digit w k ≡ 0

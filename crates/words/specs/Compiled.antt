@@ -2,7 +2,7 @@
 -- The parts of compiling leave these; the leaves on words and the layers above them rest on them.
 use mathlib.Core.Path.{_≡_}
 use mathlib.Core.List.{List}
-use Prim.Native.Nat.{ℕ, _+_, _*_, _^_, _≤_, _<_}
+use Prim.Native.Nat.{ℕ, suc, _+_, _*_, _^_, _≤_, _<_}
 use lib.Bits.{bitAnd}
 use lib.ListN.{getD}
 use Rattle.blocks.specs.Layout.{positions, rules, goals, labelCount, costOf, leftOf, rightOf, goalOf}
@@ -25,9 +25,14 @@ pub record RuleAt (b words moves : List ℕ) (r : ℕ) : Type 0 where
   pub right : Sided (positions b) (leftOf b r) (rightOf b r) words moves (rightPlace r)
   pub cost : costWord words r ≡ costOf b r
 
--- the weight of each label at each position
+-- the weight of each pair of labels, x at position 2 * j and y behind it; where position 2 * j is the last one, the digit behind it weighs nothing
 pub record Weighted (b weights : List ℕ) : Type 0 where
-  pub weight : (i x : ℕ) → i < positions b → x < labelCount b i → getD weights (16 * i + x) 0 ≡ weightOf b i x
+  pub pair :
+      (j x y : ℕ) → suc (2 * j) < positions b → x < labelCount b (2 * j) → y < labelCount b (suc (2 * j))
+      → getD weights (256 * j + (y * 16 + x)) 0 ≡ weightOf b (2 * j) x + weightOf b (suc (2 * j)) y
+  pub last :
+      (j x y : ℕ) → suc (2 * j) ≡ positions b → x < labelCount b (2 * j) → y < 16
+      → getD weights (256 * j + (y * 16 + x)) 0 ≡ weightOf b (2 * j) x
 
 pub record Compiled (b words moves weights : List ℕ) : Type 0 where
   pub valid : Valid b

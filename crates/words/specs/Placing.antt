@@ -1,9 +1,9 @@
 -- What the parts of compiling find and leave: where a term takes its label from (`TakenFrom`), a side begun (`Begun`) and with one term more
--- (`WithConstant`, `WithSource`), and a side, a rule, all rules, all goals and a row of weights placed, each with what it keeps of the arrays.
+-- (`WithConstant`, `WithSource`), a side, a rule, all rules, all goals and a row of weights placed, each with what it keeps of the arrays, and all weights, single and by pairs.
 -- The functions that compile a block are stated with these; together they make the arrays `Compiled`.
 use mathlib.Core.Path.{_≡_}
 use mathlib.Core.List.{List}
-use Prim.Native.Nat.{ℕ, zero, suc, _+_, _*_, _^_, _≤_, _<_}
+use Prim.Native.Nat.{ℕ, zero, suc, _+_, _*_, _/_, _%_, _^_, _≤_, _<_}
 use lib.Bits.{bitAnd, bitOr}
 use lib.ListN.{length, getD}
 use Rattle.basics.specs.Frames.{Outside}
@@ -14,6 +14,7 @@ use Rattle.blocks.specs.declared.terms.Term.the-variants.{Label}
 use Rattle.psvn.specs.Rules.{given}
 use Rattle.words.specs.Packing.{digit, unpack}
 use Rattle.words.specs.Sides.{moved, leftPlace, rightPlace, goalPlace}
+use Rattle.words.specs.Ranking.{weightOf}
 use Rattle.words.specs.Compiled.{Sided, RuleAt}
 use Rattle.words.specs.declared.compiling.Side.{Side}
 
@@ -87,7 +88,23 @@ pub record GoalsPlaced (b words₀ moves₀ words₁ moves₁ : List ℕ) : Type
   pub words : Outside (4 * goalPlace 0) (4 * goalPlace 8) words₀ words₁
   pub moves : Outside (32 * goalPlace 0) (32 * goalPlace 8) moves₀ moves₁
 
--- the weights of the labels at position i, where an abstract label counts p
-pub record RowPlaced (b : List ℕ) (i p : ℕ) (weights₀ weights₁ : List ℕ) : Type 0 where
-  pub weight : (x : ℕ) → x < labelCount b i → getD weights₁ (16 * i + x) 0 ≡ mapAt b i x * p
-  pub weights : Outside (16 * i) (16 * i + 16) weights₀ weights₁
+-- the weights of the labels at position i, where an abstract label counts p; if none was above 16384, none is
+pub record RowPlaced (b : List ℕ) (i p : ℕ) (singles₀ singles₁ : List ℕ) : Type 0 where
+  pub weight : (x : ℕ) → x < labelCount b i → getD singles₁ (16 * i + x) 0 ≡ mapAt b i x * p
+  pub low : ((k : ℕ) → getD singles₀ k 0 ≤ 16384) → (k : ℕ) → getD singles₁ k 0 ≤ 16384
+  pub singles : Outside (16 * i) (16 * i + 16) singles₀ singles₁
+
+-- the weight of each label at each position, 0 behind the last, and none so high that two would not fit 16 bits
+pub record Singles (b singles : List ℕ) : Type 0 where
+  pub weight : (i x : ℕ) → i < positions b → x < labelCount b i → getD singles (16 * i + x) 0 ≡ weightOf b i x
+  pub behind : (k : ℕ) → 16 * positions b ≤ k → getD singles k 0 ≡ 0
+  pub low : (k : ℕ) → getD singles k 0 ≤ 16384
+
+-- what the two digits of the byte k % 256 add together where it is byte k / 256 of a word
+abbrev pub pairWeight : List ℕ → ℕ → ℕ
+pairWeight singles k =
+    getD singles (32 * (k / 256) + k % 16) 0 + getD singles (32 * (k / 256) + 16 + k / 16 % 16) 0
+
+-- the weights of pairs
+pub record PairsPlaced (singles weights : List ℕ) : Type 0 where
+  pub pair : (k : ℕ) → k < 2048 → getD weights k 0 ≡ pairWeight singles k

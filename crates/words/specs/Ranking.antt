@@ -1,16 +1,20 @@
 -- Ranks by words: the rank of the relabelled state as a sum of weights (`rankWord`), and the word of the abstract state of a rank (`wordOf`).
--- The weights are those of abstract labels, one for each position and each label that the map sends there.
-use Prim.Native.Nat.{ℕ, zero, suc, _+_, _-_, _*_}
+-- The weights are those of abstract labels, one for each pair of positions and each two labels that the map sends there.
+use Prim.Native.Nat.{ℕ, zero, suc, _+_, _-_, _*_, _/_}
 use mathlib.Core.List.{List}
 use lib.ListN.{getD}
 use Rattle.blocks.specs.Layout.{positions, abstractCount, mapAt}
 use Rattle.psvn.specs.Ranks.{unrank}
-use Rattle.words.specs.Packing.{digit, pack}
+use Rattle.words.specs.Packing.{digitPair, pack}
 
--- the weights of the first n labels together
+-- the weights of the first k pairs of labels together
+unfoldable pub rankPairs : List ℕ → ℕ → ℕ → ℕ
+rankPairs weights zero w = 0
+rankPairs weights (suc k) w = rankPairs weights k w + getD weights (256 * k + digitPair w k) 0
+
+-- the weights of the pairs that n labels make: where n is odd, the last label makes one with the digit behind it
 unfoldable pub rankWord : List ℕ → ℕ → ℕ → ℕ
-rankWord weights zero w = 0
-rankWord weights (suc n) w = rankWord weights n w + getD weights (16 * n + digit w n) 0
+rankWord weights n w = rankPairs weights ((n + 1) / 2) w
 
 -- the word of the abstract state of rank k
 unfoldable pub wordOf : List ℕ → ℕ → ℕ

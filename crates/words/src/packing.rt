@@ -3,7 +3,6 @@ ghost use mathlib.Core.Path.{_≡_};
 ghost use Prim.Native.Nat.{ℕ, _%_, _≤_, _<_};
 ghost use lib.ListN.{length, getD};
 ghost use Rattle.words.specs.Packing as packing;
-use blocks::labels::ConcreteLabel;
 
 // The digit at position i.
 pub fn digit(word: u64, i: usize) -> u64
@@ -13,11 +12,14 @@ pub fn digit(word: u64, i: usize) -> u64
     (word >> (4 * i)) % 16
 }
 
-// The label at position 0.
-pub fn first_label(word: u64) -> ConcreteLabel
-    ensures { λ r. ⌜ (r .0 ≡ word % 16) × (r .0 < 16) ⌝ }
+// Two labels of an exercise's own states that stand side by side in a word, in one byte: the first is the low digit.
+pub struct ConcretePair(pub u8);
+
+// The labels at positions 0 and 1.
+pub fn first_pair(word: u64) -> ConcretePair
+    ensures { λ r. ⌜ (r .0 ≡ word % 256) × (r .0 < 256) ⌝ }
 {
-    ConcreteLabel((word % 16) as u8)
+    ConcretePair((word % 256) as u8)
 }
 
 // The word of a state.

@@ -1,20 +1,20 @@
-// Ranks of abstract states, by words: the sum of what each position's label adds, and the word of a rank.
+// Ranks of abstract states, by words: the sum of what each pair of labels adds, and the word of a rank.
 ghost use mathlib.Core.Path.{_≡_};
 ghost use Prim.Native.Nat.{_+_, _*_, _≤_, _<_};
 ghost use lib.ListN.{getD};
 ghost use Rattle.blocks.specs.Layout.{abstractStates};
 ghost use Rattle.blocks.specs.Validity.{Headed};
 ghost use Rattle.words.specs.Ranking.{rankWord, wordOf};
-use super::packing::first_label;
-use blocks::labels::ConcreteLabel;
+use super::packing::ConcretePair;
+use super::packing::first_pair;
 use blocks::layout;
 
-// What a label adds to the rank at position i: the map has made it an abstract label, and that one's weight is stored.
-fn weight(weights: &[u16; 256], i: usize, label: ConcreteLabel) -> usize
-    requires { ⌜ (i < 16) × (label .0 < 16) ⌝ }
-    ensures { λ r. ⌜ (r ≡ getD (now (weights .entry)) (16 * i + label .0) 0) × (r ≤ 65535) ⌝ }
+// What the labels of pair j add to the rank: the map made them abstract labels when the weights were written, and the sum of these two's weights is stored.
+fn weight(weights: &[u16; 2048], j: usize, pair: ConcretePair) -> usize
+    requires { ⌜ (j < 8) × (pair .0 < 256) ⌝ }
+    ensures { λ r. ⌜ (r ≡ getD (now (weights .entry)) (256 * j + pair .0) 0) × (r ≤ 65535) ⌝ }
 {
-    wide(weights[16 * i + label.0 as usize])
+    wide(weights[256 * j + pair.0 as usize])
 }
 
 // A weight as an index.
@@ -25,17 +25,18 @@ fn wide(weight: u16) -> usize
 }
 
 // The rank of the relabelled state of a word of n labels.
-pub fn rank_word(weights: &[u16; 256], n: usize, word: u64) -> usize
+pub fn rank_word(weights: &[u16; 2048], n: usize, word: u64) -> usize
     requires { ⌜ n ≤ 16 ⌝ }
     ensures { λ r. ⌜ r ≡ rankWord (now (weights .entry)) n word ⌝ }
 {
+    let pairs = (n + 1) / 2;
     let mut rank: usize = 0;
     let mut rest = word;
-    let mut i: usize = 0;
-    while i < n {
-        rank += weight(weights, i, first_label(rest));
-        rest = rest / 16;
-        i += 1;
+    let mut j: usize = 0;
+    while j < pairs {
+        rank += weight(weights, j, first_pair(rest));
+        rest = rest / 256;
+        j += 1;
     }
     rank
 }

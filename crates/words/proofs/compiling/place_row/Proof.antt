@@ -1,28 +1,29 @@
 -- `words::compiling::place_row` meets its contract.
--- The loop's invariant: the weights of the labels passed are written, and nothing but weights of position i.
+-- The loop's invariant: the weights of the labels passed are written, none of them high, and nothing but weights of position i.
 use mathlib.Core.Path.{_≡_, ap, _∙_}
 use Prim.Native.Nat.{ℕ, _≤_, _<_, _-_, _+_, _*_}
 use native.Mathlib.Nat.{mul-le-mul-right}
 use native.Mathlib.Omega.{arith}
 use denote.Ref.{now}
-use lib.ListN.{getD}
+use lib.ListN.{length, getD}
 use lib.Seq.{getD-set-same, getD-set-other}
 use borrow.Author.Count.{below-more}
 use Rattle.basics.specs.Frames.{Outside}
 use Rattle.basics.proofs.Frames.{outside-none, outside-set}
 use Rattle.blocks.specs.Layout.{labelCount, abstractCount, mapAt}
 use Rattle.psvn.proofs.Stepping.{map-in}
+use Rattle.words.proofs.WordRanks.{low-more}
 use borrow.Author.Needs.{needs}
 use Rattle.words.proofs.compiling.place_row.Statement.{statement}
 use Rattle.words.proofs.compiling.place_row.Tie as tie
 
 abbrev Inv-loop : tie.InvT-loop
-Inv-loop block i p weights₀ count x₀ weights x =
-    (count ≡ labelCount block i) × (count ≤ 16) × (x ≤ count) × Outside (16 * i) (16 * i + 16) weights₀ weights
-    × ((k : ℕ) → k < x → getD weights (16 * i + k) 0 ≡ mapAt block i k * p)
+Inv-loop block i p singles₀ count x₀ singles x =
+    (count ≡ labelCount block i) × (count ≤ 16) × (x ≤ count) × Outside (16 * i) (16 * i + 16) singles₀ singles
+    × ((k : ℕ) → k < x → getD singles (16 * i + k) 0 ≡ mapAt block i k * p) × (((k : ℕ) → getD singles₀ k 0 ≤ 16384) → (k : ℕ) → getD singles k 0 ≤ 16384)
 
 abbrev μ-loop : tie.MeasureT-loop
-μ-loop block i p weights₀ count x₀ weights x = count - x
+μ-loop block i p singles₀ count x₀ singles x = count - x
 
 -- the label's abstract label, and its weight
 mapped :
@@ -51,8 +52,9 @@ loop-holds c =
       search needs,
       omega (arith, c .label-count .ensures),
       search needs,
-      outside-none (16 * a .i) (16 * a .i + 16) (now (a .weights)),
+      outside-none (16 * a .i) (16 * a .i + 16) (now (a .singles)),
       λ k l. absurd (omega arith),
+      λ low. low,
     )
 
 cast-wide : tie.Need-cast-wide Inv-loop μ-loop
@@ -67,23 +69,23 @@ byte-of-requires c κs = search needs
 wide-requires : tie.Need-wide-requires Inv-loop μ-loop
 wide-requires c κs = search needs
 
-mul-weights : tie.Need-mul-weights Inv-loop μ-loop
-mul-weights c = omega (arith, high c)
+mul-singles : tie.Need-mul-singles Inv-loop μ-loop
+mul-singles c = omega (arith, high c)
 
-cast-weights : tie.Need-cast-weights Inv-loop μ-loop
-cast-weights c = omega (arith, high c)
+cast-singles : tie.Need-cast-singles Inv-loop μ-loop
+cast-singles c = omega (arith, high c)
 
-mul-weights-2 : tie.Need-mul-weights-2 Inv-loop μ-loop
-mul-weights-2 c = search needs
+mul-singles-2 : tie.Need-mul-singles-2 Inv-loop μ-loop
+mul-singles-2 c = search needs
 
-add-weights : tie.Need-add-weights Inv-loop μ-loop
-add-weights c = search needs
+add-singles : tie.Need-add-singles Inv-loop μ-loop
+add-singles c = search needs
 
-mul-weights-3 : tie.Need-mul-weights-3 Inv-loop μ-loop
-mul-weights-3 c = search needs
+mul-singles-3 : tie.Need-mul-singles-3 Inv-loop μ-loop
+mul-singles-3 c = search needs
 
-element-write-weights : tie.Need-element-write-weights Inv-loop μ-loop
-element-write-weights c = search needs
+element-write-singles : tie.Need-element-write-singles Inv-loop μ-loop
+element-write-singles c = search needs
 
 add-x : tie.Need-add-x Inv-loop μ-loop
 add-x c = search needs
@@ -96,19 +98,21 @@ loop-again c =
     let a = c .before .before .before .before .before .before .before .args in
     let l = c .before .before .before .before .loop in
     let at = 16 * a .i + l .x in
-    let y = c .wide .result * a .p in (
+    let y = c .wide .result * a .p in
+    let within : at < length (l .singles) = omega (arith, l .inv .3 .len, c .before .before .before .before .before .before .before .pre) in (
       l .inv .0,
       l .inv .1,
       search needs,
       outside-set at y (omega arith) (omega arith) (l .inv .3),
-      below-more _ _ (λ k m. getD-set-other (l .weights) at (16 * a .i + k) y 0 (λ e. omega arith) ∙ l .inv .4 k m)
-          (getD-set-same (l .weights) at y 0 (omega (arith, l .inv .3 .len, c .before .before .before .before .before .before .before .pre)) ∙ ap (λ (d : ℕ). d * a .p) (mapped c)),
+      below-more _ _ (λ k m. getD-set-other (l .singles) at (16 * a .i + k) y 0 (λ e. omega arith) ∙ l .inv .4 k m)
+          (getD-set-same (l .singles) at y 0 within ∙ ap (λ (d : ℕ). d * a .p) (mapped c)),
+      λ low. low-more (l .singles) at y within (high c) (l .inv .5 low),
     )
 
 returns : tie.Need-returns Inv-loop μ-loop
 returns c =
     let inv = c .before .loop .inv in
-    record { weight = λ x l. inv .4 x (omega arith); weights = inv .3 }
+    record { weight = λ x l. inv .4 x (omega arith); low = inv .5; singles = inv .3 }
 
 pub place-row-spec : {M : Type 1} → statement M
 place-row-spec =
@@ -122,12 +126,12 @@ place-row-spec =
     abstract-label-requires
     byte-of-requires
     wide-requires
-    mul-weights
-    cast-weights
-    mul-weights-2
-    add-weights
-    mul-weights-3
-    element-write-weights
+    mul-singles
+    cast-singles
+    mul-singles-2
+    add-singles
+    mul-singles-3
+    element-write-singles
     add-x
     loop-less
     loop-again
