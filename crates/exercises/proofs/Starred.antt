@@ -35,12 +35,12 @@ use Rattle.backward.specs.Predecessors.{Predecessor, from-first, after, found, 
 use Rattle.backward.specs.Reversible.{reversible}
 use Rattle.backward.proofs.NextState.{next-found, none-found}
 use Rattle.backward.proofs.OneToOne.{one-predecessor, reversible-one, reversible-exactly}
-use Rattle.engine.specs.Checking.{stateConditions}
-use Rattle.engine.specs.Applying.{applyConditions, applyRule}
-use Rattle.engine.specs.Predecessors.{stepBackConditions, stepBackFrom}
-use Rattle.engine.specs.Reversing.{reversibleConditions, testReversible}
-use Rattle.engine.specs.TableCalls.{tableConditions, fillTable, testTable}
-use Rattle.engine.specs.Searching.{searchConditions, findPlan}
+use Rattle.psvn_calls.specs.Checking.{stateConditions}
+use Rattle.psvn_calls.specs.Applying.{applyConditions, applyRule}
+use Rattle.backward_calls.specs.Predecessors.{stepBackConditions, stepBackFrom}
+use Rattle.backward_calls.specs.Reversing.{reversibleConditions, testReversible}
+use Rattle.table_calls.specs.WholeTables.{tableConditions, fillTable, testTable}
+use Rattle.search_calls.specs.Searching.{searchConditions, findPlan}
 use Rattle.frames.specs.Lines.{isDigit, digitValue, digitOf}
 use Rattle.frames.specs.Reading.{readConditions}
 use Rattle.par_lines.specs.Queries.{queryConditions, searchFor, answerLine}

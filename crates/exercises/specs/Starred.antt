@@ -19,11 +19,11 @@ use Rattle.tables.specs.Tables.{passesTest}
 use Rattle.filling.specs.FilledTables.{LeastCost}
 use Rattle.backward.specs.Predecessors.{from-first, after}
 use Rattle.backward.specs.Reversible.{OneToOne}
-use Rattle.engine.specs.Applying.{done, applyRule}
-use Rattle.engine.specs.Predecessors.{stepBackFrom}
-use Rattle.engine.specs.Reversing.{testReversible}
-use Rattle.engine.specs.TableCalls.{fillTable, testTable}
-use Rattle.engine.specs.Searching.{searchAnswer, findPlan}
+use Rattle.psvn_calls.specs.Applying.{done, applyRule}
+use Rattle.backward_calls.specs.Predecessors.{stepBackFrom}
+use Rattle.backward_calls.specs.Reversing.{testReversible}
+use Rattle.table_calls.specs.WholeTables.{fillTable, testTable}
+use Rattle.search_calls.specs.Searching.{searchAnswer, findPlan}
 use Rattle.par_lines.specs.Output.{parOutput}
 
 -- one rule, <A,A,1,-,B,C> to <2,-,-,-,C,B>, over eight labels; the map sends all labels to one, and every state is a goal

@@ -1,18 +1,40 @@
 // Fills, and whether a sweep still lowered an entry.
+use libc::STDOUT_FILENO;
 use refusals::Verdict;
-use refusals::number;
 
-// 100 for a fill whose sweeps lowered nothing, 101 for one whose sweeps lowered an entry, or the refusal's number.
-pub fn fill_number(block: &[u8], table: &mut [u32]) -> u64 {
+// The fast pass found every entry, or a sweep still lowered one; or there was nothing to fill.
+enum Order {
+    Kept,
+    Late,
+    Refused,
+}
+
+fn order_of(block: &[u8], table: &mut [u32]) -> Order {
     let checked = blocks::validity::check(block);
-    if let Verdict::Refused(refusal) = checked {
-        return number(refusal) as u64;
+    if let Verdict::Refused(_) = checked {
+        return Order::Refused;
     }
     if table.len() < blocks::layout::abstract_states(block) {
-        return 12;
+        return Order::Refused;
     }
     if filling::fill(block, table) {
-        return 101;
+        return Order::Late;
     }
-    100
+    Order::Kept
+}
+
+// Fills a table and prints whether its entries were found in order.
+pub fn print_fill(block: &[u8]) {
+    let mut table = [0u32; 16384];
+    let order = order_of(block, &mut table);
+    match order {
+        Order::Kept => io::write_all(STDOUT_FILENO, b"in order\n"),
+        Order::Late => io::write_all(STDOUT_FILENO, b"late\n"),
+        Order::Refused => print_refused(),
+    }
+    ;
+}
+
+pub fn print_refused() -> bool {
+    io::write_all(STDOUT_FILENO, b"refused\n")
 }

@@ -1,11 +1,12 @@
-// Whether the fast pass of the fill leaves nothing to the sweeps behind it: in how many fills a sweep still lowered an entry.
-// A fill is right in any case; where this is not 0 it may be slow.
+// Whether the fast pass of the fill leaves nothing to the sweeps behind it: fills a table for each exercise of the input, and tells whether a sweep still lowered an entry.
+// A fill is right in any case; where one lowers an entry late it may be slow.
 mod fills;
-mod large;
-mod shapes;
-mod small;
+mod texts;
+
+use libc::STDIN_FILENO;
 
 fn main() {
-    small::print_small();
-    large::print_large();
+    let mut input = [0u8; 65536];
+    let count = io::read_full(STDIN_FILENO, &mut input);
+    texts::print_fills(&input[..count]);
 }

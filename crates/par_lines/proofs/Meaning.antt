@@ -26,7 +26,7 @@ use Rattle.frames.specs.Lines.{linesOf, lineBytes}
 use Rattle.frames.specs.Reading.{readConditions}
 use Rattle.frames.proofs.AcceptedText.{read-valid}
 use Rattle.frames.proofs.ReadBytes.{line-small, block-small}
-use Rattle.engine.specs.Searching.{longestPlan}
+use Rattle.search_calls.specs.Searching.{longestPlan}
 use Rattle.par_lines.specs.Queries.{numberOf, bytesOf, startOf, stepsOf, costLimitOf, allowanceOf, lineConditions, limitConditions, queryConditions, searchFor, answerBytes, printed, answerLine}
 use Rattle.par_lines.specs.Output.{longestInput, blockRoom, exerciseLines, exerciseOf, openConditions, printedFor, parOutput}
 use Rattle.par_lines.specs.Promises.{QueryMeans, ExerciseMeans, Means}

@@ -13,7 +13,7 @@ use Rattle.search.specs.Parts.{FoundWithin}
 use Rattle.search.specs.declared.running.Ending.{Ending}
 use Rattle.search.specs.declared.running.Ending.the-variants.{Found, NoPlan, Spent}
 use Rattle.frames.specs.Lines.{lineOk, lineBytes}
-use Rattle.engine.specs.Searching.{longestPlan}
+use Rattle.search_calls.specs.Searching.{longestPlan}
 use Rattle.par_lines.specs.Queries.{queryLength, startOf, stepsOf, lineConditions, limitConditions}
 
 module _ (b : List ℕ) where

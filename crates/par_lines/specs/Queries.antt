@@ -16,7 +16,7 @@ use Rattle.rounds.specs.Rounds as rounds
 use Rattle.search.specs.Exercises.{searchFrom}
 use Rattle.frames.specs.Lines.{lineOk, lineBytes, lineOf}
 use Rattle.frames.specs.Places.{lineFrom}
-use Rattle.engine.specs.Searching.{statusOf, longestPlan}
+use Rattle.search_calls.specs.Searching.{statusOf, longestPlan}
 use Rattle.par_lines.specs.declared.answering.Answered.{Answered}
 
 -- four bytes, the highest first: the number that a list begins with, and the bytes of a number

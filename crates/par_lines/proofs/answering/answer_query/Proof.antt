@@ -19,7 +19,7 @@ use Rattle.filling.proofs.LeastEntries.{cost-bytes, filled-length, filled-low}
 use Rattle.rounds.specs.Rounds as rounds
 use Rattle.search.specs.Exercises.{searchFrom}
 use Rattle.frames.specs.Lines.{lineOf}
-use Rattle.engine.specs.Searching.{longestPlan}
+use Rattle.search_calls.specs.Searching.{longestPlan}
 use Rattle.par_lines.specs.Queries.{numberOf, startOf, stepsOf, costLimitOf, allowanceOf, searchFor, answerBytes, printed, Written}
 use Rattle.par_lines.proofs.QueryLaws.{limits-decided, found-more}
 use Rattle.par_lines.proofs.answering.answer_query.Statement.{statement}

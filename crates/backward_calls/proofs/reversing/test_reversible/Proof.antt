@@ -1,0 +1,90 @@
+-- `backward_calls::reversing::test_reversible` meets its contract.
+-- Refused by the block or by the rule number, or whether the rule has the form.
+use mathlib.Core.Path.{_≡_, sym, ap, ap₂, _∙_}
+use mathlib.Core.Bool.{Bool}
+use mathlib.Core.List.{[], _∷_}
+use native.Mathlib.Omega.{arith}
+use lib.Dec.{ltb}
+use denote.Ref.{now}
+use borrow.Author.Tests.{lt-ltb, le-ltb}
+use borrow.Author.Needs.{needs}
+use Rattle.refusals.specs.Answers.{Answer, told, verdict, answered, _unless_}
+use Rattle.refusals.specs.Refusals.{verdictOf}
+use Rattle.refusals.proofs.Verdicts.{verdict-behind, verdict-before}
+use Rattle.blocks.specs.Layout.{rules}
+use Rattle.blocks.specs.Validity.{blockConditions, Valid}
+use Rattle.blocks.proofs.Accepted.{accepted-valid}
+use Rattle.backward.specs.Reversible.{reversible}
+use Rattle.backward_calls.specs.Reversing.{reversibleConditions, testReversible}
+use Rattle.backward_calls.proofs.reversing.test_reversible.Statement.{statement}
+use Rattle.backward_calls.proofs.reversing.test_reversible.Tie as tie
+
+-- what stands against the call
+abbrev told-of : tie.Start → Answer (Unit {0})
+told-of s = verdict (reversibleConditions (now (s .args .block)) (s .args .rule))
+
+check-requires : tie.Need-check-requires
+check-requires c κs = search needs
+
+enum-known-checked : tie.Need-enum-known-checked
+enum-known-checked c = search needs
+
+returns : tie.Need-returns
+unfolding testReversible reversibleConditions
+returns c =
+    let a = c .before .before .before .before .before .args in
+    let against = sym (c .before .before .before .check .ensures) ∙ ap verdictOf (c .before .checked .given .1) in
+    sym (ap (λ (v : Answer (Unit {0})). answered v (reversible (now (a .block)) (a .rule))) (verdict-before (blockConditions (now (a .block))) _ _ against))
+
+enum-told : tie.Need-enum-told
+enum-told c = search needs
+
+-- the block is accepted, and the rule number decides
+accepted : (c : tie.After-enum-told) → verdict (blockConditions (now (c .before .before .before .before .args .block))) ≡ told tt
+accepted c = sym (c .before .before .check .ensures) ∙ ap verdictOf (c .enum-told .given .1)
+
+valid : (c : tie.After-enum-told) → Valid (now (c .before .before .before .before .args .block))
+valid c = accepted-valid (now (c .before .before .before .before .args .block)) (accepted c)
+
+decided : (c : tie.After-enum-told) (rule : Bool) → ltb (c .before .before .before .before .args .rule) (rules (now (c .before .before .before .before .args .block))) ≡ rule → told-of (c .before .before .before .before) ≡ verdict (9 unless rule ∷ [])
+unfolding reversibleConditions
+decided c rule p =
+    verdict-behind (blockConditions (now (c .before .before .before .before .args .block))) _ (accepted c) ∙ ap (λ (t : Bool). verdict (9 unless t ∷ [])) p
+
+rules-requires : tie.Need-rules-requires
+rules-requires c κs = valid c .sized .head .long
+
+returns-2 : tie.Need-returns-2
+unfolding testReversible
+returns-2 c =
+    let a = c .before .before .before .before .before .before .args in
+    sym (ap (λ (v : Answer (Unit {0})). answered v (reversible (now (a .block)) (a .rule))) (decided (c .before .before) _ (le-ltb (a .rule) (rules (now (a .block))) (omega arith))))
+
+reversible-requires : tie.Need-reversible-requires
+reversible-requires c κs = (valid (c .before .before) .sized, omega arith)
+
+returns-3 : tie.Need-returns-3
+unfolding testReversible
+returns-3 c =
+    let a = c .before .before .before .before .before .before .before .before .args in
+    sym (ap₂ (answered {A = Bool}) (decided (c .before .before .before .before) _ (lt-ltb (a .rule) (rules (now (a .block))) (omega arith))) (sym (c .before .reversible .ensures) ∙ c .if2 .taken))
+
+returns-4 : tie.Need-returns-4
+unfolding testReversible
+returns-4 c =
+    let a = c .before .before .before .before .before .before .before .before .args in
+    sym (ap₂ (answered {A = Bool}) (decided (c .before .before .before .before) _ (lt-ltb (a .rule) (rules (now (a .block))) (omega arith))) (sym (c .before .reversible .ensures) ∙ c .if2 .left))
+
+pub test-reversible-spec : {M : Type 1} → statement M
+test-reversible-spec =
+    tie.close
+    (tie.spec
+    check-requires
+    enum-known-checked
+    returns
+    enum-told
+    rules-requires
+    returns-2
+    reversible-requires
+    returns-3
+    returns-4)

@@ -1,0 +1,3 @@
+-- What the proofs of the conversions share.
+-- Each goes by the cases of an enum.
+pub mod Cases

@@ -1,0 +1,48 @@
+// Calls that write a block, and answer its length.
+ghost use mathlib.Core.Path.{_≡_};
+ghost use Rattle.refusals.specs.Answers.{refused};
+ghost use Rattle.refusals.specs.Refusals.{refusalNumber};
+ghost use Rattle.frames.specs.Reading.{readingOf};
+ghost use Rattle.psvn_calls.specs.Relabelling.{relabellingOf};
+ghost use Rattle.c_answers.specs.Numbers.{lengthOf};
+use super::verdicts::number_of;
+use engine::Reading;
+use engine::Relabelling;
+use refusals::Refusal;
+
+// How many bytes were written.
+#[repr(C)]
+pub struct Length {
+    pub refusal: u32,
+    pub length: usize,
+}
+
+// The length of a refused call.
+fn not_written(refusal: Refusal) -> Length
+    ensures { λ r. ⌜ r ≡ lengthOf (refused (refusalNumber refusal)) ⌝ }
+{
+    Length {
+        refusal: number_of(refusal),
+        length: 0,
+    }
+}
+
+// What reading an exercise answers.
+pub fn read(reading: Reading) -> Length
+    ensures { λ r. ⌜ r ≡ lengthOf (readingOf reading) ⌝ }
+{
+    match reading {
+        Reading::Done(length) => Length { refusal: 0, length },
+        Reading::Refused(refusal) => not_written(refusal),
+    }
+}
+
+// What relabelling a block answers.
+pub fn relabelled(relabelling: Relabelling) -> Length
+    ensures { λ r. ⌜ r ≡ lengthOf (relabellingOf relabelling) ⌝ }
+{
+    match relabelling {
+        Relabelling::Done(length) => Length { refusal: 0, length },
+        Relabelling::Refused(refusal) => not_written(refusal),
+    }
+}

@@ -1,0 +1,26 @@
+// The answers of the public calls in numbers, since C knows no enum that holds values: the structs, and for each enum of `engine` what turns it into numbers.
+// The members stand in the order of include/mikjuqan.h; `refusal` is 0, or the refusal's number, and all else is then 0.
+mod decisions;
+mod entries;
+mod lengths;
+mod plans;
+mod run_ends;
+mod verdicts;
+
+pub use decisions::Decision;
+pub use decisions::applied;
+pub use decisions::met;
+pub use decisions::passes;
+pub use decisions::reversible;
+pub use decisions::stepped_back;
+pub use entries::Entry;
+pub use entries::looked_up;
+pub use lengths::Length;
+pub use lengths::read;
+pub use lengths::relabelled;
+pub use plans::Plan;
+pub use plans::searched;
+pub use run_ends::RunEnd;
+pub use run_ends::replayed;
+pub use verdicts::checked;
+pub use verdicts::filled;

@@ -1,0 +1,12 @@
+-- From the outcome that `engine` ensures to what C receives: `carried` gives the answer in numbers, and the buffer.
+-- `shown` are the numbers of an answer. The proofs of all calls with a buffer rest on this.
+use mathlib.Core.Path.{_≡_, ap, _∙_}
+use mathlib.Core.List.{List}
+use Prim.Native.Nat.{ℕ}
+use Rattle.refusals.specs.Answers.{Answer, Outcome, outcome}
+
+pub carried :
+    {A B : Type 0} (shown : Answer A → B) {a : Answer A} {r : B} {out : List ℕ} {o : Outcome A}
+    → outcome a out ≡ o → r ≡ shown a → (r ≡ shown (o .answer)) × (out ≡ o .out)
+carried {A} shown e made =
+    (made ∙ ap (λ (o : Outcome A). shown (o .answer)) e, ap (λ (o : Outcome A). o .out) e)

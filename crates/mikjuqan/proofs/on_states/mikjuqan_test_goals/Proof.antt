@@ -1,0 +1,19 @@
+-- `mikjuqan::on_states::mikjuqan_test_goals` meets its contract.
+-- The answer is that of the call of `engine`.
+use mathlib.Core.Path.{ap, _∙_}
+use borrow.Author.Needs.{needs}
+use Rattle.c_answers.specs.Numbers.{decisionOf}
+use Rattle.mikjuqan.proofs.on_states.mikjuqan_test_goals.Statement.{statement}
+use Rattle.mikjuqan.proofs.on_states.mikjuqan_test_goals.Tie as tie
+
+test-goals-requires : tie.Need-test-goals-requires
+test-goals-requires c κs = search needs
+
+met-requires : tie.Need-met-requires
+met-requires c κs = search needs
+
+returns : tie.Need-returns
+returns c = c .met .ensures ∙ ap decisionOf (c .before .test-goals .ensures)
+
+pub mikjuqan-test-goals-spec : {M : Type 1} → statement M
+mikjuqan-test-goals-spec = tie.close (tie.spec test-goals-requires met-requires returns)

@@ -1,0 +1,70 @@
+// The calls on a state: applying a rule, the goal test, stepping back; and whether a rule is reversible by form.
+ghost use mathlib.Core.Path.{_≡_};
+ghost use Rattle.backward.specs.Predecessors.{from-first, after};
+ghost use Rattle.psvn_calls.specs.Applying.{applyRule};
+ghost use Rattle.psvn_calls.specs.Goals.{testGoals};
+ghost use Rattle.backward_calls.specs.Predecessors.{stepBackFrom};
+ghost use Rattle.backward_calls.specs.Reversing.{testReversible};
+ghost use Rattle.c_answers.specs.Numbers.{decisionOf, appliedOf};
+use c_answers::Decision;
+
+// Yes where the rule applies; the new state then stands at the front of `out`.
+#[no_mangle]
+pub extern "C" fn mikjuqan_apply_rule(
+    block: &[u8],
+    rule: usize,
+    state: &[u8],
+    out: &mut [u8],
+) -> Decision
+    ensures { λ r. ⌜ (let o = applyRule (now (block .entry)) rule (now (state .entry)) (now (out .entry)) in (r ≡ appliedOf (o .answer)) × (now (out .exit) ≡ o .out)) ⌝ }
+{
+    let application = engine::apply_rule(block, rule, state, out);
+    c_answers::applied(application)
+}
+
+// Yes where the state meets a goal.
+#[no_mangle]
+pub extern "C" fn mikjuqan_test_goals(block: &[u8], state: &[u8]) -> Decision
+    ensures { λ r. ⌜ r ≡ decisionOf (testGoals (now (block .entry)) (now (state .entry))) ⌝ }
+{
+    let test = engine::test_goals(block, state);
+    c_answers::met(test)
+}
+
+// Yes where the rule takes some state to `state`; the first one in rank order then stands at the front of `out`.
+#[no_mangle]
+pub extern "C" fn mikjuqan_first_predecessor(
+    block: &[u8],
+    rule: usize,
+    state: &[u8],
+    out: &mut [u8],
+) -> Decision
+    ensures { λ r. ⌜ (let o = stepBackFrom (now (block .entry)) rule (now (state .entry)) from-first (now (out .entry)) in (r ≡ decisionOf (o .answer)) × (now (out .exit) ≡ o .out)) ⌝ }
+{
+    let predecessor = engine::first_predecessor(block, rule, state, out);
+    c_answers::stepped_back(predecessor)
+}
+
+// The same for the next one in rank order after `earlier`, which may be any state.
+#[no_mangle]
+pub extern "C" fn mikjuqan_next_predecessor(
+    block: &[u8],
+    rule: usize,
+    state: &[u8],
+    earlier: &[u8],
+    out: &mut [u8],
+) -> Decision
+    ensures { λ r. ⌜ (let o = stepBackFrom (now (block .entry)) rule (now (state .entry)) (after (now (earlier .entry))) (now (out .entry)) in (r ≡ decisionOf (o .answer)) × (now (out .exit) ≡ o .out)) ⌝ }
+{
+    let predecessor = engine::next_predecessor(block, rule, state, earlier, out);
+    c_answers::stepped_back(predecessor)
+}
+
+// Yes where the rule is reversible by form.
+#[no_mangle]
+pub extern "C" fn mikjuqan_test_reversible(block: &[u8], rule: usize) -> Decision
+    ensures { λ r. ⌜ r ≡ decisionOf (testReversible (now (block .entry)) rule) ⌝ }
+{
+    let reversibility = engine::test_reversible(block, rule);
+    c_answers::reversible(reversibility)
+}

@@ -1,0 +1,34 @@
+// The calls on a table: filling it, testing it, looking an estimate up.
+ghost use mathlib.Core.Path.{_≡_};
+ghost use Rattle.table_calls.specs.Estimating.{lookUpEstimate};
+ghost use Rattle.table_calls.specs.WholeTables.{fillTable, testTable};
+ghost use Rattle.c_answers.specs.Numbers.{refusalOf, decisionOf, entryOf};
+use c_answers::Decision;
+use c_answers::Entry;
+
+// 0 where the table was filled, or the number that the call is refused with.
+#[no_mangle]
+pub extern "C" fn mikjuqan_fill_table(block: &[u8], table: &mut [u32]) -> u32
+    ensures { λ r. ⌜ (let o = fillTable (now (block .entry)) (now (table .entry)) in (r ≡ refusalOf (o .answer)) × (now (table .exit) ≡ o .out)) ⌝ }
+{
+    let filling = engine::fill_table(block, table);
+    c_answers::filled(filling)
+}
+
+// Yes where the table passes the lower-bound test.
+#[no_mangle]
+pub extern "C" fn mikjuqan_test_table(block: &[u8], table: &[u32]) -> Decision
+    ensures { λ r. ⌜ r ≡ decisionOf (testTable (now (block .entry)) (now (table .entry))) ⌝ }
+{
+    let test = engine::test_table(block, table);
+    c_answers::passes(test)
+}
+
+// The entry of the table for a state; the table is not tested.
+#[no_mangle]
+pub extern "C" fn mikjuqan_look_up_estimate(block: &[u8], state: &[u8], table: &[u32]) -> Entry
+    ensures { λ r. ⌜ r ≡ entryOf (lookUpEstimate (now (block .entry)) (now (state .entry)) (now (table .entry))) ⌝ }
+{
+    let estimate = engine::look_up_estimate(block, state, table);
+    c_answers::looked_up(estimate)
+}

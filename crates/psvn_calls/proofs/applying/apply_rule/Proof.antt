@@ -1,0 +1,97 @@
+-- `psvn_calls::applying::apply_rule` meets its contract.
+-- Refused with the buffer as it was, or what the rule makes of the state.
+use mathlib.Core.Path.{_≡_, sym, ap, ap₂, _∙_}
+use mathlib.Core.Bool.{Bool, cond}
+use lib.ListN.{length}
+use denote.Ref.{now}
+use borrow.Author.Needs.{needs}
+use Rattle.basics.specs.Lists.{atFront}
+use Rattle.refusals.specs.Answers.{Answer, told, verdict, Outcome, outcome, guarded}
+use Rattle.refusals.specs.Refusals.{verdictOf}
+use Rattle.blocks.specs.Layout.{positions, labelCount}
+use Rattle.psvn.specs.Rules.{applies, step}
+use Rattle.blocks.proofs.StateLaws.{labelled-length}
+use Rattle.psvn_calls.specs.Applying.{Applied, done, does-not-apply, applyConditions, applyRule}
+use Rattle.psvn_calls.proofs.Conditions.{ApplyAccepted, apply-accepted}
+use Rattle.psvn_calls.proofs.applying.apply_rule.Statement.{statement}
+use Rattle.psvn_calls.proofs.applying.apply_rule.Tie as tie
+
+-- what stands against the call
+abbrev told-of : tie.Start → Answer (Unit {0})
+told-of s =
+    verdict (applyConditions (now (s .args .block)) (s .args .rule) (now (s .args .state)) (length (now (s .args .out))))
+
+-- the outcome by the verdict and by whether the rule applies
+abbrev settled : tie.Start → Answer (Unit {0}) → Bool → Outcome Applied
+settled s verdict applies =
+    let out = now (s .args .out) in
+    let new = step (now (s .args .block)) (s .args .rule) (now (s .args .state)) in
+    guarded verdict out (cond applies (outcome (told done) (atFront new out)) (outcome (told does-not-apply) out))
+
+check-application-requires : tie.Need-check-application-requires
+check-application-requires c κs = search needs
+
+enum-known-checked : tie.Need-enum-known-checked
+enum-known-checked c = search needs
+
+returns : tie.Need-returns
+unfolding applyRule
+returns c =
+    let a = c .before .before .before .before .before .before .before .args in
+    let against = sym (c .before .before .before .check-application .ensures) ∙ ap verdictOf (c .before .checked .given .1) in
+    sym (ap (λ (v : Answer (Unit {0})). settled (c .before .before .before .before .before .before .before) v (applies (now (a .block)) (a .rule) (now (a .state)))) against)
+
+enum-told : tie.Need-enum-told
+enum-told c = search needs
+
+-- the call is accepted
+accepted : (c : tie.After-enum-told) → told-of (c .before .before .before .before .before .before) ≡ told tt
+accepted c = sym (c .before .before .check-application .ensures) ∙ ap verdictOf (c .enum-told .given .1)
+
+abbrev Ready : tie.Start → Type 0
+Ready s = ApplyAccepted (now (s .args .block)) (now (s .args .state)) (s .args .rule) (length (now (s .args .out)))
+
+ready : (c : tie.After-enum-told) → Ready (c .before .before .before .before .before .before)
+ready c =
+    let a = c .before .before .before .before .before .before .args in
+    apply-accepted (now (a .block)) (now (a .state)) (a .rule) (length (now (a .out))) (accepted c)
+
+long : (c : tie.After-enum-told) → length (now (c .before .before .before .before .before .before .args .state)) ≡ positions (now (c .before .before .before .before .before .before .args .block))
+long c =
+    let b = now (c .before .before .before .before .before .before .args .block) in
+    labelled-length (positions b) (labelCount b) (now (c .before .before .before .before .before .before .args .state)) (ready c .state)
+
+applies-requires : tie.Need-applies-requires
+applies-requires c κs = (ready c .valid .sized, ready c .rule, long c)
+
+step-requires : tie.Need-step-requires
+step-requires c κs =
+    let d = c .before .before .before in
+    (ready d .valid .sized, ready d .rule, long d, ready d .room-left)
+
+same-length : tie.Need-same-length
+same-length c = search needs
+
+returns-2 : tie.Need-returns-2
+unfolding applyRule
+returns-2 c =
+    let applies = sym (c .before .before .before .before .before .applies .ensures) ∙ c .before .before .before .before .if1 .taken in
+    ap (outcome (told done)) (c .before .before .step .ensures) ∙ sym (ap₂ (settled (c .before .before .before .before .before .before .before .before .before .before .before .before)) (accepted (c .before .before .before .before .before .before)) applies)
+
+returns-3 : tie.Need-returns-3
+unfolding applyRule
+returns-3 c = sym (ap₂ (settled (c .before .before .before .before .before .before .before .before)) (accepted (c .before .before)) (sym (c .before .applies .ensures) ∙ c .if1 .left))
+
+pub apply-rule-spec : {M : Type 1} → statement M
+apply-rule-spec =
+    tie.close
+    (tie.spec
+    check-application-requires
+    enum-known-checked
+    returns
+    enum-told
+    applies-requires
+    step-requires
+    same-length
+    returns-2
+    returns-3)

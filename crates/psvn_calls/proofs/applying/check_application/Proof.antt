@@ -1,0 +1,100 @@
+-- `psvn_calls::applying::check_application` meets its contract.
+-- What turns block and state back, else the rule number, else the room.
+use mathlib.Core.Path.{_≡_, refl, sym, ap, ap₂, _∙_}
+use mathlib.Core.Bool.{Bool}
+use mathlib.Core.List.{[], _∷_}
+use native.Mathlib.Omega.{arith}
+use lib.Dec.{leb, ltb}
+use denote.Ref.{now}
+use borrow.Author.Tests.{lt-ltb, le-ltb, le-leb, lt-leb}
+use borrow.Author.Needs.{needs}
+use Rattle.refusals.specs.Answers.{Answer, told, verdict, _unless_}
+use Rattle.refusals.specs.Refusals.{verdictOf}
+use Rattle.refusals.proofs.Verdicts.{verdict-behind, verdict-before}
+use Rattle.blocks.specs.Layout.{positions, rules}
+use Rattle.psvn_calls.specs.Checking.{stateConditions}
+use Rattle.psvn_calls.specs.Applying.{applyConditions}
+use Rattle.psvn_calls.proofs.Conditions.{state-accepted}
+use Rattle.psvn_calls.proofs.applying.check_application.Statement.{statement}
+use Rattle.psvn_calls.proofs.applying.check_application.Tie as tie
+
+-- what stands against the call, and whether its rule number and its room are right
+abbrev told-of : tie.Start → Answer (Unit {0})
+told-of s = verdict (applyConditions (now (s .args .block)) (s .args .rule) (now (s .args .state)) (s .args .room))
+
+abbrev rule-ok : tie.Start → Bool
+rule-ok s = ltb (s .args .rule) (rules (now (s .args .block)))
+
+abbrev room-ok : tie.Start → Bool
+room-ok s = leb (positions (now (s .args .block))) (s .args .room)
+
+check-state-requires : tie.Need-check-state-requires
+check-state-requires c κs = search needs
+
+enum-known-checked : tie.Need-enum-known-checked
+enum-known-checked c = search needs
+
+returns : tie.Need-returns
+unfolding applyConditions
+returns c =
+    let a = c .before .before .before .before .before .before .args in
+    let against = sym (c .before .before .before .check-state .ensures) ∙ ap verdictOf (c .before .checked .given .1) in
+    sym (verdict-before (stateConditions (now (a .block)) (now (a .state))) _ _ against)
+
+enum-told : tie.Need-enum-told
+enum-told c = search needs
+
+-- block and state are accepted
+accepted : (c : tie.After-enum-told) → verdict (stateConditions (now (c .before .before .before .before .before .args .block)) (now (c .before .before .before .before .before .args .state))) ≡ told tt
+accepted c = sym (c .before .before .check-state .ensures) ∙ ap verdictOf (c .enum-told .given .1)
+
+-- then rule number and room decide
+decided :
+    (c : tie.After-enum-told) (rule room : Bool) → rule-ok (c .before .before .before .before .before) ≡ rule → room-ok (c .before .before .before .before .before) ≡ room
+    → told-of (c .before .before .before .before .before) ≡ verdict (9 unless rule ∷ 11 unless room ∷ [])
+unfolding applyConditions
+decided c rule room p q =
+    let a = c .before .before .before .before .before .args in
+    verdict-behind (stateConditions (now (a .block)) (now (a .state))) _ (accepted c)
+    ∙ ap₂ (λ (t u : Bool). verdict (9 unless t ∷ 11 unless u ∷ [])) p q
+
+rules-requires : tie.Need-rules-requires
+rules-requires c κs =
+    let a = c .before .before .before .before .before .args in
+    state-accepted (now (a .block)) (now (a .state)) (accepted c) .valid .sized .head .long
+
+returns-2 : tie.Need-returns-2
+returns-2 c =
+    let a = c .before .before .before .before .before .before .before .args in
+    sym (decided (c .before .before) _ _ (le-ltb (a .rule) (rules (now (a .block))) (omega arith)) refl)
+
+positions-requires : tie.Need-positions-requires
+positions-requires c κs =
+    let a = c .before .before .before .before .before .before .before .args in
+    state-accepted (now (a .block)) (now (a .state)) (accepted (c .before .before)) .valid .sized .head .long
+
+returns-3 : tie.Need-returns-3
+returns-3 c =
+    let a = c .before .before .before .before .before .before .before .before .before .args in
+    let b = now (a .block) in
+    sym (decided (c .before .before .before .before) _ _ (lt-ltb (a .rule) (rules b) (omega arith)) (lt-leb (positions b) (a .room) (omega arith)))
+
+returns-4 : tie.Need-returns-4
+returns-4 c =
+    let a = c .before .before .before .before .before .before .before .before .before .args in
+    let b = now (a .block) in
+    sym (decided (c .before .before .before .before) _ _ (lt-ltb (a .rule) (rules b) (omega arith)) (le-leb (positions b) (a .room) (omega arith)))
+
+pub check-application-spec : {M : Type 1} → statement M
+check-application-spec =
+    tie.close
+    (tie.spec
+    check-state-requires
+    enum-known-checked
+    returns
+    enum-told
+    rules-requires
+    returns-2
+    positions-requires
+    returns-3
+    returns-4)

@@ -1,0 +1,63 @@
+-- `psvn_calls::goals::test_goals` meets its contract.
+-- Refused, or whether the state meets a goal.
+use mathlib.Core.Path.{_≡_, sym, ap, ap₂, _∙_}
+use mathlib.Core.Bool.{Bool}
+use denote.Ref.{now}
+use borrow.Author.Needs.{needs}
+use Rattle.refusals.specs.Answers.{Answer, told, verdict, answered}
+use Rattle.refusals.specs.Refusals.{verdictOf}
+use Rattle.blocks.specs.Layout.{positions, labelCount}
+use Rattle.psvn.specs.Rules.{meets}
+use Rattle.blocks.proofs.StateLaws.{labelled-length}
+use Rattle.psvn_calls.specs.Checking.{stateConditions}
+use Rattle.psvn_calls.specs.Goals.{testGoals}
+use Rattle.psvn_calls.proofs.Conditions.{StateAccepted, state-accepted}
+use Rattle.psvn_calls.proofs.goals.test_goals.Statement.{statement}
+use Rattle.psvn_calls.proofs.goals.test_goals.Tie as tie
+
+check-state-requires : tie.Need-check-state-requires
+check-state-requires c κs = search needs
+
+enum-known-checked : tie.Need-enum-known-checked
+enum-known-checked c = search needs
+
+returns : tie.Need-returns
+unfolding testGoals
+returns c =
+    let a = c .before .before .before .before .before .before .args in
+    sym (ap (λ (v : Answer (Unit {0})). answered v (meets (now (a .block)) (now (a .state)))) (sym (c .before .before .before .check-state .ensures) ∙ ap verdictOf (c .before .checked .given .1)))
+
+enum-told : tie.Need-enum-told
+enum-told c = search needs
+
+-- the call is accepted
+accepted : (c : tie.After-enum-told) → verdict (stateConditions (now (c .before .before .before .before .before .args .block)) (now (c .before .before .before .before .before .args .state))) ≡ told tt
+accepted c = sym (c .before .before .check-state .ensures) ∙ ap verdictOf (c .enum-told .given .1)
+
+ready : (c : tie.After-enum-told) → StateAccepted (now (c .before .before .before .before .before .args .block)) (now (c .before .before .before .before .before .args .state))
+ready c = state-accepted (now (c .before .before .before .before .before .args .block)) (now (c .before .before .before .before .before .args .state)) (accepted c)
+
+meets-requires : tie.Need-meets-requires
+meets-requires c κs =
+    let b = now (c .before .before .before .before .before .args .block) in
+    (ready c .valid .sized, labelled-length (positions b) (labelCount b) (now (c .before .before .before .before .before .args .state)) (ready c .state))
+
+returns-2 : tie.Need-returns-2
+unfolding testGoals
+returns-2 c = sym (ap₂ (answered {A = Bool}) (accepted (c .before .before)) (sym (c .before .meets .ensures) ∙ c .if1 .taken))
+
+returns-3 : tie.Need-returns-3
+unfolding testGoals
+returns-3 c = sym (ap₂ (answered {A = Bool}) (accepted (c .before .before)) (sym (c .before .meets .ensures) ∙ c .if1 .left))
+
+pub test-goals-spec : {M : Type 1} → statement M
+test-goals-spec =
+    tie.close
+    (tie.spec
+    check-state-requires
+    enum-known-checked
+    returns
+    enum-told
+    meets-requires
+    returns-2
+    returns-3)

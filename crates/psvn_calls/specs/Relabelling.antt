@@ -1,0 +1,27 @@
+-- Relabelling a block, as a public call: `relabelExercise` is the answer with the final contents of the lent buffer, for every input.
+-- `relabellingOf` gives the document's answer for each case of the enum.
+use Prim.Native.Nat.{ℕ}
+use mathlib.Core.List.{List, [], _∷_, _++_}
+use lib.Dec.{leb}
+use lib.ListN.{length}
+use Rattle.basics.specs.Lists.{atFront}
+use Rattle.refusals.specs.Answers.{Answer, refused, told, Condition, _unless_, verdict, Outcome, outcome, guarded}
+use Rattle.refusals.specs.Refusals.{refusalNumber}
+use Rattle.blocks.specs.Validity.{blockConditions}
+use Rattle.psvn.specs.Relabelling.{relabelBlock}
+use Rattle.psvn_calls.specs.declared.relabelling.Relabelling.{Relabelling}
+use Rattle.psvn_calls.specs.declared.relabelling.Relabelling.the-variants.{Done, Refused}
+
+-- the length of the relabelled block
+abbrev pub relabellingOf : Relabelling → Answer ℕ
+relabellingOf (Done length) = told length
+relabellingOf (Refused refusal) = refused (refusalNumber refusal)
+
+-- 3 to 7, then 11, which measures the block to be written
+unfoldable pub relabelConditions : List ℕ → List ℕ → List Condition
+relabelConditions b out = blockConditions b ++ (11 unless leb (length (relabelBlock b)) (length out) ∷ [])
+
+unfoldable pub relabelExercise : List ℕ → List ℕ → Outcome ℕ
+relabelExercise b out =
+    guarded (verdict (relabelConditions b out)) out
+    (outcome (told (length (relabelBlock b))) (atFront (relabelBlock b) out))

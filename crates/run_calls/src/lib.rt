@@ -1,0 +1,5 @@
+// The public call that replays a recorded run.
+mod replaying;
+
+pub use replaying::Replay;
+pub use replaying::replay_run;

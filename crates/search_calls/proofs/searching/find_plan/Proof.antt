@@ -1,0 +1,144 @@
+-- `search_calls::searching::find_plan` meets its contract.
+-- Refused with the buffer as it was, or the search's answer with the plan at the front of the buffer, and demand 3 for it.
+use mathlib.Core.Path.{_≡_, sym, ap, _∙_, subst}
+use mathlib.Core.List.{List}
+use Prim.Native.Nat.{ℕ}
+use lib.ListN.{length}
+use denote.Ref.{now}
+use borrow.Author.Needs.{needs}
+use Rattle.basics.specs.Lists.{atFront}
+use Rattle.refusals.specs.Answers.{Answer, told, verdict, Outcome, outcome, guarded}
+use Rattle.refusals.specs.Refusals.{verdictOf}
+use Rattle.tables.proofs.Promises.{lower-bound}
+use Rattle.rounds.specs.Rounds.{plan}
+use Rattle.search.specs.Exercises.{searchFrom}
+use Rattle.search.specs.Parts.{Answers}
+use Rattle.search.specs.declared.running.Ending.{Ending}
+use Rattle.search_calls.specs.Searching.{SearchAnswer, searchOf, reported, searchConditions, findPlan, PlanKept}
+use Rattle.search_calls.specs.declared.searching.Search.{Search}
+use Rattle.search_calls.proofs.Conditions.{SearchAccepted, search-accepted}
+use Rattle.search_calls.proofs.SearchAnswers.{givenAs, answered-by, kept-by}
+use Rattle.search_calls.proofs.searching.find_plan.Statement.{statement}
+use Rattle.search_calls.proofs.searching.find_plan.Tie as tie
+
+-- what stands against the call, and the outcome by that
+abbrev told-of : tie.Start → Answer (Unit {0})
+told-of s =
+    let a = s .args in
+    verdict (searchConditions (now (a .block)) (now (a .start)) (a .steps) (length (now (a .plan))) (now (a .table)))
+
+abbrev settled : tie.Start → Answer (Unit {0}) → Outcome SearchAnswer
+settled s verdict =
+    let a = s .args in
+    let x = searchFrom (now (a .block)) (now (a .table)) (a .steps) (a .cost) (a .visits) (now (a .start)) in
+    guarded verdict (now (a .plan)) (outcome (told (reported x)) (atFront (plan x) (now (a .plan))))
+
+-- what an accepted call knows, how the search layer ends, and demand 3, all of the call's arguments
+abbrev Accepted : tie.Start → Type 0
+Accepted s =
+    let a = s .args in
+    SearchAccepted (now (a .block)) (now (a .start)) (a .steps) (length (now (a .plan))) (now (a .table))
+
+abbrev Ended : tie.Start → List ℕ → Ending → Type 0
+Ended s out x =
+    let a = s .args in
+    Answers (now (a .block)) (now (a .table)) (a .steps) (a .cost) (a .visits) (now (a .start)) (now (a .plan)) out x
+
+abbrev Promised : tie.Start → Search → List ℕ → Type 0
+Promised s r out =
+    let a = s .args in
+    PlanKept (now (a .block)) (now (a .start)) (a .steps) (a .cost) (a .visits) (now (a .table)) r out
+
+check-search-requires : tie.Need-check-search-requires
+check-search-requires c κs = search needs
+
+enum-known-checked : tie.Need-enum-known-checked
+enum-known-checked c = search needs
+
+returns : tie.Need-returns
+unfolding findPlan
+returns c =
+    let against = sym (c .before .before .before .check-search .ensures) ∙ ap verdictOf (c .before .checked .given .1) in
+    (sym (ap (settled (c .before .before .before .before .before .before .before .before)) against), tt)
+
+enum-told : tie.Need-enum-told
+enum-told c = search needs
+
+-- the call is accepted
+accepted : (c : tie.After-enum-told) → told-of (c .before .before .before .before .before .before .before) ≡ told tt
+accepted c = sym (c .before .before .check-search .ensures) ∙ ap verdictOf (c .enum-told .given .1)
+
+ready : (c : tie.After-enum-told) → Accepted (c .before .before .before .before .before .before .before)
+ready c =
+    let a = c .before .before .before .before .before .before .before .args in
+    search-accepted (now (a .block)) (now (a .start)) (a .steps) (length (now (a .plan))) (now (a .table)) (accepted c)
+
+-- what the call gives where the search layer ends with x, which is r, and demand 3 for it
+gives :
+    (c : tie.After-enum-told) (x r : Ending) (out : List ℕ) → x ≡ r → Ended (c .before .before .before .before .before .before .before) out x
+    → (outcome (searchOf (givenAs r)) out ≡ settled (c .before .before .before .before .before .before .before) (told-of (c .before .before .before .before .before .before .before))) × Promised (c .before .before .before .before .before .before .before) (givenAs r) out
+gives c x r out e h =
+    let s = c .before .before .before .before .before .before .before in
+    let a = s .args in
+    let k = subst (Ended s out) e h in (
+      answered-by (now (a .block)) (now (a .table)) (a .steps) (a .cost) (a .visits) (now (a .start)) (now (a .plan)) out (ready c .room-left) r k ∙ sym (ap (settled s) (accepted c)),
+      kept-by (now (a .block)) (now (a .table)) (a .steps) (a .cost) (a .visits) (now (a .start)) (now (a .plan)) out r k,
+    )
+
+find-plan-requires : tie.Need-find-plan-requires
+find-plan-requires c κs =
+    let a = c .before .before .before .before .before .before .before .before .args in
+    let h = ready (c .before) in
+    ((h .valid, h .state, h .steps-few, h .room-left, h .entries), lower-bound (now (a .block)) (h .valid) (now (a .table)) (h .passing))
+
+enum-known-ending : tie.Need-enum-known-ending
+enum-known-ending c = search needs
+
+enum-known-ending-2 : tie.Need-enum-known-ending-2
+enum-known-ending-2 c = search needs
+
+enum-known-ending-3 : tie.Need-enum-known-ending-3
+enum-known-ending-3 c = search needs
+
+same-length : tie.Need-same-length
+same-length c = search needs
+
+returns-2 : tie.Need-returns-2
+unfolding findPlan
+returns-2 c =
+    gives (c .before .before .before .before .before .before .before) _ _ _ (c .before .ending .given .1) (c .before .before .before .before .before .find-plan .ensures)
+
+same-length-2 : tie.Need-same-length-2
+same-length-2 c = search needs
+
+returns-3 : tie.Need-returns-3
+unfolding findPlan
+returns-3 c =
+    gives (c .before .before .before .before .before .before .before) _ _ _ (c .before .ending2 .given .1) (c .before .before .before .before .before .find-plan .ensures)
+
+same-length-3 : tie.Need-same-length-3
+same-length-3 c = search needs
+
+returns-4 : tie.Need-returns-4
+unfolding findPlan
+returns-4 c =
+    gives (c .before .before .before .before .before .before .before) _ _ _ (c .before .ending3 .given .1) (c .before .before .before .before .before .find-plan .ensures)
+
+pub find-plan-spec : {M : Type 1} → statement M
+find-plan-spec =
+    tie.close
+    (tie.spec
+    check-search-requires
+    enum-known-checked
+    returns
+    enum-told
+    find-plan-requires
+    enum-known-ending
+    enum-known-ending-2
+    enum-known-ending-3
+    same-length
+    returns-2
+    same-length-2
+    returns-3
+    same-length-3
+    returns-4)

@@ -1,0 +1,5 @@
+// The public call that searches for a plan.
+mod searching;
+
+pub use searching::Search;
+pub use searching::find_plan;

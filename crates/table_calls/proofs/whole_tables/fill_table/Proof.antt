@@ -1,0 +1,57 @@
+-- `table_calls::whole_tables::fill_table` meets its contract.
+-- Refused with the table as it was, or the filled table at its front.
+use mathlib.Core.Path.{_≡_, sym, ap, _∙_}
+use lib.ListN.{length}
+use denote.Ref.{now}
+use borrow.Author.Needs.{needs}
+use Rattle.basics.specs.Lists.{atFront}
+use Rattle.refusals.specs.Answers.{Answer, told, verdict, Outcome, outcome, guarded}
+use Rattle.refusals.specs.Refusals.{verdictOf}
+use Rattle.filling.specs.FilledTables.{filled}
+use Rattle.table_calls.specs.WholeTables.{tableConditions, fillTable}
+use Rattle.table_calls.proofs.Conditions.{table-accepted}
+use Rattle.table_calls.proofs.whole_tables.fill_table.Statement.{statement}
+use Rattle.table_calls.proofs.whole_tables.fill_table.Tie as tie
+
+-- the outcome by the verdict
+abbrev settled : tie.Start → Answer (Unit {0}) → Outcome (Unit {0})
+settled s verdict =
+    guarded verdict (now (s .args .table)) (outcome (told tt) (atFront (filled (now (s .args .block))) (now (s .args .table))))
+
+check-table-requires : tie.Need-check-table-requires
+check-table-requires c κs = search needs
+
+enum-known-checked : tie.Need-enum-known-checked
+enum-known-checked c = search needs
+
+returns : tie.Need-returns
+unfolding fillTable
+returns c =
+    sym (ap (settled (c .before .before .before .before .before .before)) (sym (c .before .before .before .check-table .ensures) ∙ ap verdictOf (c .before .checked .given .1)))
+
+enum-told : tie.Need-enum-told
+enum-told c = search needs
+
+-- the call is accepted
+accepted : (c : tie.After-enum-told) → verdict (tableConditions (now (c .before .before .before .before .before .args .block)) (length (now (c .before .before .before .before .before .args .table)))) ≡ told tt
+accepted c = sym (c .before .before .check-table .ensures) ∙ ap verdictOf (c .enum-told .given .1)
+
+fill-requires : tie.Need-fill-requires
+fill-requires c κs =
+    let s = c .before .before .before .before .before .before in
+    let k = table-accepted (now (s .args .block)) (length (now (s .args .table))) (accepted (c .before)) in
+    (k .valid, k .room-left)
+
+same-length : tie.Need-same-length
+same-length c = search needs
+
+returns-2 : tie.Need-returns-2
+unfolding fillTable
+returns-2 c =
+    ap (outcome (told tt)) (c .before .before .fill .ensures)
+    ∙ sym (ap (settled (c .before .before .before .before .before .before .before .before .before)) (accepted (c .before .before .before .before)))
+
+pub fill-table-spec : {M : Type 1} → statement M
+fill-table-spec =
+    tie.close
+    (tie.spec check-table-requires enum-known-checked returns enum-told fill-requires same-length returns-2)

@@ -1,0 +1,52 @@
+-- `table_calls::whole_tables::test_table` meets its contract.
+-- Refused, or whether the table passes the lower-bound test.
+use mathlib.Core.Path.{_≡_, sym, ap, ap₂, _∙_}
+use mathlib.Core.Bool.{Bool}
+use lib.ListN.{length}
+use denote.Ref.{now}
+use borrow.Author.Needs.{needs}
+use Rattle.refusals.specs.Answers.{Answer, told, verdict, answered}
+use Rattle.refusals.specs.Refusals.{verdictOf}
+use Rattle.tables.specs.Tables.{passesTest}
+use Rattle.table_calls.specs.WholeTables.{tableConditions, testTable}
+use Rattle.table_calls.proofs.Conditions.{table-accepted}
+use Rattle.table_calls.proofs.whole_tables.test_table.Statement.{statement}
+use Rattle.table_calls.proofs.whole_tables.test_table.Tie as tie
+
+check-table-requires : tie.Need-check-table-requires
+check-table-requires c κs = search needs
+
+enum-known-checked : tie.Need-enum-known-checked
+enum-known-checked c = search needs
+
+returns : tie.Need-returns
+unfolding testTable
+returns c =
+    let a = c .before .before .before .before .before .before .args in
+    sym (ap (λ (v : Answer (Unit {0})). answered v (passesTest (now (a .block)) (now (a .table)))) (sym (c .before .before .before .check-table .ensures) ∙ ap verdictOf (c .before .checked .given .1)))
+
+enum-told : tie.Need-enum-told
+enum-told c = search needs
+
+-- the call is accepted
+accepted : (c : tie.After-enum-told) → verdict (tableConditions (now (c .before .before .before .before .before .args .block)) (length (now (c .before .before .before .before .before .args .table)))) ≡ told tt
+accepted c = sym (c .before .before .check-table .ensures) ∙ ap verdictOf (c .enum-told .given .1)
+
+passes-requires : tie.Need-passes-requires
+passes-requires c κs =
+    let a = c .before .before .before .before .before .args in
+    let k = table-accepted (now (a .block)) (length (now (a .table))) (accepted c) in
+    (k .valid, k .room-left)
+
+returns-2 : tie.Need-returns-2
+unfolding testTable
+returns-2 c = sym (ap₂ (answered {A = Bool}) (accepted (c .before .before)) (sym (c .before .passes .ensures) ∙ c .if1 .taken))
+
+returns-3 : tie.Need-returns-3
+unfolding testTable
+returns-3 c = sym (ap₂ (answered {A = Bool}) (accepted (c .before .before)) (sym (c .before .passes .ensures) ∙ c .if1 .left))
+
+pub test-table-spec : {M : Type 1} → statement M
+test-table-spec =
+    tie.close
+    (tie.spec check-table-requires enum-known-checked returns enum-told passes-requires returns-2 returns-3)

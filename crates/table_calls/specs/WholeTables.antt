@@ -1,0 +1,41 @@
+-- Filling and testing a table, as public calls: `fillTable` is the answer with the final contents of the lent table, `testTable` the answer, for every input.
+-- `fillingOf` and `tableTestOf` give the document's answer for each case of their enums; `tableConditions` turn both calls back.
+use Prim.Native.Nat.{ℕ}
+use mathlib.Core.Bool.{Bool, true, false}
+use mathlib.Core.List.{List, [], _∷_, _++_}
+use lib.Dec.{leb}
+use lib.ListN.{length}
+use Rattle.basics.specs.Lists.{atFront}
+use Rattle.refusals.specs.Answers.{Answer, refused, told, Condition, _unless_, verdict, answered, Outcome, outcome, guarded}
+use Rattle.refusals.specs.Refusals.{refusalNumber}
+use Rattle.blocks.specs.Layout.{abstractStates}
+use Rattle.blocks.specs.Validity.{blockConditions}
+use Rattle.tables.specs.Tables.{passesTest}
+use Rattle.filling.specs.FilledTables.{filled}
+use Rattle.table_calls.specs.declared.whole_tables.Filling.{Filling}
+use Rattle.table_calls.specs.declared.whole_tables.Filling.the-variants as filling
+use Rattle.table_calls.specs.declared.whole_tables.TableTest.{TableTest}
+use Rattle.table_calls.specs.declared.whole_tables.TableTest.the-variants as test
+
+-- 3 to 7, then 12; `room` is the length of the table
+unfoldable pub tableConditions : List ℕ → ℕ → List Condition
+tableConditions b room = blockConditions b ++ (12 unless leb (abstractStates b) room ∷ [])
+
+-- done
+abbrev pub fillingOf : Filling → Answer (Unit {0})
+fillingOf filling.Filled = told tt
+fillingOf (filling.Refused refusal) = refused (refusalNumber refusal)
+
+-- the filled table stands at the front; further elements keep their contents
+unfoldable pub fillTable : List ℕ → List ℕ → Outcome (Unit {0})
+fillTable b t =
+    guarded (verdict (tableConditions b (length t))) t (outcome (told tt) (atFront (filled b) t))
+
+-- passes or fails
+abbrev pub tableTestOf : TableTest → Answer Bool
+tableTestOf test.Passes = told true
+tableTestOf test.Fails = told false
+tableTestOf (test.Refused refusal) = refused (refusalNumber refusal)
+
+unfoldable pub testTable : List ℕ → List ℕ → Answer Bool
+testTable b t = answered (verdict (tableConditions b (length t))) (passesTest b t)

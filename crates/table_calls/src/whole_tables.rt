@@ -1,0 +1,60 @@
+// Filling and testing a table.
+ghost use mathlib.Core.Path.{_≡_};
+ghost use Rattle.refusals.specs.Answers.{verdict, outcome};
+ghost use Rattle.refusals.specs.Refusals.{verdictOf};
+ghost use Rattle.table_calls.specs.WholeTables.{tableConditions, fillingOf, fillTable, tableTestOf, testTable};
+use refusals::Refusal;
+use refusals::Verdict;
+
+// What a fill answers.
+pub enum Filling {
+    Filled,
+    Refused(Refusal),
+}
+
+// What the lower-bound test answers.
+pub enum TableTest {
+    Passes,
+    Fails,
+    Refused(Refusal),
+}
+
+// Checks a block and the length of a table: accepted, or refused with 3 to 7, 12.
+fn check_table(block: &[u8], room: usize) -> Verdict
+    ensures { λ r. ⌜ verdictOf r ≡ verdict (tableConditions (now (block .entry)) room) ⌝ }
+{
+    let checked = blocks::validity::check(block);
+    if let Verdict::Refused(refusal) = checked {
+        return Verdict::Refused(refusal);
+    }
+    if room < blocks::layout::abstract_states(block) {
+        return Verdict::Refused(Refusal::TableShort);
+    }
+    Verdict::Accepted
+}
+
+// Fills the front of `table` with the least costs of the relabelled exercise, one for each rank. Refused with 3 to 7, 12.
+pub fn fill_table(block: &[u8], table: &mut [u32]) -> Filling
+    ensures { λ r. ⌜ outcome (fillingOf r) (now (table .exit)) ≡ fillTable (now (block .entry)) (now (table .entry)) ⌝ }
+{
+    let checked = check_table(block, table.len());
+    if let Verdict::Refused(refusal) = checked {
+        return Filling::Refused(refusal);
+    }
+    filling::fill(block, table);
+    Filling::Filled
+}
+
+// Whether a table passes the lower-bound test; its further elements do not count. Refused with 3 to 7, 12.
+pub fn test_table(block: &[u8], table: &[u32]) -> TableTest
+    ensures { λ r. ⌜ tableTestOf r ≡ testTable (now (block .entry)) (now (table .entry)) ⌝ }
+{
+    let checked = check_table(block, table.len());
+    if let Verdict::Refused(refusal) = checked {
+        return TableTest::Refused(refusal);
+    }
+    if tables::lower_bound::passes(block, table) {
+        return TableTest::Passes;
+    }
+    TableTest::Fails
+}

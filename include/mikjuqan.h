@@ -1,0 +1,162 @@
+/* The C interface of Mikjuqan, a planner for exercises written as PSVN rules.
+ *
+ * Link libmikjuqan.a (README.md says how to build it). Nothing else is needed: the library allocates nothing, keeps
+ * nothing between calls, calls nothing of the C library but memcpy and memset, and may be called from several threads.
+ *
+ * Every call takes whatever it is handed and refuses what is wrong with a number (MIKJUQAN_REFUSED_.. below). A refused
+ * call writes nowhere, and every other member of its answer is 0. An accepted call writes at the front of its buffer; what
+ * stands behind that keeps its contents.
+ *
+ * A buffer is a pointer and the number of its elements: bytes, or 32-bit entries for a table. The pointer is never NULL,
+ * also where the length is 0. A buffer that is written overlaps no other buffer of the same call.
+ */
+#ifndef MIKJUQAN_H
+#define MIKJUQAN_H
+
+#include <stddef.h>
+#include <stdint.h>
+
+#ifdef __cplusplus
+extern "C" {
+#endif
+
+/* ---- sizes: buffers of these lengths are long enough for every exercise ---- */
+
+#define MIKJUQAN_POSITIONS 16        /* labels of a state */
+#define MIKJUQAN_BLOCK_LENGTH 2261   /* bytes of a block, also of a relabelled one and of one that is read from text */
+#define MIKJUQAN_TABLE_LENGTH 16384  /* entries of a table */
+#define MIKJUQAN_PLAN_LENGTH 64      /* bytes of a plan, and the largest step limit */
+#define MIKJUQAN_LIST_LENGTH 4096    /* the longest list that is replayed */
+
+/* The entry 'no path' of a table. */
+#define MIKJUQAN_NO_PATH UINT32_C(4294967295)
+
+/* ---- refusals ----
+ * The lowest number wins, but in mikjuqan_read_exercise, whose order is 1, 2 (head line), 3, 2 (others), 11, 5, 6, 7. */
+
+enum {
+  MIKJUQAN_ACCEPTED = 0,
+  MIKJUQAN_REFUSED_CHARACTER = 1,    /* text: another character than 0 to 9, A to F and line feed; a line with an odd
+                                        number of digits; a last line that does not end */
+  MIKJUQAN_REFUSED_LINE = 2,         /* text: the head line is not ten digits; a line is missing, extra or of another
+                                        length than the head asks */
+  MIKJUQAN_REFUSED_HEAD = 3,         /* fewer than five bytes, or a number of the head out of its limits */
+  MIKJUQAN_REFUSED_LENGTH = 4,       /* the block is not as long as its head asks */
+  MIKJUQAN_REFUSED_MAP = 5,          /* a map byte is not below K */
+  MIKJUQAN_REFUSED_TERM = 6,         /* a byte of a rule or a goal is no term, or a constant is not below L */
+  MIKJUQAN_REFUSED_UNBOUND = 7,      /* a variable on the right of a rule does not stand on its left */
+  MIKJUQAN_REFUSED_STATE = 8,        /* a state has another number of labels than n, or a label not below L */
+  MIKJUQAN_REFUSED_RULE = 9,         /* a rule number is not below R, also behind a rule that is stuck */
+  MIKJUQAN_REFUSED_LIMIT = 10,       /* the step limit is over 64, or a list of rules over 4,096 */
+  MIKJUQAN_REFUSED_BUFFER = 11,      /* the buffer is shorter than what may be written */
+  MIKJUQAN_REFUSED_TABLE_SHORT = 12, /* the table has fewer entries than there are abstract states */
+  MIKJUQAN_REFUSED_TABLE_FAILS = 13  /* the table fails the lower-bound test */
+};
+
+/* ---- answers: `refusal` is 0, or the number of the refusal; all else is then 0 ---- */
+
+/* Yes (1) or no (0). */
+typedef struct {
+  uint32_t refusal;
+  uint32_t yes;
+} mikjuqan_decision;
+
+/* How many bytes were written. */
+typedef struct {
+  uint32_t refusal;
+  size_t length;
+} mikjuqan_length;
+
+/* An entry of a table; MIKJUQAN_NO_PATH is one. */
+typedef struct {
+  uint32_t refusal;
+  uint32_t entry;
+} mikjuqan_entry;
+
+/* How a replay ended: done (`stuck` and `index` are 0), or stuck (1) at an index; and the cost up to there. */
+typedef struct {
+  uint32_t refusal;
+  uint32_t stuck;
+  size_t index;
+  uint32_t cost;
+} mikjuqan_replay;
+
+enum { MIKJUQAN_FOUND = 0, MIKJUQAN_NO_PLAN = 1, MIKJUQAN_SPENT = 2 };
+
+/* What a search answers: the status, and the plan's steps and cost, which are 0 where there is none; and the visits made. */
+typedef struct {
+  uint32_t refusal;
+  uint32_t status;
+  size_t steps;
+  uint32_t cost;
+  uint32_t visits;
+} mikjuqan_plan;
+
+/* ---- the exercise ----
+ * A block is n (positions, 1 to 16), L (labels, 1 to 16), K (abstract labels, 1 to L), R (rules, 0 to 64), G (goals, 1 to 8),
+ * with K to the power n at most 16,384; then L map bytes, R rules (cost, n left terms, n right terms), G goals (n terms).
+ * A term is 0x00 to 0x0F for a label, 0x10 to 0x1F for a variable, 0xFF for a dash. A state is n labels. */
+
+/* Reads an exercise from its lines of hexadecimal digits and writes the block. Refused with 1, 2, 3, 11, 5, 6, 7. */
+mikjuqan_length mikjuqan_read_exercise(const uint8_t *text, size_t text_length, uint8_t *out, size_t out_length);
+
+/* Whether a block is accepted: 0, or 3 to 7. */
+uint32_t mikjuqan_check_block(const uint8_t *block, size_t block_length);
+
+/* Writes the relabelled block, which has K map bytes. Refused with 3 to 7, 11. */
+mikjuqan_length mikjuqan_relabel_block(const uint8_t *block, size_t block_length, uint8_t *out, size_t out_length);
+
+/* ---- states and rules; `out` has room for n labels, also where nothing will be written ---- */
+
+/* Yes where the rule applies, and the new state is written. Refused with 3 to 7, 8, 9, 11. */
+mikjuqan_decision mikjuqan_apply_rule(const uint8_t *block, size_t block_length, size_t rule, const uint8_t *state,
+                                      size_t state_length, uint8_t *out, size_t out_length);
+
+/* Yes where the state meets a goal. Refused with 3 to 7, 8. */
+mikjuqan_decision mikjuqan_test_goals(const uint8_t *block, size_t block_length, const uint8_t *state, size_t state_length);
+
+/* Yes where some state is taken to `state` by the rule, and the first one in rank order is written. Refused with 3 to 7,
+ * 8, 9, 11. */
+mikjuqan_decision mikjuqan_first_predecessor(const uint8_t *block, size_t block_length, size_t rule, const uint8_t *state,
+                                             size_t state_length, uint8_t *out, size_t out_length);
+
+/* The same for the next one after `earlier`, which may be any state. Refused with 3 to 7, 8 (for both states), 9, 11. */
+mikjuqan_decision mikjuqan_next_predecessor(const uint8_t *block, size_t block_length, size_t rule, const uint8_t *state,
+                                            size_t state_length, const uint8_t *earlier, size_t earlier_length,
+                                            uint8_t *out, size_t out_length);
+
+/* Yes where the rule is reversible by form. Refused with 3 to 7, 9. */
+mikjuqan_decision mikjuqan_test_reversible(const uint8_t *block, size_t block_length, size_t rule);
+
+/* Replays a list of rule numbers, one a byte, and writes the state where it ends. Refused with 3 to 7, 8, 9, 10, 11. */
+mikjuqan_replay mikjuqan_replay_run(const uint8_t *block, size_t block_length, const uint8_t *start, size_t start_length,
+                                    const uint8_t *list, size_t list_length, uint8_t *out, size_t out_length);
+
+/* ---- tables: K to the power n entries, one for each rank; those behind do not count and are not written ---- */
+
+/* Fills the table with the least costs: 0, or refused with 3 to 7, 12. Needs 256 KB of stack. */
+uint32_t mikjuqan_fill_table(const uint8_t *block, size_t block_length, uint32_t *table, size_t table_length);
+
+/* Yes where the table passes the lower-bound test. Refused with 3 to 7, 12. */
+mikjuqan_decision mikjuqan_test_table(const uint8_t *block, size_t block_length, const uint32_t *table,
+                                      size_t table_length);
+
+/* The estimate of a state; the table is not tested. Refused with 3 to 7, 8, 12. */
+mikjuqan_entry mikjuqan_look_up_estimate(const uint8_t *block, size_t block_length, const uint8_t *state,
+                                         size_t state_length, const uint32_t *table, size_t table_length);
+
+/* ---- the search ---- */
+
+/* Finds a cheapest plan from a start, of at most `steps` rules and within the cost limit, with at most so many visits, by
+ * any table that passes the test. A plan that is found is written, one rule number a byte; `plan` has room for `steps`
+ * bytes, also where the plan is shorter. Refused with 3 to 7, 8, 10, 11, 12, 13. Needs at most 1.5 MB of stack, and that
+ * only where 64 rules are due at each of 64 steps; otherwise some tens of KB. */
+mikjuqan_plan mikjuqan_find_plan(const uint8_t *block, size_t block_length, const uint8_t *start, size_t start_length,
+                                 size_t steps, uint32_t cost, uint32_t visits, const uint32_t *table, size_t table_length,
+                                 uint8_t *plan, size_t plan_length);
+
+#ifdef __cplusplus
+}
+#endif
+
+#endif
