@@ -1,7 +1,7 @@
 """An independent reading of the language: blocks, states, matching, applying, goals, relabelling, stepping back, reversible rules, replay,
 tables, search, exercises as text, and what the program `par` prints.
 
-It shares nothing with the crates. The expected outputs of the test programs are made from it (expected.py).
+It shares nothing with the crates, nor with the model in Rust. The worked exercises (worked.py) and the samples (samples.py) are made from it.
 """
 import functools
 import heapq

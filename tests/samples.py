@@ -5,8 +5,8 @@ NAME is e, tiles, pancake or yard.
 """
 import sys
 
-import expected
 import reference
+import worked
 
 FREE, ANY = 0x10, 0xFF
 
@@ -14,7 +14,7 @@ FREE, ANY = 0x10, 0xFF
 def text(head, mapped, rules, goals, queries):
     """An exercise and its queries, one frame or query a line."""
     frames = [head, mapped, *([cost, *left, *right] for cost, left, right in rules), *goals]
-    return expected.text_of(sum(map(list, frames), [])) + b''.join(expected.query_line(*query) for query in queries)
+    return worked.text_of(sum(map(list, frames), [])) + b''.join(worked.query_line(*query) for query in queries)
 
 
 def exchange(n, source, target, cost):

@@ -1,0 +1,293 @@
+/* Runs the library, the tuned engine and the plain engine on the same inputs in turns, compares every answer, and
+ * prints the medians and their ratios. */
+#define _POSIX_C_SOURCE 200809L
+
+#include "engine.h"
+#include "exercises.h"
+
+#include <stdio.h>
+#include <stdlib.h>
+#include <string.h>
+#include <time.h>
+
+enum { ENGINES = 3, MOST_TASKS = 32, MOST_ROUNDS = 101, USUAL_ROUNDS = 7 };
+
+/* The library stands first: the others are compared with it, in their answers and in their times. */
+static const struct engine *const engines[ENGINES] = {&library_engine, &tuned_engine, &plain_engine};
+
+/* A short call is repeated until it takes about this long, in seconds, so that the clock's grain does not count. */
+static const double LONG_ENOUGH = 0.02;
+
+/* ---- tasks ---- */
+
+enum action { READ, CHECK, FILL, TEST, FIND };
+
+/* What is measured: an action on an input, and the time of one call by each engine in each round. */
+struct task {
+  const char *heading;
+  const char *name;
+  enum action action;
+  struct input input;
+  struct query query;
+  uint32_t table[MOST_ENTRIES];
+  unsigned long repetitions[ENGINES];
+  double seconds[ENGINES][MOST_ROUNDS];
+};
+
+static struct task tasks[MOST_TASKS];
+static unsigned task_count;
+
+/* Everything that a call gives back or may write to. */
+struct outcome {
+  uint32_t refusal;
+  bool passes;
+  size_t length;
+  struct answer answer;
+  uint8_t bytes[MOST_BLOCK];
+  uint32_t table[MOST_ENTRIES];
+};
+
+/* What stands in an outcome before the call, so that a write too many shows as well. */
+static void clear(struct outcome *outcome) {
+  memset(outcome, 0, sizeof *outcome);
+  memset(outcome->bytes, 0xA5, sizeof outcome->bytes);
+  memset(outcome->table, 0xA5, sizeof outcome->table);
+}
+
+static inline void perform(const struct engine *engine, const struct task *task, struct outcome *outcome) {
+  const struct input *in = &task->input;
+  switch (task->action) {
+    case READ:
+      outcome->refusal = engine->read(in->text, in->text_length, outcome->bytes, MOST_BLOCK, &outcome->length);
+      break;
+    case CHECK:
+      outcome->refusal = engine->check(in->block, in->length);
+      break;
+    case FILL:
+      engine->fill(in->block, in->length, outcome->table);
+      break;
+    case TEST:
+      outcome->passes = engine->test(in->block, in->length, task->table);
+      break;
+    case FIND:
+      outcome->answer = engine->find(in->block, in->length, &task->query, task->table, outcome->bytes);
+      break;
+  }
+}
+
+/* ---- comparing ---- */
+
+/* Names the part in which two outcomes differ, or NULL. */
+static const char *difference(const struct outcome *a, const struct outcome *b) {
+  if (a->refusal != b->refusal) return "refusal";
+  if (a->passes != b->passes) return "test";
+  if (a->length != b->length) return "length";
+  if (a->answer.status != b->answer.status) return "status";
+  if (a->answer.steps != b->answer.steps) return "steps";
+  if (a->answer.cost != b->answer.cost) return "cost";
+  if (a->answer.visits != b->answer.visits) return "visits";
+  if (memcmp(a->bytes, b->bytes, sizeof a->bytes) != 0) return "bytes written";
+  if (memcmp(a->table, b->table, sizeof a->table) != 0) return "table";
+  return NULL;
+}
+
+/* Ends the run where an engine's outcome is not the one that is expected. */
+static void compare(const struct task *task, unsigned e, const struct outcome *outcome,
+                    const struct outcome *expected) {
+  const char *part = difference(outcome, expected);
+  if (!part) return;
+  fprintf(stderr, "bench: '%s' and '%s' differ (%s) in: %s, %s\n", engines[0]->name, engines[e]->name, part,
+          task->heading, task->name);
+  exit(1);
+}
+
+/* ---- the clock ---- */
+
+/* The time that this process has had, in seconds: what other processes take does not count. */
+static double now(void) {
+  struct timespec t;
+  clock_gettime(CLOCK_PROCESS_CPUTIME_ID, &t);
+  return (double)t.tv_sec + (double)t.tv_nsec * 1e-9;
+}
+
+/* The time of one call, over so many of them. */
+static double time_calls(const struct task *task, unsigned e, unsigned long repetitions, struct outcome *outcome) {
+  clear(outcome);
+  double begun = now();
+  for (unsigned long k = 0; k < repetitions; k++) perform(engines[e], task, outcome);
+  return (now() - begun) / (double)repetitions;
+}
+
+/* Finds how often a call is repeated to take long enough. */
+static unsigned long count_repetitions(const struct task *task, unsigned e, struct outcome *outcome) {
+  unsigned long repetitions = 1;
+  while (time_calls(task, e, repetitions, outcome) * (double)repetitions < LONG_ENOUGH) repetitions *= 2;
+  return repetitions;
+}
+
+/* ---- the run ---- */
+
+static struct outcome expected[MOST_TASKS];
+
+/* Every engine performs every task; the library's outcome is what the others are compared with from now on. */
+static void prepare(void) {
+  static struct outcome outcome;
+  for (unsigned t = 0; t < task_count; t++) {
+    for (unsigned e = 0; e < ENGINES; e++) {
+      tasks[t].repetitions[e] = count_repetitions(&tasks[t], e, &outcome);
+      if (e == 0) expected[t] = outcome;
+      compare(&tasks[t], e, &outcome, &expected[t]);
+    }
+  }
+}
+
+/* One round: each task by all engines, in an order that is turned round from round to round. */
+static void run_round(unsigned round) {
+  static struct outcome outcome;
+  for (unsigned t = 0; t < task_count; t++) {
+    for (unsigned k = 0; k < ENGINES; k++) {
+      unsigned e = round % 2 ? ENGINES - 1 - k : k;
+      tasks[t].seconds[e][round] = time_calls(&tasks[t], e, tasks[t].repetitions[e], &outcome);
+      compare(&tasks[t], e, &outcome, &expected[t]);
+    }
+  }
+}
+
+static int by_size(const void *a, const void *b) {
+  double x = *(const double *)a, y = *(const double *)b;
+  return (x > y) - (x < y);
+}
+
+static double median(const double *values, unsigned count) {
+  double sorted[MOST_ROUNDS];
+  memcpy(sorted, values, count * sizeof *values);
+  qsort(sorted, count, sizeof *sorted, by_size);
+  return count % 2 ? sorted[count / 2] : (sorted[count / 2 - 1] + sorted[count / 2]) / 2;
+}
+
+/* The library's time as a multiple of an engine's: the median of what the rounds say, since the calls of one round
+ * stand close together and a machine that slows down slows down both. */
+static double median_ratio(const struct task *task, unsigned e, unsigned rounds) {
+  double ratios[MOST_ROUNDS];
+  for (unsigned k = 0; k < rounds; k++) ratios[k] = task->seconds[0][k] / task->seconds[e][k];
+  return median(ratios, rounds);
+}
+
+/* ---- the inputs ---- */
+
+static struct task *add_task(const char *heading, const char *name, enum action action) {
+  struct task *task = &tasks[task_count++];
+  task->heading = heading;
+  task->name = name;
+  task->action = action;
+  return task;
+}
+
+/* Fills the task's table by all engines, which must agree. */
+static void fill_table(struct task *task) {
+  static struct outcome first, outcome;
+  for (unsigned e = 0; e < ENGINES; e++) {
+    clear(&outcome);
+    engines[e]->fill(task->input.block, task->input.length, outcome.table);
+    if (e == 0) first = outcome;
+    compare(task, e, &outcome, &first);
+  }
+  memcpy(task->table, first.table, sizeof task->table);
+}
+
+static void add_searches(void) {
+  const char *heading = "search, ns per visit";
+  struct task *first = &tasks[task_count], *task;
+  task = add_task(heading, "tiles", FIND);
+  make_tiles(&task->input, &task->query);
+  task = add_task(heading, "pancake", FIND);
+  make_pancake(&task->input, &task->query);
+  task = add_task(heading, "yard", FIND);
+  make_slots(&task->input, &task->query);
+  task = add_task(heading, "64 rules", FIND);
+  make_many_rules(&task->input, &task->query);
+  for (struct task *t = first; t <= task; t++) fill_table(t);
+}
+
+static void add_fills(void) {
+  const char *heading = "fill, us";
+  make_counter(&add_task(heading, "counter", FILL)->input, false);
+  make_counter(&add_task(heading, "reversed counter", FILL)->input, true);
+  make_rings(&add_task(heading, "rings", FILL)->input);
+  make_random_rules(&add_task(heading, "random rules", FILL)->input);
+}
+
+/* The tables of the searches, which the library tests in each search, and the largest one. */
+static void add_tests(unsigned searches) {
+  const char *heading = "test of a table, us";
+  for (unsigned t = 0; t < searches; t++) {
+    struct task *task = add_task(heading, tasks[t].name, TEST);
+    task->input = tasks[t].input;
+    fill_table(task);
+  }
+  struct task *task = add_task(heading, "random rules", TEST);
+  make_random_rules(&task->input);
+  fill_table(task);
+}
+
+static void add_openings(void) {
+  const char *heading = "opening and refusing, us";
+  make_small(&add_task(heading, "text, small", READ)->input);
+  make_largest(&add_task(heading, "text, largest", READ)->input);
+  make_largest(&add_task(heading, "block, largest", CHECK)->input);
+  make_damaged(&add_task(heading, "text, refused (7)", READ)->input);
+  make_damaged(&add_task(heading, "block, refused (7)", CHECK)->input);
+}
+
+/* ---- the table ---- */
+
+static void print_task(const struct task *task, const struct outcome *outcome, unsigned rounds) {
+  double unit = task->action == FIND ? outcome->answer.visits * 1e-9 : 1e-6;
+  printf("  %-18s", task->name);
+  for (unsigned e = 0; e < ENGINES; e++) printf(" %10.2f", median(task->seconds[e], rounds) / unit);
+  for (unsigned e = 1; e < ENGINES; e++) printf(" %10.2f", median_ratio(task, e, rounds));
+  if (task->action == FIND) printf("   %u visits", outcome->answer.visits);
+  printf("\n");
+}
+
+static void print_tasks(unsigned rounds) {
+  const char *heading = "";
+  printf("%-20s", "");
+  for (unsigned e = 0; e < ENGINES; e++) printf(" %10s", engines[e]->name);
+  for (unsigned e = 1; e < ENGINES; e++) printf(" %4s/%s", engines[0]->name, engines[e]->name);
+  printf("\n");
+  for (unsigned t = 0; t < task_count; t++) {
+    if (strcmp(heading, tasks[t].heading) != 0) printf("%s\n", tasks[t].heading);
+    heading = tasks[t].heading;
+    print_task(&tasks[t], &expected[t], rounds);
+  }
+}
+
+/* The number of rounds that the caller asks for, or 0 where it is none. */
+static unsigned count_rounds(int arguments, char **argument) {
+  if (arguments == 1) return USUAL_ROUNDS;
+  char *end;
+  unsigned long rounds = strtoul(argument[1], &end, 10);
+  bool fits = arguments == 2 && *end == '\0' && rounds >= 1 && rounds <= MOST_ROUNDS;
+  return fits ? (unsigned)rounds : 0;
+}
+
+int main(int arguments, char **argument) {
+  unsigned rounds = count_rounds(arguments, argument);
+  if (rounds == 0) {
+    fprintf(stderr, "usage: bench/run [rounds, 1 to %d]\n", MOST_ROUNDS);
+    return 2;
+  }
+  add_searches();
+  unsigned searches = task_count;
+  add_fills();
+  add_tests(searches);
+  add_openings();
+  prepare();
+  for (unsigned round = 0; round < rounds; round++) {
+    fprintf(stderr, "round %u of %u\n", round + 1, rounds);
+    run_round(round);
+  }
+  print_tasks(rounds);
+  return 0;
+}

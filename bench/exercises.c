@@ -1,0 +1,280 @@
+/* The inputs of the benchmark. */
+#include "exercises.h"
+
+#include <string.h>
+
+enum { MOST_VISITS = 5000000 };
+
+/* ---- building a block: the head and the map, then rules, then goals ---- */
+
+/* Labels are mapped by `map`, or to themselves modulo the number of abstract labels where it is NULL. */
+static void begin(struct input *input, uint8_t positions, uint8_t labels, uint8_t abstract_labels, const uint8_t *map) {
+  const uint8_t head[HEAD_LENGTH] = {positions, labels, abstract_labels, 0, 0};
+  memcpy(input->block, head, HEAD_LENGTH);
+  for (uint8_t x = 0; x < labels; x++) input->block[HEAD_LENGTH + x] = map ? map[x] : x % abstract_labels;
+  input->length = HEAD_LENGTH + labels;
+}
+
+/* A rule of dashes; its left terms are handed back, and its right terms stand behind them. */
+static uint8_t *add_rule(struct input *input, unsigned cost) {
+  unsigned positions = input->block[0];
+  uint8_t *rule = input->block + input->length;
+  rule[0] = (uint8_t)cost;
+  memset(rule + 1, DASH, 2 * positions);
+  input->length += 1 + 2 * positions;
+  input->block[3]++;
+  return rule + 1;
+}
+
+static void add_goal(struct input *input, const uint8_t *terms) {
+  unsigned positions = input->block[0];
+  memcpy(input->block + input->length, terms, positions);
+  input->length += positions;
+  input->block[4]++;
+}
+
+/* A goal with one term at every position. */
+static void add_even_goal(struct input *input, uint8_t term) {
+  uint8_t terms[MOST_POSITIONS];
+  memset(terms, term, sizeof terms);
+  add_goal(input, terms);
+}
+
+/* A rule that exchanges the label at `from` with a 0 at `to`. */
+static void add_exchange(struct input *input, unsigned cost, unsigned from, unsigned to) {
+  uint8_t *left = add_rule(input, cost);
+  uint8_t *right = left + input->block[0];
+  left[from] = FIRST_VARIABLE;
+  left[to] = 0;
+  right[from] = 0;
+  right[to] = FIRST_VARIABLE;
+}
+
+/* Pairs of digits for `count` bytes, and a line feed. */
+static void add_line(struct input *input, const uint8_t *bytes, unsigned count) {
+  static const char digits[] = "0123456789ABCDEF";
+  uint8_t *line = input->text + input->text_length;
+  for (unsigned i = 0; i < count; i++) {
+    line[2 * i] = (uint8_t)digits[bytes[i] / 16];
+    line[2 * i + 1] = (uint8_t)digits[bytes[i] % 16];
+  }
+  line[2 * count] = '\n';
+  input->text_length += 2 * count + 1;
+}
+
+/* The text of a finished block. */
+static void write_text(struct input *input) {
+  struct exercise e = open_block(input->block);
+  input->text_length = 0;
+  add_line(input, input->block, HEAD_LENGTH);
+  add_line(input, map_of(&e), e.labels);
+  for (unsigned r = 0; r < e.rules; r++) add_line(input, rule_at(&e, r), e.rule_width);
+  for (unsigned g = 0; g < e.goals; g++) add_line(input, goal_at(&e, g), e.positions);
+}
+
+/* A query with the largest step limit, and visits enough. */
+static struct query query_of(const uint8_t *start, unsigned positions, uint32_t cost) {
+  struct query query = {.steps = MOST_STEPS, .cost = cost, .visits = MOST_VISITS};
+  memcpy(query.start, start, positions);
+  return query;
+}
+
+/* ---- for the search ---- */
+
+/* The eight tiles: few of the 24 rules apply to a state. */
+void make_tiles(struct input *input, struct query *query) {
+  static const uint8_t map[9] = {0, 0, 0, 0, 0, 1, 1, 1, 1};
+  static const uint8_t goal[9] = {1, 2, 3, 4, 5, 6, 7, 8, 0};
+  static const uint8_t start[9] = {3, 8, 0, 7, 4, 2, 5, 6, 1};
+  begin(input, 9, 9, 2, map);
+  for (unsigned i = 0; i < 9; i++) {
+    if (i % 3 < 2) {
+      add_exchange(input, 1, i + 1, i);
+      add_exchange(input, 1, i, i + 1);
+    }
+    if (i < 6) {
+      add_exchange(input, 1, i + 3, i);
+      add_exchange(input, 1, i, i + 3);
+    }
+  }
+  add_goal(input, goal);
+  write_text(input);
+  *query = query_of(start, 9, 40);
+}
+
+/* Ten pancakes: every rule applies to every state, and moves up to ten labels. */
+void make_pancake(struct input *input, struct query *query) {
+  static const uint8_t goal[10] = {0, 1, 2, 3, 4, 5, 6, 7, 8, 9};
+  static const uint8_t start[10] = {9, 3, 6, 1, 4, 5, 8, 2, 0, 7};
+  begin(input, 10, 10, 2, NULL);
+  for (unsigned turned = 2; turned <= 10; turned++) {
+    uint8_t *left = add_rule(input, 1);
+    uint8_t *right = left + 10;
+    for (unsigned i = 0; i < turned; i++) {
+      left[i] = (uint8_t)(FIRST_VARIABLE + i);
+      right[i] = (uint8_t)(FIRST_VARIABLE + turned - 1 - i);
+    }
+  }
+  add_goal(input, goal);
+  write_text(input);
+  *query = query_of(start, 10, 40);
+}
+
+/* Eight slots in a row, two of them empty: neighbours are exchanged at cost 1, slots two apart at cost 3. */
+void make_slots(struct input *input, struct query *query) {
+  static const uint8_t map[5] = {0, 1, 1, 2, 2};
+  static const uint8_t goal[8] = {1, 2, 3, 4, 1, 2, 0, 0};
+  static const uint8_t start[8] = {4, 3, 2, 1, 0, 2, 0, 1};
+  begin(input, 8, 5, 3, map);
+  for (unsigned apart = 1; apart <= 2; apart++) {
+    for (unsigned i = 0; i + apart < 8; i++) {
+      add_exchange(input, 2 * apart - 1, i, i + apart);
+      add_exchange(input, 2 * apart - 1, i + apart, i);
+    }
+  }
+  add_goal(input, goal);
+  write_text(input);
+  *query = query_of(start, 8, 200);
+}
+
+/* A rule that turns the labels of three positions round. */
+static void add_rotation(struct input *input, unsigned cost, unsigned a, unsigned b, unsigned c) {
+  uint8_t *left = add_rule(input, cost);
+  uint8_t *right = left + input->block[0];
+  left[a] = right[b] = FIRST_VARIABLE;
+  left[b] = right[c] = FIRST_VARIABLE + 1;
+  left[c] = right[a] = FIRST_VARIABLE + 2;
+}
+
+/* 64 rules, of which most apply to a state: three neighbours are turned round, and a label is exchanged with a 0 two to
+ * four places apart. The allowance ends the search. */
+void make_many_rules(struct input *input, struct query *query) {
+  static const uint8_t goal[12] = {0, 0, 0, 0, 0, 0, 1, 2, 3, 4, 5, 6};
+  static const uint8_t start[12] = {3, 0, 1, 2, 0, 0, 0, 0, 5, 0, 4, 6};
+  begin(input, 12, 7, 2, NULL);
+  for (unsigned i = 0; i + 2 < 12; i++) {
+    add_rotation(input, 3, i, i + 1, i + 2);
+    add_rotation(input, 3, i + 2, i + 1, i);
+  }
+  for (unsigned apart = 2; input->block[3] < MOST_RULES; apart++) {
+    for (unsigned i = 0; i + apart < 12 && input->block[3] < MOST_RULES; i++) {
+      add_exchange(input, 1 + apart, i, i + apart);
+      add_exchange(input, 1 + apart, i + apart, i);
+    }
+  }
+  add_goal(input, goal);
+  write_text(input);
+  *query = query_of(start, 12, 200);
+  query->visits = 1000000;
+}
+
+/* ---- for tables: 14 positions of two labels ---- */
+
+enum { BITS = 14 };
+
+/* A counter: 0 1 .. 1 become 1 0 .. 0, a rule for each number of ones. The lowest bit is the last position, or the
+ * first one where it is reversed. From 0 to the goal it takes 16,383 rules. */
+void make_counter(struct input *input, bool reversed) {
+  begin(input, BITS, 2, 2, NULL);
+  for (unsigned ones = 0; ones < BITS; ones++) {
+    uint8_t *left = add_rule(input, 1);
+    uint8_t *right = left + BITS;
+    for (unsigned bit = 0; bit <= ones; bit++) {
+      unsigned at = reversed ? bit : BITS - 1 - bit;
+      left[at] = bit < ones;
+      right[at] = bit == ones;
+    }
+  }
+  add_even_goal(input, 1);
+  write_text(input);
+}
+
+/* Rings: a ring turns where the one below it is 1 and all below that are 0, which makes one long walk through all
+ * states. */
+void make_rings(struct input *input) {
+  begin(input, BITS, 2, 2, NULL);
+  for (unsigned ring = 0; ring < BITS; ring++) {
+    for (uint8_t old = 0; old < 2; old++) {
+      uint8_t *left = add_rule(input, 1);
+      uint8_t *right = left + BITS;
+      for (unsigned below = 0; below < ring; below++) left[BITS - 1 - below] = below + 1 == ring;
+      left[BITS - 1 - ring] = old;
+      right[BITS - 1 - ring] = !old;
+    }
+  }
+  add_even_goal(input, 0);
+  write_text(input);
+}
+
+/* Numbers that look random and are the same in every run. */
+static unsigned next_random(uint64_t *seed, unsigned below) {
+  *seed = *seed * UINT64_C(6364136223846793005) + UINT64_C(1442695040888963407);
+  return (unsigned)((*seed >> 33) % below);
+}
+
+/* A random left term: one in six is a constant, so that a rule applies to a fair part of the states. */
+static uint8_t random_left(uint64_t *seed) {
+  unsigned kind = next_random(seed, 12);
+  if (kind < 2) return (uint8_t)kind;
+  if (kind < 7) return (uint8_t)(FIRST_VARIABLE + next_random(seed, 12));
+  return DASH;
+}
+
+/* A random right term: a constant, a dash, or a left term of the rule, which binds what it names. */
+static uint8_t random_right(uint64_t *seed, const uint8_t *left) {
+  unsigned kind = next_random(seed, 16);
+  if (kind < 2) return (uint8_t)kind;
+  return kind < 8 ? left[next_random(seed, BITS)] : DASH;
+}
+
+void make_random_rules(struct input *input) {
+  uint64_t seed = 7;
+  begin(input, BITS, 2, 2, NULL);
+  for (unsigned r = 0; r < MOST_RULES; r++) {
+    uint8_t *left = add_rule(input, 1 + next_random(&seed, 255));
+    uint8_t *right = left + BITS;
+    for (unsigned i = 0; i < BITS; i++) left[i] = random_left(&seed);
+    for (unsigned i = 0; i < BITS; i++) right[i] = random_right(&seed, left);
+  }
+  add_even_goal(input, 1);
+  write_text(input);
+}
+
+/* ---- for opening ---- */
+
+/* Input E of the specification: three positions, six rules. */
+void make_small(struct input *input) {
+  static const uint8_t map[3] = {0, 1, 1};
+  static const uint8_t goal[3] = {2, 1, 0};
+  begin(input, 3, 3, 2, map);
+  for (unsigned i = 0; i < 2; i++) {
+    add_exchange(input, 1, i, i + 1);
+    add_exchange(input, 1, i + 1, i);
+  }
+  add_exchange(input, 3, 0, 2);
+  add_exchange(input, 3, 2, 0);
+  add_goal(input, goal);
+  write_text(input);
+}
+
+/* The largest block there is: 16 positions and labels, 64 rules, 8 goals. The variable 0x1F is bound nowhere. */
+void make_largest(struct input *input) {
+  begin(input, MOST_POSITIONS, MOST_LABELS, 1, NULL);
+  for (unsigned r = 0; r < MOST_RULES; r++) {
+    uint8_t *left = add_rule(input, r);
+    uint8_t *right = left + MOST_POSITIONS;
+    for (unsigned i = 0; i + 1 < MOST_POSITIONS; i++) {
+      left[i] = (uint8_t)((i + r) % 3 == 0 ? i : FIRST_VARIABLE + i);
+      right[i] = left[MOST_POSITIONS - 2 - i];
+    }
+  }
+  for (unsigned g = 0; g < MOST_GOALS; g++) add_even_goal(input, (uint8_t)(g % 2 ? g : FIRST_VARIABLE + g));
+  write_text(input);
+}
+
+void make_damaged(struct input *input) {
+  make_largest(input);
+  struct exercise e = open_block(input->block);
+  input->block[e.goals_at - 1] = BEHIND_VARIABLES - 1;
+  write_text(input);
+}

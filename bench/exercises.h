@@ -1,0 +1,33 @@
+/* The inputs of the benchmark, each as a block and as text. */
+#ifndef BENCH_EXERCISES_H
+#define BENCH_EXERCISES_H
+
+#include "block.h"
+#include "engine.h"
+
+enum { MOST_TEXT = 2 * MOST_BLOCK + 2 + MOST_RULES + MOST_GOALS };
+
+struct input {
+  uint8_t block[MOST_BLOCK];
+  size_t length;
+  uint8_t text[MOST_TEXT];
+  size_t text_length;
+};
+
+/* For the search. */
+void make_tiles(struct input *input, struct query *query);
+void make_pancake(struct input *input, struct query *query);
+void make_slots(struct input *input, struct query *query);
+void make_many_rules(struct input *input, struct query *query);
+
+/* For tables, all of 16,384 entries. */
+void make_counter(struct input *input, bool reversed);
+void make_rings(struct input *input);
+void make_random_rules(struct input *input);
+
+/* For opening; the damaged one is refused for the last term of its last rule, which is unbound. */
+void make_small(struct input *input);
+void make_largest(struct input *input);
+void make_damaged(struct input *input);
+
+#endif

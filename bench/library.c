@@ -1,0 +1,43 @@
+/* Our library as an engine. Each of its calls checks its block again, and its search tests its table. */
+#include "block.h"
+#include "engine.h"
+#include "mikjuqan.h"
+
+#include <stdio.h>
+#include <stdlib.h>
+
+/* Fill, test and search are handed only what is accepted: a refusal has no answer to be compared with. */
+static void must_accept(const char *call, uint32_t refusal) {
+  if (refusal == MIKJUQAN_ACCEPTED) return;
+  fprintf(stderr, "bench: the library's %s refuses its input with %u\n", call, refusal);
+  exit(1);
+}
+
+static uint32_t read_text(const uint8_t *text, size_t text_length, uint8_t *block, size_t room, size_t *length) {
+  mikjuqan_length done = mikjuqan_read_exercise(text, text_length, block, room);
+  if (done.refusal == MIKJUQAN_ACCEPTED) *length = done.length;
+  return done.refusal;
+}
+
+static void fill(const uint8_t *block, size_t length, uint32_t *table) {
+  struct exercise e = open_block(block);
+  must_accept("fill", mikjuqan_fill_table(block, length, table, count_entries(&e)));
+}
+
+static bool test(const uint8_t *block, size_t length, const uint32_t *table) {
+  struct exercise e = open_block(block);
+  mikjuqan_decision passes = mikjuqan_test_table(block, length, table, count_entries(&e));
+  must_accept("test", passes.refusal);
+  return passes.yes == 1;
+}
+
+static struct answer find(const uint8_t *block, size_t length, const struct query *query, const uint32_t *table,
+                          uint8_t *plan) {
+  struct exercise e = open_block(block);
+  mikjuqan_plan found = mikjuqan_find_plan(block, length, query->start, e.positions, query->steps, query->cost,
+                                           query->visits, table, count_entries(&e), plan, query->steps);
+  must_accept("search", found.refusal);
+  return (struct answer){found.status, (uint32_t)found.steps, found.cost, found.visits};
+}
+
+const struct engine library_engine = {"ours", read_text, mikjuqan_check_block, fill, test, find};

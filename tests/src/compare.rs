@@ -1,0 +1,210 @@
+//! Each call through the library and through the model: the answer and all lent memory must be the same.
+//!
+//! Every function gives back the answer, and what the written buffer holds afterwards.
+
+use crate::lent::Lent;
+use crate::model::calls;
+use crate::random::Random;
+use mikjuqan::{Limits, Refusal, Replay, Search};
+
+pub fn read_exercise(random: &mut Random, text: &[u8], room: usize) -> (Result<usize, Refusal>, Vec<u8>) {
+    let text = Lent::new("text", random, text);
+    let mut out = Lent::with_length("out", random, room);
+    let mut expected_out = out.to_vec();
+    let expected = calls::read_exercise(&text, &mut expected_out);
+    let answer = mikjuqan::read_exercise(&text, &mut out);
+    assert_eq!(answer, expected);
+    text.assert_kept();
+    out.assert_holds(&expected_out);
+    (answer, expected_out)
+}
+
+pub fn check_block(random: &mut Random, block: &[u8]) -> Result<(), Refusal> {
+    let block = Lent::new("block", random, block);
+    let expected = calls::check_block(&block);
+    let answer = mikjuqan::check_block(&block);
+    assert_eq!(answer, expected);
+    block.assert_kept();
+    answer
+}
+
+pub fn relabel_block(random: &mut Random, block: &[u8], room: usize) -> (Result<usize, Refusal>, Vec<u8>) {
+    let block = Lent::new("block", random, block);
+    let mut out = Lent::with_length("out", random, room);
+    let mut expected_out = out.to_vec();
+    let expected = calls::relabel_block(&block, &mut expected_out);
+    let answer = mikjuqan::relabel_block(&block, &mut out);
+    assert_eq!(answer, expected);
+    block.assert_kept();
+    out.assert_holds(&expected_out);
+    (answer, expected_out)
+}
+
+pub fn apply_rule(
+    random: &mut Random,
+    block: &[u8],
+    rule: usize,
+    state: &[u8],
+    room: usize,
+) -> (Result<bool, Refusal>, Vec<u8>) {
+    let block = Lent::new("block", random, block);
+    let state = Lent::new("state", random, state);
+    let mut out = Lent::with_length("out", random, room);
+    let mut expected_out = out.to_vec();
+    let expected = calls::apply_rule(&block, rule, &state, &mut expected_out);
+    let answer = mikjuqan::apply_rule(&block, rule, &state, &mut out);
+    assert_eq!(answer, expected, "rule {rule}");
+    block.assert_kept();
+    state.assert_kept();
+    out.assert_holds(&expected_out);
+    (answer, expected_out)
+}
+
+pub fn test_goals(random: &mut Random, block: &[u8], state: &[u8]) -> Result<bool, Refusal> {
+    let block = Lent::new("block", random, block);
+    let state = Lent::new("state", random, state);
+    let expected = calls::test_goals(&block, &state);
+    let answer = mikjuqan::test_goals(&block, &state);
+    assert_eq!(answer, expected);
+    block.assert_kept();
+    state.assert_kept();
+    answer
+}
+
+pub fn first_predecessor(
+    random: &mut Random,
+    block: &[u8],
+    rule: usize,
+    state: &[u8],
+    room: usize,
+) -> (Result<bool, Refusal>, Vec<u8>) {
+    let block = Lent::new("block", random, block);
+    let state = Lent::new("state", random, state);
+    let mut out = Lent::with_length("out", random, room);
+    let mut expected_out = out.to_vec();
+    let expected = calls::first_predecessor(&block, rule, &state, &mut expected_out);
+    let answer = mikjuqan::first_predecessor(&block, rule, &state, &mut out);
+    assert_eq!(answer, expected, "rule {rule}");
+    block.assert_kept();
+    state.assert_kept();
+    out.assert_holds(&expected_out);
+    (answer, expected_out)
+}
+
+pub fn next_predecessor(
+    random: &mut Random,
+    block: &[u8],
+    rule: usize,
+    state: &[u8],
+    earlier: &[u8],
+    room: usize,
+) -> (Result<bool, Refusal>, Vec<u8>) {
+    let block = Lent::new("block", random, block);
+    let state = Lent::new("state", random, state);
+    let earlier = Lent::new("earlier", random, earlier);
+    let mut out = Lent::with_length("out", random, room);
+    let mut expected_out = out.to_vec();
+    let expected = calls::next_predecessor(&block, rule, &state, &earlier, &mut expected_out);
+    let answer = mikjuqan::next_predecessor(&block, rule, &state, &earlier, &mut out);
+    assert_eq!(answer, expected, "rule {rule}");
+    block.assert_kept();
+    state.assert_kept();
+    earlier.assert_kept();
+    out.assert_holds(&expected_out);
+    (answer, expected_out)
+}
+
+pub fn test_reversible(random: &mut Random, block: &[u8], rule: usize) -> Result<bool, Refusal> {
+    let block = Lent::new("block", random, block);
+    let expected = calls::test_reversible(&block, rule);
+    let answer = mikjuqan::test_reversible(&block, rule);
+    assert_eq!(answer, expected, "rule {rule}");
+    block.assert_kept();
+    answer
+}
+
+pub fn replay_run(
+    random: &mut Random,
+    block: &[u8],
+    start: &[u8],
+    list: &[u8],
+    room: usize,
+) -> (Result<Replay, Refusal>, Vec<u8>) {
+    let block = Lent::new("block", random, block);
+    let start = Lent::new("start", random, start);
+    let list = Lent::new("list", random, list);
+    let mut out = Lent::with_length("out", random, room);
+    let mut expected_out = out.to_vec();
+    let expected = calls::replay_run(&block, &start, &list, &mut expected_out);
+    let answer = mikjuqan::replay_run(&block, &start, &list, &mut out);
+    assert_eq!(answer, expected);
+    block.assert_kept();
+    start.assert_kept();
+    list.assert_kept();
+    out.assert_holds(&expected_out);
+    (answer, expected_out)
+}
+
+pub fn fill_table(random: &mut Random, block: &[u8], room: usize) -> (Result<(), Refusal>, Vec<u32>) {
+    let block = Lent::new("block", random, block);
+    let mut table = Lent::with_length("table", random, room);
+    let mut expected_table = table.to_vec();
+    let expected = calls::fill_table(&block, &mut expected_table);
+    let answer = mikjuqan::fill_table(&block, &mut table);
+    assert_eq!(answer, expected);
+    block.assert_kept();
+    table.assert_holds(&expected_table);
+    (answer, expected_table)
+}
+
+pub fn test_table(random: &mut Random, block: &[u8], table: &[u32]) -> Result<bool, Refusal> {
+    let block = Lent::new("block", random, block);
+    let table = Lent::new("table", random, table);
+    let expected = calls::test_table(&block, &table);
+    let answer = mikjuqan::test_table(&block, &table);
+    assert_eq!(answer, expected);
+    block.assert_kept();
+    table.assert_kept();
+    answer
+}
+
+pub fn look_up_estimate(
+    random: &mut Random,
+    block: &[u8],
+    state: &[u8],
+    table: &[u32],
+) -> Result<Option<u32>, Refusal> {
+    let block = Lent::new("block", random, block);
+    let state = Lent::new("state", random, state);
+    let table = Lent::new("table", random, table);
+    let expected = calls::look_up_estimate(&block, &state, &table);
+    let answer = mikjuqan::look_up_estimate(&block, &state, &table);
+    assert_eq!(answer, expected);
+    block.assert_kept();
+    state.assert_kept();
+    table.assert_kept();
+    answer
+}
+
+pub fn find_plan(
+    random: &mut Random,
+    block: &[u8],
+    start: &[u8],
+    limits: Limits,
+    table: &[u32],
+    room: usize,
+) -> (Result<Search, Refusal>, Vec<u8>) {
+    let block = Lent::new("block", random, block);
+    let start = Lent::new("start", random, start);
+    let table = Lent::new("table", random, table);
+    let mut plan = Lent::with_length("plan", random, room);
+    let mut expected_plan = plan.to_vec();
+    let expected = calls::find_plan(&block, &start, limits, &table, &mut expected_plan);
+    let answer = mikjuqan::find_plan(&block, &start, limits, &table, &mut plan);
+    assert_eq!(answer, expected, "{limits:?}");
+    block.assert_kept();
+    start.assert_kept();
+    table.assert_kept();
+    plan.assert_holds(&expected_plan);
+    (answer, expected_plan)
+}

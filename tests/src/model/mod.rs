@@ -1,0 +1,20 @@
+//! The specification once more, written to be plainly right rather than fast.
+//!
+//! Each module has one of its sections. [`calls`] has the thirteen calls as a user sees them: what is refused, what is
+//! answered and what is written; [`session`] has what `par` prints. [`exhaustive`] looks for plans without a table.
+
+pub mod block;
+pub mod calls;
+pub mod exercise;
+pub mod exhaustive;
+pub mod matching;
+pub mod predecessors;
+pub mod rank;
+pub mod relabel;
+pub mod replay;
+pub mod reversible;
+pub mod search;
+pub mod session;
+pub mod table;
+pub mod term;
+pub mod text;

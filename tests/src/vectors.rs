@@ -1,0 +1,164 @@
+//! The worked exercises of `tests/vectors`: calls, what they are handed, and what must come of them by another
+//! implementation of the specification, `tests/reference.py`. `tests/worked.py` says how a line is written.
+
+use crate::lent::Lent;
+use crate::program;
+use crate::random::Random;
+use crate::samples::repository;
+use mikjuqan::{Limits, Refusal, Replay, Search};
+use std::fs;
+
+/// The lines of a file, without its comments.
+pub fn lines(name: &str) -> Vec<String> {
+    let path = repository().join("tests/vectors").join(name).with_extension("txt");
+    let text = fs::read_to_string(&path).unwrap_or_else(|error| panic!("{}: {error}", path.display()));
+    text.lines().filter(|line| !line.starts_with('#')).map(String::from).collect()
+}
+
+/// Runs the call of a line, and asserts that its answer and its buffer are those of the line.
+pub fn check(line: &str) {
+    let (call, expected) = line.split_once(" = ").expect("a line has a call and an answer");
+    let mut words = call.split(' ');
+    let name = words.next().expect("a call has a name");
+    let result = run(name, &Arguments(words.collect()), expected);
+    assert_eq!(result, expected, "{line}");
+}
+
+/// What follows the name of a call.
+struct Arguments<'a>(Vec<&'a str>);
+
+impl Arguments<'_> {
+    fn bytes(&self, place: usize) -> Vec<u8> {
+        unpack(self.0[place], '+', |pair| pair.as_bytes().chunks(2).map(from_pair).collect())
+    }
+
+    fn entries(&self, place: usize) -> Vec<u32> {
+        unpack(self.0[place], ',', |number| vec![number.parse().expect("an entry is a number")])
+    }
+
+    fn number<T: TryFrom<u64>>(&self, place: usize) -> T {
+        let number: u64 = self.0[place].parse().expect("this is a number");
+        T::try_from(number).ok().expect("the number fits")
+    }
+}
+
+fn from_pair(pair: &[u8]) -> u8 {
+    let digits = std::str::from_utf8(pair).expect("digits are characters");
+    u8::from_str_radix(digits, 16).expect("a byte is two digits")
+}
+
+/// Parts, each perhaps with a count behind '*'.
+fn unpack<T: Copy>(packed: &str, between: char, part: impl Fn(&str) -> Vec<T>) -> Vec<T> {
+    let parts = packed.split(between).filter(|text| *text != "-");
+    let repeated = |text: &str| match text.split_once('*') {
+        Some((once, count)) => part(once).repeat(count.parse().expect("a count is a number")),
+        None => part(text),
+    };
+    parts.flat_map(repeated).collect()
+}
+
+/// The answer of a call in the words of a line, with the buffer that the line expects; other contents are an error here.
+fn run(name: &str, a: &Arguments, expected: &str) -> String {
+    let written = |place: usize, call: &dyn Fn(&mut [u8]) -> String| {
+        let after = Arguments(vec![last_word(expected)]);
+        let mut out = Lent::new("out", &mut Random::new(1), &a.bytes(place));
+        let answer = call(&mut out);
+        out.assert_holds(&after.bytes(0));
+        format!("{answer} {}", last_word(expected))
+    };
+    match name {
+        "check_block" => words(mikjuqan::check_block(&a.bytes(0))),
+        "test_goals" => words(mikjuqan::test_goals(&a.bytes(0), &a.bytes(1))),
+        "test_reversible" => words(mikjuqan::test_reversible(&a.bytes(0), a.number(1))),
+        "test_table" => words(mikjuqan::test_table(&a.bytes(0), &a.entries(1))),
+        "look_up_estimate" => words(mikjuqan::look_up_estimate(&a.bytes(0), &a.bytes(1), &a.entries(2))),
+        "read_exercise" => written(1, &|out| words(mikjuqan::read_exercise(&a.bytes(0), out))),
+        "relabel_block" => written(1, &|out| words(mikjuqan::relabel_block(&a.bytes(0), out))),
+        "apply_rule" => written(3, &|out| words(mikjuqan::apply_rule(&a.bytes(0), a.number(1), &a.bytes(2), out))),
+        "first_predecessor" => {
+            written(3, &|out| words(mikjuqan::first_predecessor(&a.bytes(0), a.number(1), &a.bytes(2), out)))
+        }
+        "next_predecessor" => written(4, &|out| {
+            words(mikjuqan::next_predecessor(&a.bytes(0), a.number(1), &a.bytes(2), &a.bytes(3), out))
+        }),
+        "replay_run" => written(3, &|out| words(mikjuqan::replay_run(&a.bytes(0), &a.bytes(1), &a.bytes(2), out))),
+        "find_plan" => written(6, &|plan| {
+            let limits = Limits { steps: a.number(2), cost: a.number(3), visits: a.number(4) };
+            words(mikjuqan::find_plan(&a.bytes(0), &a.bytes(1), limits, &a.entries(5), plan))
+        }),
+        "fill_table" => fill(a, expected),
+        "par" => session(a, expected),
+        _ => panic!("there is no call {name}"),
+    }
+}
+
+fn fill(a: &Arguments, expected: &str) -> String {
+    let mut table = Lent::new("table", &mut Random::new(1), &a.entries(1));
+    let answer = words(mikjuqan::fill_table(&a.bytes(0), &mut table));
+    table.assert_holds(&Arguments(vec![last_word(expected)]).entries(0));
+    format!("{answer} {}", last_word(expected))
+}
+
+/// What the program prints for an input.
+fn session(a: &Arguments, expected: &str) -> String {
+    let run = program::run(&a.bytes(0));
+    assert!(run.status.success(), "{}", run.status);
+    assert_eq!(run.printed, Arguments(vec![expected]).bytes(0));
+    expected.to_string()
+}
+
+fn last_word(text: &str) -> &str {
+    text.rsplit(' ').next().expect("there is a word")
+}
+
+/// An answer in the words of a line.
+trait Words {
+    fn words(&self) -> String;
+}
+
+fn words<T: Words>(answer: Result<T, Refusal>) -> String {
+    answer.map_or_else(|refusal| format!("refused {}", refusal.number()), |told| told.words())
+}
+
+impl Words for () {
+    fn words(&self) -> String {
+        "accepted".to_string()
+    }
+}
+
+impl Words for bool {
+    fn words(&self) -> String {
+        if *self { "yes" } else { "no" }.to_string()
+    }
+}
+
+impl Words for usize {
+    fn words(&self) -> String {
+        format!("done {self}")
+    }
+}
+
+impl Words for Option<u32> {
+    fn words(&self) -> String {
+        format!("entry {}", self.unwrap_or(mikjuqan::NO_PATH))
+    }
+}
+
+impl Words for Replay {
+    fn words(&self) -> String {
+        match self {
+            Replay::Done { cost } => format!("done {cost}"),
+            Replay::Stuck { index, cost } => format!("stuck {index} {cost}"),
+        }
+    }
+}
+
+impl Words for Search {
+    fn words(&self) -> String {
+        match self {
+            Search::Found { steps, cost, visits } => format!("found {steps} {cost} {visits}"),
+            Search::NoPlan { visits } => format!("no-plan 0 0 {visits}"),
+            Search::Spent { visits } => format!("spent 0 0 {visits}"),
+        }
+    }
+}

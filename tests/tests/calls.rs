@@ -1,0 +1,155 @@
+//! Random and damaged inputs for each of the thirteen calls, compared with the model: the answer and all lent memory.
+//!
+//! Each test lists the answers and refusals that its call can give, and fails if one of them was not met.
+
+use outside::compare;
+use outside::draw::arguments::{
+    damage_sometimes, draw_back, draw_list, draw_room, draw_rule_number, draw_state, draw_whole_state,
+};
+use outside::draw::limits::draw_limits;
+use outside::draw::tables::draw_table;
+use outside::draw::text::draw_text;
+use outside::draw::Drawn;
+use outside::repeat::{cases, repeat};
+
+/// Calls that make no table take exercises with any number of abstract states.
+const ANY: usize = 16_384;
+
+/// The most abstract states of most exercises where a table is made.
+const FEW: usize = 64;
+
+#[test]
+fn read_exercise() {
+    repeat("read_exercise", cases(), "written, 1, 2, 3, 5, 6, 7, 11", |random| {
+        let draft = Drawn::new(random, ANY).draft;
+        let text = draw_text(random, &draft);
+        let room = draw_room(random, draft.block().len());
+        compare::read_exercise(random, &text, room).0
+    });
+}
+
+#[test]
+fn check_block() {
+    repeat("check_block", cases(), "accepted, 3, 4, 5, 6, 7", |random| {
+        let drawn = Drawn::new(random, ANY);
+        compare::check_block(random, &drawn.block)
+    });
+}
+
+#[test]
+fn relabel_block() {
+    repeat("relabel_block", cases(), "written, 3, 4, 5, 6, 7, 11", |random| {
+        let drawn = Drawn::new(random, ANY);
+        let fewer = drawn.draft.sizes.labels.saturating_sub(drawn.draft.sizes.abstract_labels);
+        let room = draw_room(random, drawn.draft.block().len() - fewer);
+        compare::relabel_block(random, &drawn.block, room).0
+    });
+}
+
+#[test]
+fn apply_rule() {
+    repeat("apply_rule", cases(), "yes, no, 3, 4, 5, 6, 7, 8, 9, 11", |random| {
+        let drawn = Drawn::new(random, ANY);
+        let rule = draw_rule_number(random, &drawn.draft);
+        let state = draw_state(random, &drawn.draft);
+        let room = draw_room(random, drawn.draft.sizes.positions);
+        compare::apply_rule(random, &drawn.block, rule, &state, room).0
+    });
+}
+
+#[test]
+fn test_goals() {
+    repeat("test_goals", cases(), "yes, no, 3, 4, 5, 6, 7, 8", |random| {
+        let drawn = Drawn::new(random, ANY);
+        let state = draw_state(random, &drawn.draft);
+        compare::test_goals(random, &drawn.block, &state)
+    });
+}
+
+#[test]
+fn first_predecessor() {
+    repeat("first_predecessor", cases(), "yes, no, 3, 4, 5, 6, 7, 8, 9, 11", |random| {
+        let drawn = Drawn::new(random, ANY);
+        let rule = draw_rule_number(random, &drawn.draft);
+        let (state, _) = draw_back(random, &drawn, rule);
+        let room = draw_room(random, drawn.draft.sizes.positions);
+        compare::first_predecessor(random, &drawn.block, rule, &state, room).0
+    });
+}
+
+#[test]
+fn next_predecessor() {
+    repeat("next_predecessor", cases(), "yes, no, 3, 4, 5, 6, 7, 8, 9, 11", |random| {
+        let drawn = Drawn::new(random, ANY);
+        let rule = draw_rule_number(random, &drawn.draft);
+        let (state, earlier) = draw_back(random, &drawn, rule);
+        let room = draw_room(random, drawn.draft.sizes.positions);
+        compare::next_predecessor(random, &drawn.block, rule, &state, &earlier, room).0
+    });
+}
+
+#[test]
+fn test_reversible() {
+    repeat("test_reversible", cases(), "yes, no, 3, 4, 5, 6, 7, 9", |random| {
+        let drawn = Drawn::new(random, ANY);
+        let rule = draw_rule_number(random, &drawn.draft);
+        compare::test_reversible(random, &drawn.block, rule)
+    });
+}
+
+#[test]
+fn replay_run() {
+    repeat("replay_run", cases(), "done, stuck, 3, 4, 5, 6, 7, 8, 9, 10, 11", |random| {
+        let drawn = Drawn::new(random, ANY);
+        let start = draw_whole_state(random, &drawn.draft);
+        let list = draw_list(random, &drawn, &start);
+        let start = damage_sometimes(random, &drawn.draft, start);
+        let room = draw_room(random, drawn.draft.sizes.positions);
+        compare::replay_run(random, &drawn.block, &start, &list, room).0
+    });
+}
+
+#[test]
+fn fill_table() {
+    repeat("fill_table", cases(), "accepted, 3, 4, 5, 6, 7, 12", |random| {
+        let drawn = Drawn::new(random, FEW);
+        let room = draw_room(random, drawn.draft.sizes.abstract_states().unwrap_or(20));
+        compare::fill_table(random, &drawn.block, room).0
+    });
+}
+
+#[test]
+fn test_table() {
+    repeat("test_table", cases(), "yes, no, 3, 4, 5, 6, 7, 12", |random| {
+        let drawn = Drawn::new(random, FEW);
+        let table = draw_table(random, &drawn);
+        compare::test_table(random, &drawn.block, &table)
+    });
+}
+
+#[test]
+fn look_up_estimate() {
+    repeat("look_up_estimate", cases(), "estimate, no path, 3, 4, 5, 6, 7, 8, 12", |random| {
+        let drawn = Drawn::new(random, FEW);
+        let state = draw_state(random, &drawn.draft);
+        let table = draw_table(random, &drawn);
+        compare::look_up_estimate(random, &drawn.block, &state, &table)
+    });
+}
+
+#[test]
+fn find_plan() {
+    repeat(
+        "find_plan",
+        cases(),
+        "found at the start, found near, found far, no plan, spent, 3, 4, 5, 6, 7, 8, 10, 11, 12, 13",
+        |random| {
+            let (drawn, start) = Drawn::with_start(random, FEW);
+            let start = damage_sometimes(random, &drawn.draft, start);
+            let table = draw_table(random, &drawn);
+            let limits = draw_limits(random, &drawn.block, &start, &table);
+            let room = draw_room(random, limits.steps.min(70));
+            compare::find_plan(random, &drawn.block, &start, limits, &table, room).0
+        },
+    );
+}

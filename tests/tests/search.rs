@@ -1,0 +1,99 @@
+//! What is promised of every plan, looked at without a table: by looking at all lists of rules within the step limit.
+
+use mikjuqan::{Limits, Search};
+use outside::draw::tables::draw_passing;
+use outside::draw::Drawn;
+use outside::model::block::check;
+use outside::model::exercise::Exercise;
+use outside::model::exhaustive::{first_cheapest, least_cost, Plan};
+use outside::model::table::Graph;
+use outside::random::Random;
+use outside::repeat::{cases, repeat};
+
+/// The most open lists that are looked at.
+const MOST: usize = 5000;
+
+const ANY: u32 = u32::MAX;
+
+/// What the library answers, and the plan.
+fn find(exercise: &Exercise, start: &[u8], limits: Limits, table: &[u32]) -> (Search, Vec<u8>) {
+    let mut plan = vec![0; limits.steps];
+    let answer = mikjuqan::find_plan(&exercise.encode(), start, limits, table, &mut plan).expect("nothing is wrong");
+    let steps = if let Search::Found { steps, .. } = answer { steps } else { 0 };
+    (answer, plan[..steps].to_vec())
+}
+
+/// An exercise with a start and a step limit, small enough for all open lists to be looked at, and the plan to be named.
+fn draw_small(random: &mut Random) -> (Exercise, Vec<u8>, usize, Option<Plan>) {
+    loop {
+        let (drawn, start) = Drawn::with_start(random, 64);
+        let steps = random.between(0, 7);
+        if let Ok(exercise) = check(&drawn.draft.block()) {
+            if let Ok(plan) = first_cheapest(&exercise, &start, steps, MOST) {
+                return (exercise, start, steps, plan);
+            }
+        }
+    }
+}
+
+/// The filled table, the zero table, or any that passes.
+fn draw_table(random: &mut Random, exercise: &Exercise) -> Vec<u32> {
+    let graph = Graph::new(exercise);
+    match random.below(3) {
+        0 => graph.least_costs(),
+        1 => vec![0; graph.goals.len()],
+        _ => draw_passing(random, &graph),
+    }
+}
+
+#[test]
+fn plan_is_the_first_cheapest_open_list() {
+    let possible = "found at the start, found near, found far, no plan";
+    repeat("plan_is_the_first_cheapest_open_list", cases() / 5, possible, |random| {
+        let (exercise, start, steps, plan) = draw_small(random);
+        let table = draw_table(random, &exercise);
+        let (answer, rules) = find(&exercise, &start, Limits { steps, cost: ANY, visits: ANY }, &table);
+        let cost = if let Search::Found { cost, .. } = answer { Some(cost) } else { None };
+        assert_eq!(cost, plan.as_ref().map(|plan| plan.cost), "{exercise:?} {start:?} {steps} {table:?}");
+        assert_eq!(cost, least_cost(&exercise, &start, steps), "lists that pass a state twice are not cheaper");
+        assert_eq!(rules, plan.map_or(vec![], |plan| plan.rules), "{exercise:?} {start:?} {steps} {table:?}");
+        answer
+    });
+}
+
+#[test]
+fn cost_limit_decides_whether_there_is_a_plan() {
+    repeat("cost_limit_decides", cases() / 5, "found at the start, found near, found far, no plan", |random| {
+        let (exercise, start, steps, plan) = draw_small(random);
+        let least = plan.as_ref().map_or(random.below(20) as u32, |plan| plan.cost);
+        let cost = random.pick(&[least, least + 1, least.saturating_sub(1), 0]);
+        let table = draw_table(random, &exercise);
+        let (answer, rules) = find(&exercise, &start, Limits { steps, cost, visits: ANY }, &table);
+        let within = plan.filter(|plan| plan.cost <= cost);
+        assert_eq!(matches!(answer, Search::Found { .. }), within.is_some());
+        assert_eq!(rules, within.map_or(vec![], |plan| plan.rules));
+        answer
+    });
+}
+
+#[test]
+fn spent_exactly_where_more_visits_are_made() {
+    let possible = "found at the start, found near, found far, no plan, spent";
+    repeat("spent_exactly", cases() / 5, possible, |random| {
+        let (exercise, start, steps, _) = draw_small(random);
+        let table = draw_table(random, &exercise);
+        let limits = Limits { steps, cost: random.pick(&[ANY, 5]), visits: ANY };
+        let free = find(&exercise, &start, limits, &table);
+        let (Search::Found { visits: made, .. } | Search::NoPlan { visits: made }) = free.0 else {
+            panic!("so many visits cannot be spent");
+        };
+        let visits = random.pick(&[made, made + 1, made.saturating_sub(1), made / 2]);
+        let limited = find(&exercise, &start, Limits { visits, ..limits }, &table);
+        if visits < made {
+            assert_eq!(limited, (Search::Spent { visits }, vec![]));
+        } else {
+            assert_eq!(limited, free);
+        }
+        limited.0
+    });
+}

@@ -1,0 +1,146 @@
+//! The most stack that calls and the program use.
+
+use mikjuqan::{Limits, BLOCK_LENGTH, PLAN_LENGTH, TABLE_LENGTH};
+use outside::model::text::encode_line;
+use outside::model::{calls, session};
+use outside::program;
+use outside::stack::used_by;
+
+const KIB: usize = 1024;
+
+/// What becomes of an extension by one of the first 63 rules; the last rule leads on.
+#[derive(Clone, Copy, Debug)]
+enum Side {
+    /// It is visited, and no rule applies in its state.
+    Visited,
+    /// Its figure is above the threshold.
+    Above,
+    /// Its state stands on the path already.
+    Repeated,
+    /// The rule does not apply.
+    NotApplying,
+}
+
+const SIDES: [Side; 4] = [Side::Visited, Side::Above, Side::Repeated, Side::NotApplying];
+
+/// An exercise as its frames in which a search goes 64 steps deep, each step by the last of 64 rules and after what
+/// becomes of the 63 others. The last rule turns three, five and seven labels in rings, so that its states repeat only
+/// after 105 steps; position 0 tells whether rules apply. No state meets the goal.
+fn deep_frames(side: Side) -> Vec<Vec<u8>> {
+    let mut frames = vec![vec![16, 3, 1, 64, 1], vec![0; 3]];
+    let mut other = [0xFF; 33];
+    (other[0], other[1], other[17]) = match side {
+        Side::Visited => (0, 0, 1),
+        Side::Above => (1, 0, 1),
+        Side::Repeated => (0, 0, 0),
+        Side::NotApplying => (0, 1, 1),
+    };
+    frames.extend(vec![other.to_vec(); 63]);
+    let mut last = [0; 33];
+    (last[1], last[17]) = (0, 0xFF);
+    for ring in [1..4, 4..9, 9..16] {
+        for position in ring.clone() {
+            let next = if position + 1 == ring.end { ring.start } else { position + 1 };
+            last[1 + position] = 0x10 + position as u8;
+            last[17 + next] = 0x10 + position as u8;
+        }
+    }
+    frames.push(last.to_vec());
+    let mut goal = [0xFF; 16];
+    goal[0] = 2;
+    frames.push(goal.to_vec());
+    frames
+}
+
+/// One label 1 in each ring.
+const DEEP_START: [u8; 16] = [0, 1, 0, 0, 1, 0, 0, 0, 0, 1, 0, 0, 0, 0, 0, 0];
+
+fn deep_text(side: Side) -> Vec<u8> {
+    deep_frames(side).iter().flat_map(|frame| encode_line(frame)).collect()
+}
+
+/// Exercises with 16,384 abstract states and 64 rules: rules that always apply, rules that turn all labels, and rules
+/// that change one.
+fn large_blocks() -> Vec<Vec<u8>> {
+    let head = [[14, 2, 2, 64, 8].as_slice(), &[0, 1]].concat();
+    let goals = [0x01; 8 * 14];
+    let always = [[1].as_slice(), &[0xFF; 14], &[0; 14]].concat();
+    let turned: Vec<u8> = (0..14).map(|position| 0x10 + (position + 1) % 14).collect();
+    let turn = [[1].as_slice(), &(0x10..0x1E).collect::<Vec<u8>>(), &turned].concat();
+    let mut change = [0xFF; 29];
+    (change[0], change[14], change[28]) = (255, 0, 1);
+    [always, turn, change.to_vec()]
+        .iter()
+        .map(|rule| [head.clone(), rule.repeat(64), goals.to_vec()].concat())
+        .collect()
+}
+
+/// Prints a figure and asserts that it is within a limit.
+fn report(name: &str, bytes: usize, most_kib: usize) {
+    println!("stack: {name} uses {} KiB, of {most_kib} KiB at most", bytes.div_ceil(KIB));
+    assert!(bytes <= most_kib * KIB, "{name} uses {bytes} bytes of stack");
+}
+
+#[test]
+fn find_plan() {
+    // With a cost limit of 0 there is but one round.
+    let limits = Limits { steps: 64, cost: 0, visits: 10_000 };
+    let used = |side: Side| {
+        let block = deep_frames(side).concat();
+        let mut plan = [0; PLAN_LENGTH];
+        let expected = calls::find_plan(&block, &DEEP_START, limits, &[0], &mut plan);
+        let mut answer = None;
+        let used = used_by(|| answer = Some(mikjuqan::find_plan(&block, &DEEP_START, limits, &[0], &mut plan)));
+        assert_eq!(answer, Some(expected));
+        println!("stack: find_plan with side extensions {side:?}: {} KiB, {expected:?}", used.div_ceil(KIB));
+        used
+    };
+    report("find_plan", SIDES.map(used).into_iter().max().expect("there are sides"), 1500);
+}
+
+#[test]
+fn fill_table() {
+    let used = large_blocks().into_iter().map(|block| {
+        let mut table = vec![0; TABLE_LENGTH];
+        used_by(move || mikjuqan::fill_table(&block, &mut table).expect("the exercise is accepted"))
+    });
+    report("fill_table", used.max().expect("there are blocks"), 288);
+}
+
+#[test]
+fn test_table() {
+    let used = large_blocks().into_iter().map(|block| {
+        let mut table = vec![0; TABLE_LENGTH];
+        mikjuqan::fill_table(&block, &mut table).expect("the exercise is accepted");
+        used_by(move || assert_eq!(mikjuqan::test_table(&block, &table), Ok(true)))
+    });
+    report("test_table", used.max().expect("there are blocks"), 64);
+}
+
+#[test]
+fn read_exercise() {
+    let text = deep_text(Side::Visited);
+    let mut out = [0; BLOCK_LENGTH];
+    let used = used_by(|| assert!(mikjuqan::read_exercise(&text, &mut out).is_ok()));
+    report("read_exercise", used, 64);
+}
+
+#[test]
+fn par() {
+    let query = [DEEP_START.as_slice(), &[64, 0, 0, 0, 0, 0, 0, 0x27, 0x10]].concat();
+    let needed = |side: Side| {
+        let input = [deep_text(side), encode_line(&query)].concat();
+        let printed = session::print(&input);
+        let suffices = |kib: usize| program::run_with_stack(&input, kib).printed == printed;
+        // The least stack that suffices is above `low` and at most `high`.
+        let (mut low, mut high) = (64, 8192);
+        assert!(suffices(high));
+        while high - low > 1 {
+            let middle = low.midpoint(high);
+            (low, high) = if suffices(middle) { (low, middle) } else { (middle, high) };
+        }
+        println!("stack: par with side extensions {side:?}: {high} KiB");
+        high * KIB
+    };
+    report("par", SIDES.map(needed).into_iter().max().expect("there are sides"), 1536);
+}

@@ -1,0 +1,845 @@
+#!/usr/bin/env python3
+"""Worked exercises, as lines that each hold a call, what it is handed and what must come of it by the reading of reference.py.
+
+worked.py NAME prints them; its output is kept as tests/vectors/NAME.txt. A line is
+
+    CALL ARGUMENT .. = ANSWER [BUFFER]
+
+where BUFFER is what the buffer, the last argument, holds afterwards. Bytes are pairs of hexadecimal digits, parts of them joined by '+',
+PAIR*COUNT for a run; entries of a table are decimal numbers joined by ',', ENTRY*COUNT for a run; '-' stands for none. Lines with '#'
+say what follows. worked.py fill_order_input prints what the program fill_order reads, worked.py fill_order what it must print.
+"""
+import functools
+import itertools
+import sys
+from random import Random
+
+import reference
+
+
+def runs(values):
+    return [(value, len(list(group))) for value, group in itertools.groupby(values)]
+
+
+def packed_bytes(values):
+    """Bytes as text, with runs of more than eight told by their count."""
+    parts, plain = [], ''
+    for value, count in runs(values):
+        if count <= 8:
+            plain += f'{value:02X}' * count
+        else:
+            parts += [plain, f'{value:02X}*{count}']
+            plain = ''
+    return '+'.join(part for part in [*parts, plain] if part) or '-'
+
+
+def packed_entries(values):
+    return ','.join(str(value) if count == 1 else f'{value}*{count}' for value, count in runs(values)) or '-'
+
+
+def shown(answer):
+    """An answer of reference.py in words."""
+    if isinstance(answer, bool):
+        return 'yes' if answer else 'no'
+    if isinstance(answer, int):
+        return f'refused {answer}' if answer else 'accepted'
+    if isinstance(answer, str):
+        return {'done': 'yes', 'does not apply': 'no', 'found': 'yes', 'none further': 'no', 'filled': 'accepted'}[answer]
+    word, *numbers = answer
+    return ' '.join([word.replace(' ', '-'), *map(str, numbers)])
+
+
+def line(call, arguments, answer, *after):
+    print(call, *arguments, '=', shown(answer), *after)
+    return answer
+
+
+def check_block(block):
+    return line('check_block', [packed_bytes(block)], reference.check_block(block))
+
+
+def apply_rule(block, rule, state, out):
+    answer, after = reference.apply_rule(block, rule, state, out)
+    arguments = [packed_bytes(block), rule, packed_bytes(state), packed_bytes(out)]
+    return line('apply_rule', arguments, answer, packed_bytes(after)), after
+
+
+def test_goals(block, state):
+    return line('test_goals', [packed_bytes(block), packed_bytes(state)], reference.test_goals(block, state))
+
+
+def relabel_block(block, out):
+    answer, after = reference.relabel_block(block, out)
+    return line('relabel_block', [packed_bytes(block), packed_bytes(out)], answer, packed_bytes(after)), after
+
+
+def step_back(block, rule, state, earlier, out):
+    answer, after = reference.step_back(block, rule, state, earlier, out)
+    arguments = [packed_bytes(block), rule, packed_bytes(state)]
+    if earlier is None:
+        call = 'first_predecessor'
+    else:
+        call = 'next_predecessor'
+        arguments.append(packed_bytes(earlier))
+    return line(call, [*arguments, packed_bytes(out)], answer, packed_bytes(after)), after
+
+
+def reversible(block, rule):
+    return line('test_reversible', [packed_bytes(block), rule], reference.reversible(block, rule))
+
+
+def replay(block, start, rules, out):
+    answer, after = reference.replay(block, start, rules, out)
+    arguments = [packed_bytes(part) for part in (block, start, rules, out)]
+    return line('replay_run', arguments, answer, packed_bytes(after)), after
+
+
+def fill_table(block, table):
+    answer, after = reference.fill_table(block, table)
+    return line('fill_table', [packed_bytes(block), packed_entries(table)], answer, packed_entries(after)), after
+
+
+def test_table(block, table):
+    return line('test_table', [packed_bytes(block), packed_entries(table)], reference.test_table(block, table))
+
+
+def look_up(block, state, table):
+    arguments = [packed_bytes(block), packed_bytes(state), packed_entries(table)]
+    return line('look_up_estimate', arguments, reference.look_up(block, state, table))
+
+
+def read_exercise(text, out):
+    answer, after = reference.read_exercise(text, out)
+    return line('read_exercise', [packed_bytes(text), packed_bytes(out)], answer, packed_bytes(after)), after
+
+
+def par(data):
+    print('par', packed_bytes(data), '=', packed_bytes(reference.par(data)))
+
+
+def title(words):
+    print('#', words)
+
+
+# Input E's block, as the document prints its lines.
+INPUT_E = """
+0303020601 000101 011000FF0010FF 010010FF1000FF 01FF1000FF0010 01FF0010FF1000 0310FF0000FF10 0300FF1010FF00 020100
+"""
+E = list(bytes.fromhex(''.join(INPUT_E.split())))
+
+
+def zeros(n, labels, abstracts, rules, goals):
+    """Checks a block that has this head and zeros behind it."""
+    length = labels + rules * (1 + 2 * n) + goals * n
+    return check_block([n, labels, abstracts, rules, goals] + [0] * length)
+
+
+def heads_around(x):
+    """Each number of a head around its limits."""
+    heads = [(x, 2, 1, 0, 1), (15 + x, 2, 1, 0, 1), (1, x, 1, 0, 1), (1, 15 + x, 1, 0, 1), (1, 2, x, 0, 1)]
+    return heads + [(1, 2, 1 + x, 0, 1), (1, 2, 1, 63 + x, 1), (1, 2, 1, 0, x), (1, 2, 1, 0, 7 + x)]
+
+
+def faulty(faults):
+    """Input E with each fault of the set."""
+    block = list(E)
+    changes = {'head': (4, 9), 'map': (5, 2), 'term': (52, 3), 'variable': (12, 17)}
+    for fault in faults & changes.keys():
+        place, byte = changes[fault]
+        block[place] = byte
+    return block + [0] * ('length' in faults)
+
+
+def subset(number, names):
+    return {name for i, name in enumerate(names) if number >> i & 1}
+
+
+def blocks():
+    title('n from 1 to 16, K from 1 to 16')
+    for n, k in itertools.product(range(1, 17), range(1, 17)):
+        zeros(n, 16, k, 0, 1)
+    title('K = 2 and L = 2: n = 14, n = 15')
+    for n in (14, 15):
+        zeros(n, 2, 2, 0, 1)
+    title('n, L, K, R, G around their limits')
+    for x in range(3):
+        for head in heads_around(x):
+            zeros(*head)
+    places = [("each byte as input E's first left term", 9), ('as its first right term', 12)]
+    places += [('as its first goal term', 50), ('as its first cost', 8), ('as its first map byte', 5)]
+    for heading, place in places:
+        title(heading)
+        for byte in range(256):
+            check_block(E[:place] + [byte] + E[place + 1 :])
+    title('input E with every set of faults 3, 4, 5, 6, 7')
+    for k in range(32):
+        check_block(faulty(subset(k, ['head', 'length', 'map', 'term', 'variable'])))
+    title('input E cut to each length, and one byte longer')
+    for length in range(len(E) + 2):
+        check_block((E + [0])[:length])
+    title('input E relabelled, into 56, 52 and 51 bytes; then with fault 5 into 51')
+    for room, faults in [(56, set()), (52, set()), (51, set()), (51, {'map'})]:
+        relabel_block(faulty(faults), [170] * room)
+
+
+def rules():
+    def application(rule, faults):
+        state = [1, 2, 3 if 'state' in faults else 0]
+        apply_rule(faulty(faults), 6 if 'rule' in faults else rule, state, [170] * (2 if 'buffer' in faults else 5))
+
+    title('each rule of input E on <1,2,0>')
+    for rule in range(7):
+        application(rule, set())
+    title('rule 2 with every set of faults 7, 8, 9, 11')
+    for k in range(16):
+        application(2, subset(k, ['variable', 'state', 'rule', 'buffer']))
+    title('the goal of input E on <2,1,0>, <1,1,0>, <3,1,0>, two and four labels; then with fault 7')
+    states = [[2, 1, 0], [1, 1, 0], [3, 1, 0], [2, 1], [2, 1, 0, 0]]
+    for state in states:
+        test_goals(E, state)
+    for state in (states[0], states[2]):
+        test_goals(faulty({'variable'}), state)
+
+
+def block_of(n, labels, rules, goals=None, mapped=None):
+    """A block. A rule is a cost and two sides, a goal one: labels as hexadecimal digits, variables as letters, dashes.
+
+    There is one abstract label, or as many as labels where the map is given; the goal is one of dashes where none is given.
+    """
+
+    def terms(side):
+        return [255 if term == '-' else '0123456789abcdefABCDEFGHIJKLMNOP'.index(term) for term in side]
+
+    goals = goals or ['-' * n]
+    out = [n, labels, labels if mapped else 1, len(rules), len(goals), *(mapped or [0] * labels)]
+    for cost, left, right in rules:
+        out += [cost, *terms(left), *terms(right)]
+    return out + [byte for goal in goals for byte in terms(goal)]
+
+
+def predecessors():
+    def back(block, rule, *states):
+        for state in states:
+            earlier, value = None, 'found'
+            while value == 'found':
+                value, out = step_back(block, rule, state, earlier, [170] * 7)
+                earlier = out[: len(state)]
+
+    def after(block, rule, state, *earlier):
+        for text in earlier:
+            step_back(block, rule, state, list(map(int, text)), [170] * 7)
+
+    def tests(block, rules):
+        for rule in range(rules + 1):
+            reversible(block, rule)
+
+    example = block_of(6, 8, [(1, 'AA1-BC', '2---CB')])
+    title('<A,A,1,-,B,C> to <2,-,-,-,C,B>, back from <2,4,1,7,6,5>')
+    back(example, 0, [2, 4, 1, 7, 6, 5])
+    title('back from <1,4,1,7,6,5>, <2,4,0,7,6,5> and <2,2,1,0,0,0>')
+    back(example, 0, [1, 4, 1, 7, 6, 5], [2, 4, 0, 7, 6, 5], [2, 2, 1, 0, 0, 0])
+    six = block_of(4, 6, [(1, 'AA--', '-2--'), (1, 'AA--', '--A-')])
+    title('<A,A,-,-> to <-,2,-,-> and <A,A,-,-> to <-,-,A,->, reversible and not')
+    tests(six, 2)
+    title('the first rule back from <4,2,0,5> and <4,3,0,5>')
+    back(six, 0, [4, 2, 0, 5], [4, 3, 0, 5])
+    title('the second rule back from <1,1,1,5>')
+    back(six, 1, [1, 1, 1, 5])
+    title('after <0,0,0,0>, <1,1,2,4>, <1,1,3,0>, <1,1,5,4>, <1,1,5,5>, <1,2,0,0>, <5,5,5,5>')
+    after(six, 1, [1, 1, 1, 5], '0000', '1124', '1130', '1154', '1155', '1200', '5555')
+    one = block_of(2, 1, [(1, 'A-', '0-'), (1, '--', '00')])
+    title('one label: <A,-> to <0,->, <-,-> to <0,0>, not reversible by form')
+    tests(one, 2)
+    title('yet <0,0> has one predecessor')
+    back(one, 0, [0, 0])
+    back(one, 1, [0, 0])
+    title('twelve rules, reversible and not')
+    forms = 'A--0-- AA-0-- A--0A- AB-BA- 0--1-- ---0-- ABBAAB AB1AA0 AAA00A AAA01- AAA011 ------'
+    twelve = block_of(3, 2, [(1, form[:3], form[3:]) for form in forms.split()])
+    tests(twelve, 12)
+    title('rule 10, <A,A,A> to <0,1,1>, back from <0,1,1>; then after <0,0,1>, <0,1,0>')
+    back(twelve, 10, [0, 1, 1])
+    after(twelve, 10, [0, 1, 1], '001', '010')
+
+    def back_with(faults, earlier):
+        if earlier and 'earlier' in faults:
+            earlier = [3, *earlier[1:]]
+        state = [1, 0, 3 if 'state' in faults else 2]
+        out = [170] * (2 if 'buffer' in faults else 5)
+        step_back(faulty(faults), 6 if 'rule' in faults else 2, state, earlier, out)
+
+    title("rule 2 back from <1,0,2>, 'first', with every set of faults 7, 8, 9, 11")
+    for k in range(16):
+        back_with(subset(k, ['variable', 'state', 'rule', 'buffer']), None)
+    title('rule 2 back from <1,0,2> after <1,0,0>, with every set of faults 7, 8, 8 of the earlier state, 9, 11')
+    for k in range(32):
+        back_with(subset(k, ['variable', 'state', 'earlier', 'rule', 'buffer']), [1, 0, 0])
+    title('the state with two, three, four labels, and the earlier state with none, two, three, four')
+    for count, earlier in itertools.product((2, 3, 4), (0, 2, 3, 4)):
+        step_back(E, 2, [1, 0, 2, 0][:count], [1, 0, 0, 0][:earlier], [170] * 5)
+    title('rule 2 reversible, with every set of faults 7, 9')
+    for k in range(4):
+        faults = subset(k, ['variable', 'rule'])
+        reversible(faulty(faults), 6 if 'rule' in faults else 2)
+
+
+def replays():
+    def replay_all(block, start, *lists):
+        for rules in lists:
+            replay(block, start, rules, [170] * 5)
+
+    title('input E from <1,2,0>: 2 0 5, 4 1 3, the empty list, 2 0 0, 0, 4 5 4 5 4 2')
+    replay_all(E, [1, 2, 0], [2, 0, 5], [4, 1, 3], [], [2, 0, 0], [0], [4, 5, 4, 5, 4, 2])
+    title('with an absent number: 6, 2 6, 2 0 0 6, 255')
+    replay_all(E, [1, 2, 0], [6], [2, 6], [2, 0, 0, 6], [255])
+    turns = [0, 1] * 2049
+
+    def long(length, at, number):
+        replay_all(E, [1, 0, 2], (turns[:at] + [number] + turns[at + 1 :])[:length])
+
+    title('0 1 in turn from <1,0,2>: 4,095, 4,096 and 4,097 numbers')
+    for length in (4095, 4096, 4097):
+        long(length, 0, 0)
+    title('4,096 numbers, stuck at the last, and the last absent')
+    long(4096, 4095, 0)
+    long(4096, 4095, 6)
+    title('4,097 numbers, stuck at index 3, and the last absent')
+    long(4097, 3, 0)
+    long(4097, 4096, 6)
+    title('4,096 rules of cost 255')
+    replay_all(block_of(1, 1, [(255, '-', '-')]), [0], [0] * 4096)
+    title('2 0 5 from <1,2,0>, with every set of faults 7, 8, 9, 10, 11')
+    for k in range(32):
+        faults = subset(k, ['variable', 'state', 'rule', 'limit', 'buffer'])
+        last = [6 if 'rule' in faults else 5]
+        rules = [2, 0] + last + ([0] * 4093 + last if 'limit' in faults else [])
+        out = [170] * (2 if 'buffer' in faults else 5)
+        replay(faulty(faults), [1, 2, 3 if 'state' in faults else 0], rules, out)
+
+
+# What stands in a table before it is filled.
+UNWRITTEN = 0xAAAAAAAA
+
+
+def tables():
+    mark = reference.MARK
+
+    def exercise(block):
+        _, table = fill_table(block, [UNWRITTEN] * 10)
+        test_table(block, table)
+        for at, entry in enumerate(table):
+            for other in (min(entry + 1, mark), max(entry - 1, 0), mark, 0, mark - 1):
+                test_table(block, table[:at] + [other] + table[at + 1 :])
+
+    def one_rule(cost):
+        return block_of(1, 3, [(cost, '0', '1')], ['2'], [0, 1, 2])
+
+    title('input E: the fill; the test, then with each element raised, lowered, marked, 0 and large')
+    exercise(E)
+    title('the test on zeros')
+    test_table(E, [0] * 10)
+    title('<0> to <1> at cost 255')
+    exercise(one_rule(255))
+    title('one abstract label')
+    exercise(block_of(3, 2, [(7, '0A-', '1-A'), (0, '---', '---')], ['101']))
+    title('no rules')
+    exercise(block_of(2, 2, [], ['1-'], [0, 1]))
+    title('cycles at no cost, with and without a way to the goal')
+    steps = [(0, '0', '1'), (0, '1', '2'), (0, '2', '0'), (5, '2', '3'), (0, '4', '5'), (0, '5', '4')]
+    exercise(block_of(1, 6, steps, ['3'], list(range(6))))
+    title('three goals')
+    exercise(block_of(2, 3, [(4, '01', '-0'), (3, '1A', 'A1')], ['AA', '2-', '02'], [0, 1, 2]))
+    title('a goal of dashes')
+    exercise(block_of(2, 2, [(1, '0-', '1-')], ['00', '--'], [0, 1]))
+    title('a map that is not onto')
+    exercise(block_of(2, 3, [(1, 'PO', 'OP'), (2, '1P', '2-')], ['22'], [0, 0, 2]))
+    title('input E over 0, 1, 4294967294 and the mark: the fill; the test, on zeros too')
+    for contents in (0, 1, mark - 1, mark):
+        _, filled = fill_table(E, [contents] * 10)
+        test_table(E, filled)
+        test_table(E, [0] * 8 + [contents] * 2)
+    table = [mark, mark, mark, 2, mark, 1, 0, mark, 0, 0]
+    failing = [9, 8, 7, 6, 5, mark - 1, mark, 2, 1, 0]
+
+    def estimates(table):
+        for state in itertools.product(range(3), repeat=3):
+            look_up(E, state, table)
+
+    title("the estimates of <0,0,0>, .., <2,2,2> by input E's table")
+    estimates(table)
+    title('and by a table that fails the test')
+    test_table(E, failing)
+    estimates(failing)
+    entries = [0, 1, 2, 254, 255, 256, 257, mark - 257, mark - 256, mark - 255, mark - 2, mark - 1, mark]
+
+    for cost in (0, 1, 255):
+        title(f'<0> to <1> at cost {cost}: the test for each entry of <1> and of <0>')
+        for v, u in itertools.product(entries, entries):
+            test_table(one_rule(cost), [u, v, 0])
+    title('for each entry of the goal the test')
+    for goal in entries:
+        test_table(one_rule(1), [0, 0, goal])
+    title('the fill of input E into 0 to 10 elements, then with fault 7')
+    for faults in (set(), {'variable'}):
+        for length in range(11):
+            fill_table(faulty(faults), [UNWRITTEN] * length)
+    title('the test on the first 0 to 10 elements, then with fault 7')
+    for faults in (set(), {'variable'}):
+        for length in range(11):
+            test_table(faulty(faults), table[:length])
+    title('the estimate of <1,2,0> by the first 0 to 10 elements, with every set of faults 7, 8')
+    for k in range(4):
+        faults = subset(k, ['variable', 'state'])
+        state = [1, 2, 3 if 'state' in faults else 0]
+        for length in range(11):
+            look_up(faulty(faults), state, table[:length])
+    title('the estimate of none, two, three and four labels, by ten elements and by seven')
+    for length in (10, 7):
+        for count in (0, 2, 3, 4):
+            look_up(E, [1, 2, 0, 0][:count], table[:length])
+
+
+@functools.lru_cache(maxsize=8)
+def listing(block, start, steps):
+    return reference.Listing(reference.exercise_of(block), start, steps)
+
+
+def find_plan(block, start, steps, limit, allowance, table, plan):
+    """The search by its rounds, told, and compared with the listing of all open lists, which has no rounds, and whose plan has no table."""
+    value, out = reference.find_plan(block, start, steps, limit, allowance, table, plan)
+    if isinstance(value, tuple):
+        status, _, cost, visits = value
+        every = listing(tuple(block), tuple(start), steps)
+        ranks = reference.abstraction(tuple(block))
+        unbounded = every.visits(lambda state: ranks.estimate(state, table), limit)
+        if status == 'spent':
+            assert unbounded > allowance == visits and out == plan
+        else:
+            cheapest = every.plan if every.plan and every.plan[1] <= limit else ([], 0)
+            assert unbounded == visits <= allowance
+            assert (status == 'found') == (every.plan is not None and every.plan[1] <= limit)
+            assert (out, cost) == (cheapest[0] + plan[len(cheapest[0]) :], cheapest[1])
+    arguments = [packed_bytes(block), packed_bytes(start), steps, limit, allowance, packed_entries(table), packed_bytes(plan)]
+    line('find_plan', arguments, value, packed_bytes(out))
+
+
+def searches():
+    mark = reference.MARK
+    table = [mark, mark, mark, 2, mark, 1, 0, mark]
+    assert reference.fill_table(E, [UNWRITTEN] * 8) == ('filled', table)
+
+    def search(block, start, steps, limit, allowance, table, room=12):
+        find_plan(block, start, steps, limit, allowance, table, [170] * room)
+
+    def query(steps, limit, allowance, table=table):
+        search(E, [1, 2, 0], steps, limit, allowance, table)
+
+    title('input E from <1,2,0>: D = 8, B = 100, V = 100; V = 9; B = 4; D = 2; on zeros; D = 65; then from the goal')
+    for limits in [(8, 100, 100), (8, 100, 9), (8, 4, 100), (2, 100, 100), (8, 100, 100, [0] * 8), (65, 100, 100)]:
+        query(*limits)
+    search(E, [2, 1, 0], 8, 100, 100, table)
+    title('D = 66, D = 4294967304, D = 18446744073709551615')
+    for steps in (66, 2**32 + 8, 2**64 - 1):
+        query(steps, 100, 100)
+    title('V from 0 to 11; on zeros from 0 to 20; for B = 4 from 0 to 7; for D = 2 from 0 to 12')
+    for steps, limit, contents, most in [(8, 100, table, 11), (8, 100, [0] * 8, 20), (8, 4, table, 7), (2, 100, table, 12)]:
+        for allowance in range(most + 1):
+            query(steps, limit, allowance, contents)
+    title('B from 0 to 7; on zeros')
+    for contents in (table, [0] * 8):
+        for limit in range(8):
+            query(8, limit, 100, contents)
+    title('D from 0 to 9; on zeros')
+    for contents in (table, [0] * 8):
+        for steps in range(10):
+            query(steps, 100, 100, contents)
+    title(
+        'from the goal; from <0,1,2>, whose estimate is 2; from <0,0,0>, which is marked; from <0,0,0> on zeros:'
+        ' B = 0, 1, 2 with V = 0 and V = 100, then B = 100 with V = 0, 1, 100'
+    )
+    pairs = [*itertools.product((0, 1, 2), (0, 100)), (100, 0), (100, 1), (100, 100)]
+    for start, contents in [([2, 1, 0], table), ([0, 1, 2], table), ([0, 0, 0], table), ([0, 0, 0], [0] * 8)]:
+        for limit, allowance in pairs:
+            search(E, start, 8, limit, allowance, contents)
+
+    def exercise(block, start):
+        for contents in (reference.fill_table(block, [UNWRITTEN] * 6)[1], [0] * 6):
+            search(block, [start], 6, 100, 100, contents)
+
+    title('a short way to the goal that costs more, on a filled table and on zeros')
+    exercise(block_of(1, 3, [(5, '0', '2'), (1, '0', '1'), (1, '1', '2')], ['2'], [0, 1, 2]), 0)
+    title('two rules to one state, and no way to the goal')
+    exercise(block_of(1, 4, [(1, '0', '1'), (1, '0', '1'), (1, '1', '2')], ['3'], list(range(4))), 0)
+    title('three steps and one at the same cost')
+    exercise(block_of(1, 4, [(0, '0', '1'), (0, '1', '2'), (2, '2', '3'), (2, '0', '3')], ['3'], list(range(4))), 0)
+    title('cycles at no cost, with and without a way to the goal')
+    steps = [(0, '0', '1'), (0, '1', '2'), (0, '2', '0'), (5, '2', '3'), (0, '4', '5'), (0, '5', '4')]
+    for start in (0, 1, 4):
+        exercise(block_of(1, 6, steps, ['3'], list(range(6))), start)
+
+    def figures(first):
+        block = block_of(1, 4, [(1, '0', '1'), (255, '1', '2')], ['3'], list(range(4)))
+        limits = [(6, mark - 2, 100), (6, mark - 1, 100), (6, mark, 100), (1, mark, 100), (0, mark, 100)]
+        for steps, limit, allowance in limits + [(6, mark, 3), (6, mark, 2), (6, mark, 1)]:
+            search(block, [0], steps, limit, allowance, [first, mark - 1, mark - 1, 0])
+
+    title(
+        'figures of 4294967294, 4294967295 and 4294967550: B = 4294967293, 4294967294, 4294967295, then with D = 1 and 0,'
+        ' then with V = 3, 2, 1'
+    )
+    figures(mark - 1)
+    title('the same where the first estimate is 0')
+    figures(0)
+    title('and where it is the mark, by a table that fails the test')
+    figures(mark)
+    sides = [('-' * (6 - ones) + '0' + '1' * ones, '-' * (6 - ones) + '1' + '0' * ones) for ones in range(7)]
+    deep = block_of(7, 2, [(255, left, right) for left, right in sides], ['1000000'], [0, 1])
+
+    def counts(contents, needed):
+        for steps, limit, allowance, room in [
+            (64, 16320, needed, 70),
+            (64, 16320, needed, 64),
+            (64, 16320, needed, 63),
+            (65, 16320, needed, 70),
+            (63, 16320, needed, 70),
+            (64, 16319, needed, 70),
+            (64, 16320, needed - 1, 70),
+        ]:
+            search(deep, [0] * 7, steps, limit, allowance, contents, room)
+
+    title('64 steps of cost 255: into 70, 64 and 63 bytes; D = 65; D = 63; B = 16319; V too small')
+    counts(reference.fill_table(deep, [UNWRITTEN] * 128)[1], 65)
+    title('on zeros')
+    counts([0] * 128, 2145)
+    title('sixteen positions and labels, five steps: D = 12, D = 4, B = 14, V = 20')
+    turn = block_of(16, 16, [(3, 'ABCDEFGHIJKLMNOP', 'BCDEFGHIJKLMNOPA')], ['56789abcdef01234'])
+    for steps, limit, allowance in [(12, 15, 21), (4, 15, 21), (12, 14, 21), (12, 15, 20)]:
+        search(turn, list(range(16)), steps, limit, allowance, [0])
+    longer = table + [UNWRITTEN] * 2
+    title('three steps into 0, 2, 3 and 4 bytes; then by 0, 7, 8 and 9 elements; then both too short')
+    for room, length in [(0, 10), (2, 10), (3, 10), (4, 10), (3, 0), (3, 7), (3, 8), (3, 9), (2, 7)]:
+        search(E, [1, 2, 0], 3, 100, 100, longer[:length], room)
+    title('input E from <1,2,0>, with every set of faults 7, 8, 10, 11, 12, 13')
+    for k in range(64):
+        faults = subset(k, ['variable', 'state', 'limit', 'buffer', 'table', 'test'])
+        start = [1, 2, 3 if 'state' in faults else 0]
+        failing = longer[:5] + [2 if 'test' in faults else 1] + longer[6:]
+        steps, room, length = 65 if 'limit' in faults else 8, 7 if 'buffer' in faults else 8, 7 if 'table' in faults else 8
+        search(faulty(faults), start, steps, 100, 100, failing[:length], room)
+
+
+# Input E's text.
+E_TEXT = ('\n'.join(INPUT_E.split()) + '\n').encode()
+
+
+def replaced(text, start, stop, by=b''):
+    """A text with a part replaced; where the part ends before it begins, what stands between comes twice."""
+    return text[:start] + by + text[stop:]
+
+
+def text_of(block):
+    """A block as text, a frame a line by its head, whatever that holds; no line is empty."""
+    n, labels, _, rules, _ = block[:5]
+    lengths = itertools.chain([5, labels], [1 + 2 * n] * rules, itertools.repeat(n))
+    rest, lines = bytes(block), []
+    while rest:
+        length = max(next(lengths), 1)
+        lines.append(rest[:length].hex().upper().encode() + b'\n')
+        rest = rest[length:]
+    return b''.join(lines)
+
+
+def faulty_text(k):
+    """Input E's text and the buffer's length, with a set of faults."""
+    names = ['character', 'head line', 'head', 'line', 'buffer', 'map', 'term', 'variable']
+    changes = {'character': (113, b'a'), 'head': (9, b'9'), 'map': (12, b'2'), 'term': (109, b'3'), 'variable': (26, b'11')}
+    faults, text = subset(k, names), E_TEXT
+    for fault in faults & changes.keys():
+        place, by = changes[fault]
+        text = replaced(text, place, place + len(by), by)
+    text = text[2 if 'head line' in faults else 0 : 33] + text[48 if 'line' in faults else 33 :]
+    return text, 52 if 'buffer' in faults else 56
+
+
+def texts():
+    def reading(text, room=56):
+        read_exercise(text, [170] * room)
+
+    def readings(*edits):
+        for edit in edits:
+            reading(replaced(E_TEXT, *edit))
+
+    title("input E's text")
+    reading(E_TEXT)
+    title(
+        'a lower-case digit, a head line of eight digits, a head out of limits, a line missing, a buffer of 52 bytes, map byte 2, term 3,'
+        ' an unbound variable'
+    )
+    for fault in range(8):
+        reading(*faulty_text(1 << fault))
+    title('every set of these faults')
+    for k in range(256):
+        reading(*faulty_text(k))
+    title(
+        "in the map's line a digit left out, a digit more; in the head line; a digit moved from the map's line to rule 0's,"
+        " from rule 0's to the map's"
+    )
+    readings((16, 17), (17, 17, b'0'), (9, 10), (10, 10, b'0'), (16, 18, b'\n1'), (17, 19, b'0\n'))
+    title(
+        "a carriage return before the first line feed, before the last, for the last; a blank before, in, behind the map's line,"
+        ' for a digit; a zero byte for a digit, behind the text; lower case in the head line'
+    )
+    readings((10, 10, b'\r'), (114, 114, b'\r'), (114, 115, b'\r'), (11, 11, b' '), (13, 13, b' '), (17, 17, b' '), (13, 14, b' '))
+    readings((13, 14, b'\0'), (115, 115, b'\0'), (1, 2, b'a'))
+    for heading, place in [("each character as the first digit of rule 0's cost", 18), ('as the second', 19)]:
+        title(heading)
+        for character in range(256):
+            reading(replaced(E_TEXT, place, place + 1, bytes([character])))
+    title(
+        'the last line unended; no text; one line feed, two; an empty line behind the text, in front of it, within it; the head line alone'
+    )
+    for text in (E_TEXT[:-1], b'', b'\n', b'\n\n', E_TEXT + b'\n', b'\n' + E_TEXT, replaced(E_TEXT, 33, 33, b'\n'), E_TEXT[:11]):
+        reading(text)
+    title("behind the text a goal's line, a query's, a goal's unended, a goal's with a lower-case digit, with an odd number")
+    for more in (b'020100\n', b'010200080000006400000064\n', b'020100', b'02010a\n', b'02010\n'):
+        reading(E_TEXT + more)
+    lines = reference.lines_of(E_TEXT)
+    for i in range(9):
+        before, own, behind = lines[:i], lines[i], lines[i + 1 :]
+        title(f'line {i} left out, doubled, exchanged with the next, without its first pair, with a pair more')
+        for changed in (behind, [own, own, *behind], [*behind[:1], own, *behind[1:]], [own[2:], *behind], [b'00' + own, *behind]):
+            reading(b''.join(before + changed))
+    title('each line feed but the last moved to the front by two digits, by one, to the back by one, by two')
+    for at in itertools.accumulate(map(len, lines[:8])):
+        joined = replaced(E_TEXT, at - 1, at)
+        for by in (-2, -1, 1, 2):
+            reading(replaced(joined, at - 1 + by, at - 1 + by, b'\n'))
+    edits_of = {
+        'each character left out': lambda at: (at, at + 1),
+        'each doubled': lambda at: (at + 1, at),
+        'a line feed for each': lambda at: (at, at + 1, b'\n'),
+        'a line feed before each': lambda at: (at, at, b'\n'),
+        'the digit 0 for each': lambda at: (at, at + 1, b'0'),
+        'the text cut before each': lambda at: (at, 115),
+        'the text from each on': lambda at: (0, at),
+    }
+    for heading, edit in edits_of.items():
+        title(heading)
+        readings(*(edit(at) for at in range(115)))
+    title('a head line of twelve digits, of eight; both with a head out of limits; another head line in front')
+    readings((10, 10, b'00'), (8, 10), (9, 10, b'900'), (0, 10, b'00030206'), (0, 0, b'0303020600\n'))
+    title('the head line alone: n from 1 to 16, K from 1 to 16')
+    for n, k in itertools.product(range(1, 17), range(1, 17)):
+        reading(text_of([n, 16, k, 0, 1]))
+    title('the head line alone: n, L, K, R, G around their limits')
+    for x in range(3):
+        for head in heads_around(x):
+            reading(text_of(head))
+    title("input E's text into 0 to 56 bytes")
+    for room in range(57):
+        reading(E_TEXT, room)
+    title('the smallest exercise, into 56, 7, 6 bytes')
+    for room in (56, 7, 6):
+        reading(b'0101010001\n00\n00\n', room)
+
+    def largest(*edit, room=2300):
+        reading(replaced(text_of([16, 16, 1, 64, 8] + [0] * 2256), *edit), room)
+
+    title('the largest, into 2300, 2261, 2260 bytes; its last line missing, one more, unended')
+    for room in (2300, 2261, 2260):
+        largest(0, 0, room=room)
+    for edit in [(4563, 4596), (4596, 4563), (4595, 4596)]:
+        largest(*edit)
+    title("its last map byte, the last goal's last term, the last rule's last term changed: good and bad")
+    for place, pair in [(41, b'01'), (4593, b'FF'), (4593, b'20'), (4329, b'0F'), (4329, b'10')]:
+        largest(place, place + 2, pair)
+    title('line feeds up to 40,000 characters; the last a lower-case digit, a digit; the head out of limits; the head line unpaired')
+    for place, by in [(39999, b'\n'), (39999, b'a'), (39999, b'0'), (9, b'9'), (9, b'\n')]:
+        reading(replaced(E_TEXT.ljust(40000, b'\n'), place, place + 1, by))
+
+
+def query_line(start, steps, limit, allowance):
+    return (bytes([*start, steps]) + limit.to_bytes(4, 'big') + allowance.to_bytes(4, 'big')).hex().upper().encode() + b'\n'
+
+
+def sessions():
+    first = query_line([1, 2, 0], 8, 100, 100)
+    whole = E_TEXT + first
+
+    def queries(*lines):
+        par(E_TEXT + b''.join(lines))
+
+    def all_replaced(*edits):
+        for edit in edits:
+            par(replaced(whole, *edit))
+
+    def limits(start, *triples):
+        queries(*(query_line(start, *triple) for triple in triples))
+
+    title('input E from <1,2,0>: D = 8, B = 100, V = 100; V = 9; B = 4; D = 2; D = 65; then from the goal')
+    triples = [(8, 100, 100), (8, 100, 9), (8, 4, 100), (2, 100, 100), (65, 100, 100)]
+    queries(*(query_line([1, 2, 0], *triple) for triple in triples), query_line([2, 1, 0], 8, 100, 100))
+    title('the first of them alone, twice; no queries')
+    for count in (1, 2, 0):
+        queries(*[first] * count)
+    title('D = 0, 1, 3, 64, 65, 255; B = 0, 5, 1280, 83886080, 4294967295; V = 0, 10, 2560, 167772160, 4294967295')
+    limits([1, 2, 0], *((steps, 100, 100) for steps in (0, 1, 3, 64, 65, 255)))
+    limits([1, 2, 0], *((8, limit, 100) for limit in (0, 5, 1280, 83886080, 4294967295)))
+    limits([1, 2, 0], *((8, 100, allowance) for allowance in (0, 10, 2560, 167772160, 4294967295)))
+    title('from <2,1,0> and from <0,0,0>: D = 0; B = 0; V = 0, 1; all three 0')
+    for start in ([2, 1, 0], [0, 0, 0]):
+        limits(start, (0, 100, 100), (8, 0, 100), (8, 100, 0), (8, 100, 1), (0, 0, 0))
+    title('the last query line unended, alone, behind another; an unended part of it')
+    for lines in ([first[:-1]], [first, first[:-1]], [first, first[:1]]):
+        queries(*lines)
+    title('an empty line before a query, between two, behind one; three empty lines')
+    for lines in ([b'\n', first], [first, b'\n', first], [first, b'\n'], [b'\n'] * 3):
+        queries(*lines)
+    title(
+        'before a query one with lower case, a carriage return at its end, a blank in front, behind, a zero byte behind,'
+        ' a digit more, a digit less'
+    )
+    ended = [first[:-2] + b'a', first[:-1] + b'\r', b' ' + first[:-1], first[:-1] + b' ', first[:-1] + b'\0']
+    for line in ended + [first[:-1] + b'0', first[:-2]]:
+        queries(line + b'\n', first)
+    title(
+        "before a query one with a pair more, a pair less, a goal's line, the head line, two in one line, a label 3, labels 255"
+    )
+    ended = [first[:-1] + b'00', first[:-3], b'020100', b'0303020601', first[:-1] * 2]
+    for line in ended + [query_line(start, 8, 100, 100)[:-1] for start in ([1, 2, 3], [255] * 3)]:
+        queries(line + b'\n', first)
+    title('queries with every set of these faults: a lower-case digit, a pair more, a label 3, D = 65')
+    lines = []
+    for k in range(16):
+        faults = subset(k, ['character', 'length', 'state', 'limit'])
+        line = query_line([3 if 'state' in faults else 1, 2, 0], 65 if 'limit' in faults else 8, 100, 100)
+        pair = b'6a' if 'character' in faults else b'64'
+        lines.append(line[:22] + (b'00' if 'length' in faults else b'') + pair + b'\n')
+    queries(*lines)
+    title(
+        "no input; one line feed, two; the head line alone, unended, with only the map's line behind; all lines but the last;"
+        ' the last unended'
+    )
+    for data in (b'', b'\n', b'\n\n', E_TEXT[:11], E_TEXT[:10], E_TEXT[:18], E_TEXT[:108], E_TEXT[:114]):
+        par(data)
+    title("a carriage return in the head line, in the map's line, in the last of the exercise")
+    all_replaced((10, 10, b'\r'), (17, 17, b'\r'), (114, 114, b'\r'))
+    title(
+        "an empty line in front, within, behind the exercise; the map's line, a rule's, the goal's left out; the goal's doubled"
+    )
+    all_replaced((0, 0, b'\n'), (33, 33, b'\n'), (115, 115, b'\n'), (11, 18), (18, 33), (108, 115), (115, 108))
+    title('one rule less, one more, one goal more, one label more by the head')
+    all_replaced((7, 8, b'5'), (7, 8, b'7'), (9, 10, b'2'), (3, 4, b'4'))
+    title('lower case behind a head line of eight digits, of twelve, behind a head out of limits, in the line behind the exercise')
+    all_replaced((8, 14, b'\n10a'), (10, 14, b'00\n00a'), (9, 14, b'9\n00a'), (115, 115, b'0a\n'))
+    title(
+        'a lower-case digit, a head line of eight digits, a head out of limits, a line missing, map byte 2, term 3,'
+        ' an unbound variable'
+    )
+    for fault in (1, 2, 4, 8, 32, 64, 128):
+        par(faulty_text(fault)[0] + first)
+    title('every set of these faults, the last three slowest')
+    for k in range(128):
+        par(faulty_text(k // 16 * 32 + k % 16)[0] + first)
+
+    def exercise(block, *lines):
+        par(text_of(block) + b''.join(query_line(*line) for line in lines))
+
+    title('64 steps of cost 255: D = 64, B = 16320, V = 65; V = 64; B = 16319; D = 63; then 63 steps')
+    sides = [('-' * (6 - ones) + '0' + '1' * ones, '-' * (6 - ones) + '1' + '0' * ones) for ones in range(7)]
+    deep = block_of(7, 2, [(255, left, right) for left, right in sides], ['1000000'], [0, 1])
+    zeros = [0] * 7
+    bounds = [(64, 16320, 65), (64, 16320, 64), (64, 16319, 65), (63, 16320, 65)]
+    exercise(deep, *((zeros, *bound) for bound in bounds), ([0] * 6 + [1], 63, 16065, 64))
+    title('no plan within 11 steps, after 81140 visits: V = 100000, 81140, 81139, 70000')
+    flips = [(1, '-' * i + a + '-' * (3 - i), '-' * i + b + '-' * (3 - i)) for i in range(4) for a, b in ('01', '10')]
+    exercise(block_of(4, 3, flips, ['2222']), *(([0] * 4, 11, 100, allowance) for allowance in (100000, 81140, 81139, 70000)))
+    title('a table of 16384 entries: from <0,0,0,0,0,0,0>; from <3,2,1,0,1,2,3>, with D = 13; from the goal')
+    raised = [(label + 2, f'{label}------', f'{label + 1}------') for label in range(3)]
+    ring = block_of(7, 4, [(1, 'ABCDEFG', 'BCDEFGA'), *raised], ['3333333'], [0, 1, 2, 3])
+    starts = [(zeros, 64), ([3, 2, 1, 0, 1, 2, 3], 64), ([3, 2, 1, 0, 1, 2, 3], 13), ([3] * 7, 64)]
+    exercise(ring, *((start, steps, 1000, 1000) for start, steps in starts))
+    title('the largest exercise, from <0,..,0>, which is a goal, and from <0,..,0,15>')
+    exercise([16, 16, 1, 64, 8] + [0] * 2256, ([0] * 16, 8, 100, 100), ([0] * 15 + [15], 8, 100, 100))
+    title(
+        'a query, an empty line and a long one, 32768, 32769, 32770, 40000 bytes in all; the long line unended, 32768 and 32769 bytes in all'
+    )
+    long = whole + b'\n'
+    for length in (32768, 32769, 32770, 40000):
+        par(long.ljust(length - 1, b'0') + b'\n')
+    for length in (32768, 32769):
+        par(long.ljust(length, b'0'))
+
+
+def counter(direction, cost):
+    """0 1 .. 1 at the end become 1 0 .. 0, up to all ones; the other way round where the direction is -1."""
+    sides = [('-' * (13 - ones) + '0' + '1' * ones, '-' * (13 - ones) + '1' + '0' * ones) for ones in range(14)]
+    rules = [(cost, left[::direction], right[::direction]) for left, right in sides]
+    return block_of(14, 2, rules, ['1' * 14], [0, 1])
+
+
+def rings():
+    """A ring turns where the next one to the end is 1 and all behind that are 0; the last turns always."""
+    rules = []
+    for ring in range(14):
+        before, behind = '-' * (13 - ring), ('1' + '0' * (ring - 1)) if ring else ''
+        rules += [(1, before + old + behind, before + new + '-' * ring) for old, new in ('01', '10')]
+    return block_of(14, 2, rules, ['0' * 14], [0, 1])
+
+
+def random_term(random, labels, label_share, variable_share):
+    kind = random.random()
+    if kind < label_share:
+        return random.randrange(labels)
+    return 16 + random.randrange(3) if kind < label_share + variable_share else 255
+
+
+def random_right(random, left, place, labels):
+    """A right term that has a binding or needs none."""
+    kind, free = random.random(), left[place] == 255
+    if kind < (0.25 if free else 0.6):
+        return random.randrange(labels)
+    return 255 if free or kind > 0.9 else random.choice(left)
+
+
+def random_block(random, n, labels, abstracts, rules, goals):
+    """A block that is accepted; many of its rules cost nothing, or the same, and few states meet its goals."""
+    out = [n, labels, abstracts, rules, goals] + [label % abstracts for label in range(labels)]
+    for _ in range(rules):
+        out.append(random.randrange(random.choice([1, 4, 4, 256])))
+        left = [random_term(random, labels, 0.25, 0.25) for _ in range(n)]
+        out += left + [random_right(random, left, place, labels) for place in range(n)]
+    return out + [random_term(random, labels, 0.75, 0.1) for _ in range(n * goals)]
+
+
+def random_small_block(random):
+    """A block for a table of at most 4,096 entries."""
+    n, labels = random.randint(1, 6), random.choice([1, 2, 2, 3, 3, 4, 4])
+    abstracts = random.randint(1, labels) if random.random() < 0.15 else labels
+    return random_block(random, n, labels, abstracts, random.randint(0, 12), random.randint(1, 3))
+
+
+def fill_order_blocks():
+    random = Random(1)
+    blocks = [random_small_block(random) for _ in range(150)]
+    blocks += [counter(1, 1), counter(-1, 1), counter(1, 255), rings()]
+    # seeds with which many states reach a goal, some of them from far
+    large = [(3, 14, 2, 64, 1), (3, 14, 2, 64, 8), (10, 7, 4, 30, 1), (4, 6, 5, 20, 2), (11, 4, 11, 16, 3), (9, 3, 16, 16, 8)]
+    large += [(1, 16, 1, 64, 8)]
+    return blocks + [random_block(Random(seed), n, labels, labels, rules, goals) for seed, n, labels, rules, goals in large]
+
+
+def fill_order_input():
+    """Texts of exercises, with an empty line behind each; kept as crates/fill_order/stdin."""
+    for block in fill_order_blocks():
+        print(text_of(block).decode())
+
+
+def fill_order():
+    for _ in fill_order_blocks():
+        print('in order')
+
+
+if __name__ == '__main__':
+    parts = [blocks, rules, predecessors, replays, tables, searches, texts, sessions, fill_order, fill_order_input]
+    {part.__name__: part for part in parts}[sys.argv[1]]()
