@@ -1,9 +1,9 @@
--- What it says that a list is `labelled`: its length, and each label by itself (`labelled-length`, `labelled-at`, `labelled-intro`); and its number in the base
--- of the label counts: `labelled-below`, `labelled-digits`, `digits-labelled`. The theorems on states and ranks, and the code that reads a checked state, rest on these.
+-- What it says that a list is `labelled`: its length, and each label by itself (`labelled-length`, `labelled-at`, `labelled-intro`; of a block's state `state-length`, `state-label`); and its number
+-- in the base of the label counts: `labelled-below`, `labelled-digits`, `digits-labelled`. The theorems on states and ranks, and the code that reads a checked state, rest on these.
 use mathlib.Core.Path.{_≡_}
 use mathlib.Core.Bool.{true}
 use mathlib.Core.List.{List}
-use Prim.Native.Nat.{ℕ, _<_}
+use Prim.Native.Nat.{ℕ, _≤_, _<_}
 use native.Mathlib.Omega.{arith}
 use lib.Dec.{eqb, ltb}
 use lib.ListN.{length, getD}
@@ -12,7 +12,7 @@ use Rattle.basics.proofs.Truth.{and-true, and-intro}
 use Rattle.basics.proofs.Bounded.{all-at, all-intro}
 use Rattle.basics.specs.Digits.{valueTo, digits, span}
 use Rattle.basics.proofs.Digits.{value-below, digits-value, digit-below, length-digits}
-use Rattle.blocks.specs.Layout.{positions, labelCount}
+use Rattle.blocks.specs.Layout.{positions, labelCount, abstractCount}
 use Rattle.blocks.specs.Validity.{Headed}
 use Rattle.blocks.specs.States.{labelled, stateOk}
 
@@ -44,8 +44,21 @@ pub digits-labelled : (n : ℕ) (count : ℕ → ℕ) → ((i : ℕ) → 0 < cou
 digits-labelled n count positive k =
     labelled-intro n count (digits count n k) (length-digits count n k) (digit-below count positive n k)
 
--- a label of a block's state
-pub label-below : (b : List ℕ) → Headed b → (s : List ℕ) → stateOk b s ≡ true → (i : ℕ) → i < positions b → getD s i 0 < 16
+-- a block's state
+pub state-length : (b s : List ℕ) → stateOk b s ≡ true → length s ≡ positions b
+state-length b s ok = labelled-length (positions b) (labelCount b) s ok
+
+pub state-label : (b s : List ℕ) → stateOk b s ≡ true → (i : ℕ) → i < positions b → getD s i 0 < labelCount b i
+state-label b s ok i l = labelled-at (positions b) (labelCount b) s ok i l
+
+-- counts and labels are small
+pub label-count-low : (b : List ℕ) → Headed b → (i : ℕ) → labelCount b i ≤ 16
 unfolding labelCount
-label-below b h s ok i l =
-    omega (arith, labelled-at (positions b) (labelCount b) s ok i l, h .sizes .l-high)
+label-count-low b h i = h .sizes .l-high
+
+pub abstract-count-low : (b : List ℕ) → Headed b → (i : ℕ) → abstractCount b i ≤ 16
+unfolding abstractCount
+abstract-count-low b h i = omega (arith, h .sizes .l-high, h .sizes .k-high)
+
+pub label-below : (b : List ℕ) → Headed b → (s : List ℕ) → stateOk b s ≡ true → (i : ℕ) → i < positions b → getD s i 0 < 16
+label-below b h s ok i l = omega (arith, state-label b s ok i l, label-count-low b h i)

@@ -18,6 +18,9 @@ pub const HEAD_LENGTH: usize = 5;
 // The most positions that a state can have.
 pub const MOST_POSITIONS: usize = 16;
 
+// How many bytes hold every block, the longest of which has 2,261.
+pub const BLOCK_ROOM: usize = 2304;
+
 // Byte i of the head.
 fn head_byte(block: &[u8], i: usize) -> usize
     requires { ⌜ (headLength ≤ length (now block)) × (i < headLength) ⌝ }
@@ -69,7 +72,7 @@ pub fn goals(block: &[u8]) -> usize
 // How many labels there are at position i.
 pub fn label_count(block: &[u8], i: usize) -> usize
     requires { ⌜ Headed (now block) × (i < positions (now block)) ⌝ }
-    ensures { λ r. ⌜ r ≡ labelCount (now (block .entry)) i ⌝ }
+    ensures { λ r. ⌜ (r ≡ labelCount (now (block .entry)) i) × (r ≤ 16) ⌝ }
 {
     labels(block)
 }

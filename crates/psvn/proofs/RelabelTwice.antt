@@ -1,5 +1,5 @@
--- Relabelling twice changes nothing more, of a block (`relabel-twice`) and of a state (`relabel-state-twice`), and a relabelled valid block is valid
--- (`relabelled-valid`). So whatever holds of every valid block holds of the relabelled one.
+-- Relabelling twice changes nothing more, of a block (`relabel-twice`) and of a state (`relabel-state-twice`; the relabelled block's map is the identity: `identity-state`), and a relabelled valid
+-- block is valid (`relabelled-valid`). So whatever holds of every valid block holds of the relabelled one.
 use mathlib.Core.Path.{_≡_, refl, sym, ap, ap₂, _∙_}
 use mathlib.Core.Bool.{true, _&&_, false≢true}
 use mathlib.Core.List.{List, _∷_, _++_}
@@ -8,10 +8,11 @@ use native.Mathlib.Omega.{arith}
 use lib.Dec.{ltb}
 use lib.ListN.{getD}
 use borrow.Author.Tests.{ltb-true, lt-ltb}
-use Rattle.basics.specs.Lists.{joined}
+use Rattle.basics.specs.Lists.{tabulate, joined}
 use Rattle.basics.proofs.Truth.{and-intro}
 use Rattle.basics.proofs.Bounded.{all-intro}
-use Rattle.basics.proofs.Lists.{tabulate-ext, joined-ext}
+use Rattle.basics.proofs.Lists.{length-tabulate, getD-tabulate, tabulate-ext, joined-ext}
+use Rattle.basics.proofs.Order.{same-list}
 use Rattle.blocks.specs.Terms.{termOf, termOk}
 use Rattle.blocks.specs.Layout.{positions, abstracts, rules, goals, labelCount, abstractCount, mapByte, mapAt, leftOf, rightOf, goalOf, relabelHead}
 use Rattle.blocks.specs.Validity.{sideOk, ruleTermsOk, goalTermsOk, mapOk, termsOk, boundIn, ruleBound, boundOk, Sizes, Headed, Valid}
@@ -19,16 +20,26 @@ use Rattle.blocks.specs.States.{stateOk}
 use Rattle.psvn.specs.Relabelling.{relabelTerm, relabelSide, relabelRule, relabelGoal, relabelBlock, relabelState}
 use Rattle.blocks.proofs.TermCases.{View, label, variable, dash, refused, view, is-label, is-variable, is-dash, is-refused}
 use Rattle.blocks.proofs.Accepted.{left-side, right-side, goal-side, right-bound, side-term}
-use Rattle.blocks.proofs.StateLaws.{labelled-at}
+use Rattle.blocks.proofs.StateLaws.{state-length, state-label}
 use Rattle.psvn.proofs.Relabelled.{positions-relabelled, labels-relabelled, abstracts-relabelled, rules-relabelled, goals-relabelled, label-count-relabelled, states-relabelled, block-length-relabelled, map-byte-relabelled, map-relabelled, cost-relabelled, left-relabelled, right-relabelled, goal-relabelled, relabelled-long}
-use Rattle.psvn.proofs.Homomorphism.{relabel-label, relabel-other, bound-in-relabelled, map-small, map-alike, state-relabelled}
-use Rattle.psvn.proofs.Stepping.{map-in}
+use Rattle.psvn.proofs.Homomorphism.{relabel-label, relabel-other, bound-in-relabelled, map-small, map-alike}
+use Rattle.psvn.proofs.Stepping.{map-in, relabelled-state, abstract-states}
 
 -- a relabelled block, by its three parts
 block-parts :
     (b : List ℕ) → relabelBlock b ≡ relabelHead b ++ (joined (rules b) (relabelRule b) ++ joined (goals b) (relabelGoal b))
 unfolding relabelBlock
 block-parts b = refl
+
+-- the relabelled block's map is the identity
+pub identity-state : (b u : List ℕ) → stateOk (relabelBlock b) u ≡ true → relabelState (relabelBlock b) u ≡ u
+unfolding relabelState
+identity-state b u ok =
+    let a = relabelBlock b in
+    let f : ℕ → ℕ = λ i. mapAt a i (getD u i 0) in
+    same-list (positions a) (tabulate (positions a) f) u (length-tabulate (positions a) f) (state-length a u ok) (λ i l.
+    getD-tabulate (positions a) f i l
+    ∙ map-relabelled b i (getD u i 0) (rw (sym (label-count-relabelled b i)) (state-label a u ok i l)))
 
 module _ (b : List ℕ) (v : Valid b) where
   -- a relabelled term is right in the relabelled block
@@ -109,12 +120,8 @@ module _ (b : List ℕ) (v : Valid b) where
 
   pub relabel-state-twice :
       (s : List ℕ) → stateOk b s ≡ true → relabelState (relabelBlock b) (relabelState b s) ≡ relabelState b s
-  unfolding relabelState
   relabel-state-twice s ok =
-      rw (positions-relabelled b)
-      (tabulate-ext (positions b) (λ i. mapAt (relabelBlock b) i (getD (relabelState b s) i 0)) (λ i. mapAt b i (getD s i 0)) (λ i l.
-      ap (mapAt (relabelBlock b) i) (state-relabelled b v s i l)
-      ∙ map-relabelled b i (mapAt b i (getD s i 0)) (map-in b v i (getD s i 0) (labelled-at (positions b) (labelCount b) s ok i l))))
+      identity-state b (relabelState b s) (abstract-states b (relabelState b s) ∙ relabelled-state b v s ok)
 
   -- the relabelled block is valid
   sizes-relabelled : Sizes (relabelBlock b)

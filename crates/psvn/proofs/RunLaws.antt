@@ -18,7 +18,7 @@ use Rattle.blocks.specs.Layout.{positions, rules, costOf, leftOf, rightOf}
 use Rattle.blocks.specs.Validity.{Valid}
 use Rattle.blocks.specs.States.{stateOk}
 use Rattle.psvn.specs.Rules.{given, rewritten, applies, step, meets}
-use Rattle.psvn.specs.Runs.{applyInTurn, run, totalCost, reaches}
+use Rattle.psvn.specs.Runs.{RuleNumbers, applyInTurn, run, totalCost, reaches}
 use Rattle.psvn.proofs.Stepping.{step-state}
 
 module _ (b : List ℕ) where
@@ -66,15 +66,14 @@ module _ (b : List ℕ) where
   run-length s (x ∷ rs) e = run-length (step b x s) rs (step-length x s)
 
   pub run-state :
-      Valid b → (s rs : List ℕ) → stateOk b s ≡ true → ((i : ℕ) → i < length rs → getD rs i 0 < rules b)
-      → stateOk b (run b s rs) ≡ true
+      Valid b → (s rs : List ℕ) → stateOk b s ≡ true → RuleNumbers b rs → stateOk b (run b s rs) ≡ true
   run-state v s [] ok h = ok
   run-state v s (x ∷ rs) ok h =
       run-state v (step b x s) rs (step-state b v x (h 0 (omega arith)) s ok) (λ i l. h (suc i) (omega arith))
 
   -- a list that reaches a goal
   pub record Reaching (s rs : List ℕ) : Type 0 where
-    pub numbers : (i : ℕ) → i < length rs → getD rs i 0 < rules b
+    pub numbers : RuleNumbers b rs
     pub in-turn : applyInTurn b s rs ≡ true
     pub goal : meets b (run b s rs) ≡ true
 
@@ -91,8 +90,7 @@ module _ (b : List ℕ) where
       }
     where
       numbers-more :
-          (r : ℕ) (rs : List ℕ) → r < rules b → ((i : ℕ) → i < length rs → getD rs i 0 < rules b)
-          → (i : ℕ) → i < length (r ∷ rs) → getD (r ∷ rs) i 0 < rules b
+          (r : ℕ) (rs : List ℕ) → r < rules b → RuleNumbers b rs → RuleNumbers b (r ∷ rs)
       numbers-more r rs l h zero k = l
       numbers-more r rs l h (suc i) k = h i (le-of-suc-le-suc k)
 

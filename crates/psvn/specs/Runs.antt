@@ -1,11 +1,16 @@
 -- Lists of rule numbers from a state: whether their rules apply in turn (`applyInTurn`), the last state (`run`), their cost (`totalCost`), and whether they reach a goal (`reaches`).
 -- Replay, tables and the search are stated with these.
-use Prim.Native.Nat.{ℕ, _+_}
+use Prim.Native.Nat.{ℕ, _+_, _<_}
 use mathlib.Core.Bool.{Bool, true, _&&_}
 use mathlib.Core.List.{List, [], _∷_}
 use lib.Dec.{ltb}
+use lib.ListN.{length, getD}
 use Rattle.blocks.specs.Layout.{rules, costOf}
 use Rattle.psvn.specs.Rules.{applies, step, meets}
+
+-- every number of the list is that of a rule
+abbrev pub RuleNumbers : List ℕ → List ℕ → Type 0
+RuleNumbers b rs = (i : ℕ) → i < length rs → getD rs i 0 < rules b
 
 -- the rules apply in turn from the state s
 abbrev pub applyInTurn : List ℕ → List ℕ → List ℕ → Bool

@@ -1,4 +1,4 @@
-// Relabelling: a block and its states under the map.
+// Relabelling: a block under the map.
 ghost use mathlib.Core.Path.{_≡_};
 ghost use mathlib.Core.Bool.{true};
 ghost use Prim.Native.Nat.{_+_, _≤_, _<_};
@@ -8,9 +8,7 @@ ghost use Rattle.basics.specs.Lists.{atFront, joined};
 ghost use Rattle.blocks.specs.Terms.{termOf, termOk};
 ghost use Rattle.blocks.specs.Layout.{positions, rules, goals, labelCount, mapAt, sideAt};
 ghost use Rattle.blocks.specs.Validity.{Sized, Valid, sideOk};
-ghost use Rattle.blocks.specs.States.{stateOk};
-ghost use Rattle.psvn.specs.Relabelling.{relabelTerm, relabelSide, relabelRule, relabelGoal, relabelBlock, relabelState};
-use blocks::labels::ConcreteLabel;
+ghost use Rattle.psvn.specs.Relabelling.{relabelTerm, relabelSide, relabelRule, relabelGoal, relabelBlock};
 use blocks::labels::byte_of;
 use blocks::layout;
 use blocks::terms::Term;
@@ -91,17 +89,4 @@ pub fn relabel_block(block: &[u8], out: &mut [u8])
     let rules_at = layout::relabel_head(block, out);
     let goals_at = relabel_rules(block, out, rules_at);
     relabel_goals(block, out, goals_at);
-}
-
-// Writes the relabelled state at the front of `out`.
-pub fn relabel_state(block: &[u8], state: &[u8], out: &mut [u8])
-    requires { ⌜ Sized (now block) × (stateOk (now block) (now state) ≡ true) × (positions (now block) ≤ length (now out)) ⌝ }
-    ensures { λ _. ⌜ now (out .exit) ≡ atFront (relabelState (now (block .entry)) (now (state .entry))) (now (out .entry)) ⌝ }
-{
-    let n = layout::positions(block);
-    let mut i: usize = 0;
-    while i < n {
-        out[i] = byte_of(layout::abstract_label(block, i, ConcreteLabel(state[i])));
-        i += 1;
-    }
 }

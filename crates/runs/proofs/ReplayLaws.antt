@@ -15,9 +15,9 @@ use Rattle.blocks.specs.Layout.{positions, rules}
 use Rattle.blocks.specs.Validity.{Valid}
 use Rattle.blocks.specs.States.{stateOk}
 use Rattle.psvn.specs.Rules.{applies}
-use Rattle.psvn.specs.Runs.{applyInTurn, run, totalCost}
+use Rattle.psvn.specs.Runs.{RuleNumbers, applyInTurn, run, totalCost}
 use Rattle.psvn.proofs.RunLaws.{in-turn-at, in-turn-intro, run-length, run-state}
-use Rattle.runs.specs.Replay.{Ending, done, stuck, numbersOk, RuleNumbers, appliedCount, applied, replayEnding, replayState}
+use Rattle.runs.specs.Replay.{Ending, done, stuck, numbersOk, appliedCount, applied, replayEnding, replayState}
 
 -- done with cost c: the rules apply in turn, and these are their cost and the last state
 pub record DoneWith (b s rs : List ℕ) (c : ℕ) : Type 0 where

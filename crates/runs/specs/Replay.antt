@@ -1,6 +1,6 @@
 -- Replaying a recorded run, at most 4,096 rule numbers from a start: 'done', or 'stuck' at the first index whose rule does not apply (`replayEnding`);
 -- either way with the cost so far, and the state there written out (`replayState`). The public call to replay a run is stated with these.
-use Prim.Native.Nat.{ℕ, _<_}
+use Prim.Native.Nat.{ℕ}
 use mathlib.Core.Bool.{Bool, cond, not}
 use mathlib.Core.List.{List}
 use lib.Dec.{ltb}
@@ -24,9 +24,6 @@ endingOf (Stuck index cost) = stuck index cost
 -- every number of the list is that of a rule; and how many there may be
 unfoldable pub numbersOk : List ℕ → List ℕ → Bool
 numbersOk b rs = all (length rs) (λ i. ltb (getD rs i 0) (rules b))
-
-abbrev pub RuleNumbers : List ℕ → List ℕ → Type 0
-RuleNumbers b rs = (i : ℕ) → i < length rs → getD rs i 0 < rules b
 
 abbrev pub longestList : ℕ
 longestList = 4096

@@ -16,10 +16,11 @@ use Rattle.psvn.specs.Relabelling.{relabelBlock}
 use Rattle.psvn.specs.Ranks.{rank, unrank}
 use Rattle.psvn.proofs.Relabelled.{positions-relabelled, abstracts-relabelled}
 use Rattle.psvn.proofs.Stepping.{step-state, abstract-states}
+use Rattle.psvn.proofs.RelabelTwice.{identity-state, relabelled-valid}
 use Rattle.psvn.proofs.RankLaws.{rank-below, unrank-rank}
 use Rattle.basics.specs.Digits.{valueTo}
 use Rattle.distances.specs.Graphs.{leadsOn, reaches, totalCost}
-use Rattle.tables.specs.Abstraction.{stepRank, graphOf}
+use Rattle.tables.specs.Abstraction.{stepRank, graphOf, Relabelled}
 
 -- the ranks of abstract states, and the states of the relabelled block
 module _ (b : List ℕ) where
@@ -70,8 +71,11 @@ module _ (a : List ℕ) (v : Valid a) (abstract : (u : List ℕ) → stateOk a u
   cost-rank [] = refl
   cost-rank (r ∷ rs) = ap (λ (c : ℕ). costOf a r + c) (cost-rank rs)
 
--- the relabelled block is such a block
+-- the relabelled block is such a block, and each of its states its own relabelled state
 pub relabelled-abstract : (b u : List ℕ) → stateOk (relabelBlock b) u ≡ abstractOk (relabelBlock b) u
 unfolding abstractCount
 relabelled-abstract b u =
     abstract-states b u ∙ ap₂ (λ (n k : ℕ). labelled n (λ i. k) u) (sym (positions-relabelled b)) (sym (abstracts-relabelled b))
+
+pub relabelled-block : (b : List ℕ) → Valid b → Relabelled (relabelBlock b)
+relabelled-block b v = record { valid = relabelled-valid b v; abstract = relabelled-abstract b; same = identity-state b }

@@ -7,28 +7,20 @@ use mathlib.Core.List.{List}
 use Prim.Native.Nat.{ℕ, _≤_, _<_}
 use native.Mathlib.Nat.{le-refl}
 use native.Mathlib.Omega.{arith}
-use lib.ListN.{getD}
-use Rattle.basics.specs.Lists.{tabulate}
-use Rattle.basics.proofs.Lists.{length-tabulate, getD-tabulate}
-use Rattle.basics.proofs.Order.{same-list}
-use Rattle.blocks.specs.Layout.{positions, rules, goals, labelCount, mapAt, abstractStates}
-use Rattle.blocks.specs.Validity.{Headed, Valid}
+use Rattle.blocks.specs.Layout.{positions, rules, goals, abstractStates}
+use Rattle.blocks.specs.Validity.{Headed}
 use Rattle.blocks.specs.States.{stateOk}
-use Rattle.blocks.proofs.StateLaws.{labelled-length, labelled-at}
 use Rattle.psvn.specs.Rules.{applies, step, meets}
-use Rattle.psvn.specs.Relabelling.{relabelBlock, relabelState}
+use Rattle.psvn.specs.Relabelling.{relabelState}
 use Rattle.psvn.specs.Ranks.{rank, unrank}
-use Rattle.psvn.proofs.Relabelled.{label-count-relabelled, map-relabelled}
 use Rattle.psvn.proofs.Stepping.{step-state}
-use Rattle.psvn.proofs.RelabelTwice.{relabelled-valid}
 use Rattle.psvn.proofs.RankLaws.{rank-below, unrank-state, rank-unrank}
 use Rattle.words.specs.Packing.{unpack}
 use Rattle.words.specs.Sides.{appliesWord, stepWord, meetsWord}
 use Rattle.words.specs.Ranking.{rankWord, wordOf}
 use Rattle.words.proofs.Meaning.{applies-word, step-word, cost-word, meets-word, rank-word, unpack-word-of, word-of-small}
 use Rattle.distances.specs.Filling.{Cheap}
-use Rattle.tables.specs.Abstraction.{stepRank, graphOf, Relabelled, Ready}
-use Rattle.tables.proofs.OverRanks.{relabelled-abstract}
+use Rattle.tables.specs.Abstraction.{stepRank, graphOf, Ready}
 
 module _ (a words moves weights : List ℕ) (ready : Ready a words moves weights) where
   headed : Headed a
@@ -96,18 +88,3 @@ module _ (a words moves weights : List ℕ) (ready : Ready a words moves weights
           step-applied (sym (word-applies r l) ∙ h)
           ∙ ap (rank a) (sym made ∙ ap (unpack (positions a)) e ∙ unpack-word-of headed v)
           ∙ rank-unrank a headed v i
-
--- the relabelled block's map is the identity
-identity-state : (b u : List ℕ) → stateOk (relabelBlock b) u ≡ true → relabelState (relabelBlock b) u ≡ u
-unfolding relabelState
-identity-state b u ok =
-    let a = relabelBlock b in
-    let n = positions a in
-    let f : ℕ → ℕ = λ i. mapAt a i (getD u i 0) in
-    same-list n (tabulate n f) u (length-tabulate n f) (labelled-length n (labelCount a) u ok) (λ i l.
-    getD-tabulate n f i l
-    ∙ map-relabelled b i (getD u i 0) (rw (sym (label-count-relabelled b i)) (labelled-at n (labelCount a) u ok i l)))
-
--- the relabelled block is one whose states are its abstract states
-pub relabelled-block : (b : List ℕ) → Valid b → Relabelled (relabelBlock b)
-relabelled-block b v = record { valid = relabelled-valid b v; abstract = relabelled-abstract b; same = identity-state b }

@@ -41,7 +41,7 @@ rises-as : (c : tie.Joined1 Inv-loop μ-loop) → c .before .rises .result ≡ r
 rises-as c =
     let x = getD (now (c .before .before .before .before .before .before .before .before .before .before .args .earlier)) (c .before .before .before .before .before .before .loop .i) 0 in
     c .before .rises .ensures
-    ∙ ap₂ (λ (count : ℕ) (choice : Choice). risesOf count choice x) (c .before .before .label-count .ensures) (c .before .before .before .before .choice-at .ensures)
+    ∙ ap₂ (λ (count : ℕ) (choice : Choice). risesOf count choice x) (c .before .before .label-count .ensures .0) (c .before .before .before .before .choice-at .ensures)
 
 -- where the arms of the first test meet, `best` tells the last position up to this one
 best-last : (c : tie.Joined1 Inv-loop μ-loop) → c .if1 .best ≡ last (c .before .before .before .before .before .before .loop .i + 1) (turnsAt (labelCount (now (c .before .before .before .before .before .before .before .before .before .before .args .block))) (choices-of (c .before .before .before .before .before .before .before .before .before .before)) (now (c .before .before .before .before .before .before .before .before .before .before .args .earlier)))

@@ -52,7 +52,7 @@ answer :
 answer c =
     let a = c .before .before .before .before .before .before .before .args in
     let term = termOf (sideAt (now (a .block)) (a .at) (c .before .before .before .before .loop .i)) in
-    c .term-ok .ensures ∙ ap (λ (n : ℕ). termOk n term) (c .before .label-count .ensures)
+    c .term-ok .ensures ∙ ap (λ (n : ℕ). termOk n term) (c .before .label-count .ensures .0)
 
 returns : tie.Need-returns Inv-loop μ-loop
 unfolding sideOk

@@ -14,7 +14,7 @@ use Rattle.psvn.specs.Relabelling.{relabelBlock}
 use Rattle.psvn.proofs.Relabelled.{relabelled-length, states-relabelled}
 use Rattle.distances.specs.LeastCosts.{leastCosts}
 use Rattle.tables.specs.Abstraction.{graphOf}
-use Rattle.tables.proofs.WordEdges.{relabelled-block}
+use Rattle.tables.proofs.OverRanks.{relabelled-block}
 use Rattle.filling.specs.FilledTables.{filled}
 use Rattle.filling.proofs.filling.fill.Statement.{statement}
 use Rattle.filling.proofs.filling.fill.Tie as tie

@@ -13,7 +13,7 @@ use Rattle.psvn.proofs.Relabelled.{relabelled-length, states-relabelled}
 use Rattle.distances.specs.LowerBounds as test
 use Rattle.tables.specs.Abstraction.{graphOf}
 use Rattle.tables.specs.Tables.{passesTest}
-use Rattle.tables.proofs.WordEdges.{relabelled-block}
+use Rattle.tables.proofs.OverRanks.{relabelled-block}
 use Rattle.tables.proofs.lower_bound.passes.Statement.{statement}
 use Rattle.tables.proofs.lower_bound.passes.Tie as tie
 
