@@ -10,7 +10,7 @@ use native.Mathlib.Omega.{arith}
 use lib.Dec.{leb, ltb}
 use borrow.Author.Tests.{ltb-true, ltb-false}
 use Rattle.rounds.specs.Systems.{System, Estimate, mark, at}
-use Rattle.rounds.specs.Rounds.{free, upto, Progress, on, hit, stop, Answer, noPlan, spent, visits, Offer, cut, over, due, andThen, behind, takeUp, conclude, capped, begin, arrive, offer, extend, visit, round, rounds, roundsFrom, search}
+use Rattle.rounds.specs.Rounds.{free, upto, Progress, on, hit, stop, Answer, noPlan, spent, visits, Offer, cut, over, due, andThen, behind, takeUp, conclude, capped, begin, arrive, Visitor, offer, extend, visit, round, rounds, roundsFrom, search}
 
 -- the visits used
 unfoldable pub used : Progress → ℕ
@@ -120,11 +120,8 @@ held-arrive v false b g u o k m l e held rise =
 -- ---- a round
 
 module _ (Y : System) (h : Y .State → Estimate) (T : ℕ) where
-  abbrev Next : Type 0
-  Next = List (Y .State) → Y .State → ℕ → ℕ → Estimate → Progress
-
   extend-rises :
-      (next : Next) → ((seen : List (Y .State)) (s : Y .State) (g u : ℕ) (o : Estimate) → u ≤ used (next seen s g u o))
+      (next : Visitor (Y .State)) → ((seen : List (Y .State)) (s : Y .State) (g u : ℕ) (o : Estimate) → u ≤ used (next seen s g u o))
       → (seen : List (Y .State)) (s : Y .State) (g k i u : ℕ) (o : Estimate) → u ≤ used (extend Y h T next seen s g k i u o)
   unfolding extend
   extend-rises next rise seen s g zero i u o = used-on u o
@@ -142,7 +139,7 @@ module _ (Y : System) (h : Y .State → Estimate) (T : ℕ) where
       (extend-rises (visit Y h free T d) (λ ss t c x y. omega (arith, visit-rises d ss t c x y)) seen s g (Y .rules) 0)
 
   extend-held :
-      (v : ℕ) (next other : Next)
+      (v : ℕ) (next other : Visitor (Y .State))
       → ((seen : List (Y .State)) (s : Y .State) (g u : ℕ) (o : Estimate) → u ≤ v
       → Held v (next seen s g u o) (other seen s g u o))
       → ((seen : List (Y .State)) (s : Y .State) (g u : ℕ) (o : Estimate) → u ≤ used (other seen s g u o))

@@ -14,7 +14,9 @@ use Rattle.rounds.specs.OpenLists.{totalCost, Open, Reaches}
 use Rattle.rounds.specs.Rounds.{Allowance, allows, Progress, on, hit, stop, Answer, found, noPlan, spent, conclude, capped, begin, rounds, roundsFrom, search}
 use Rattle.rounds.specs.Promises.{Floor, Best}
 use Rattle.rounds.proofs.OpenListLaws.{Trail, open-trail, trail-open, trail-run}
-use Rattle.rounds.proofs.OneRound.{mark-at, at-injective, within-mono, Edge, Hits, Passed, Struck, Says, Short, round-says}
+use Rattle.rounds.proofs.EstimateLaws.{mark-at, at-injective, within-mono}
+use Rattle.rounds.proofs.ListSets.{Short}
+use Rattle.rounds.proofs.OneRound.{Edge, Hits, Passed, Struck, Says, round-says}
 use Rattle.rounds.proofs.ReachingLists.{visited-trail, visited-cost, edge-above, EdgeUnder, bound, reach}
 
 module _ (Y : System) (D : ℕ) (s : Y .State) where
@@ -107,13 +109,13 @@ module _
   -- the start's estimate is a floor; with a marked start there is no plan
   pub floor-start : (T : ℕ) → h s ≡ at T → Floor Y D s T
   floor-start T e q o w =
-      let (j, x, y) = bound Y h 0 L P s q (w .last) good (w .runs) (w .meets) in
+      let (j, x, y) = bound Y h L P s q (w .last) good (w .runs) (w .meets) in
       let z : T ≡ j = at-injective T j (sym e ∙ x) in
       omega arith
 
   none-start : h s ≡ mark → (q : List ℕ) → Reaches Y s q → ⊥
   none-start e q w =
-      let (j, x, y) = bound Y h 0 L P s q (w .last) good (w .runs) (w .meets) in
+      let (j, x, y) = bound Y h L P s q (w .last) good (w .runs) (w .meets) in
       mark-at j (sym e ∙ x)
 
   begin-right :

@@ -29,7 +29,7 @@ module _ (Y : System) (h : Y .State → Estimate) (D B : ℕ) (s : Y .State) whe
     first-round : (T : ℕ) → h s ≡ at T → RoundAt A T 0
     further : (T u w n : ℕ) → RoundAt A T u → T ≤ B → round Y h A D s T u ≡ on w (at n) → RoundAt A n w
 
--- only one list is before another and behind it
+-- lists each of which is the other or comes before it are the same
 pub before-antisym : (p q : List ℕ) → Before p q → Before q p → p ≡ q
 before-antisym [] [] a b = refl
 before-antisym [] (i ∷ q) a b = absurd b
@@ -139,28 +139,23 @@ module _
 
 -- ---- two estimates
 
--- every passing estimate gives the same plan
-pub same-plan :
-    (Y : System) (h k : Y .State → Estimate) {Good : Y .State → Type 0} (L : Lawful Y Good) → Passing Y Good h
-    → Passing Y Good k → (A E : Allowance) (D B : ℕ) (s : Y .State) → Good s → (u v c d : ℕ) (p q : List ℕ)
-    → search Y h A D B s ≡ found u p c → search Y k E D B s ≡ found v q d → p ≡ q
-same-plan Y h k L P Q A E D B s i u v c d p q x y =
-    best-one Y D s B B p q (found-best Y h L P D B s i A u c p x .1) (found-best Y k L Q D B s i E v d q y .1)
+module _
+    (Y : System) (h k : Y .State → Estimate) {Good : Y .State → Type 0} (L : Lawful Y Good) (P : Passing Y Good h)
+    (Q : Passing Y Good k) (A : Allowance) (D B : ℕ) (s : Y .State) (good : Good s) where
+  -- every passing estimate gives the same plan
+  pub same-plan :
+      (E : Allowance) (u v c d : ℕ) (p q : List ℕ) → search Y h A D B s ≡ found u p c → search Y k E D B s ≡ found v q d → p ≡ q
+  same-plan E u v c d p q x y =
+      best-one Y D s B B p q (found-best Y h L P D B s good A u c p x .1) (found-best Y k L Q D B s good E v d q y .1)
 
--- and where one finds a plan, so does any other that is given no allowance: the same, at the same cost
-pub same-found :
-    (Y : System) (h k : Y .State → Estimate) {Good : Y .State → Type 0} (L : Lawful Y Good) → Passing Y Good h
-    → Passing Y Good k → (A : Allowance) (D B : ℕ) (s : Y .State) → Good s → (u c : ℕ) (p : List ℕ)
-    → search Y h A D B s ≡ found u p c → (v : ℕ) × (search Y k free D B s ≡ found v p c)
-same-found Y h k L P Q A D B s i u c p e =
-    let (x, b) = found-best Y h L P D B s i A u c p e in
-    let (v, q, f) = finds Y k L Q D B s i p (b .reaches) (b .open-list .short) (b .within) in
-    let y : p ≡ q = same-plan Y h k L P Q A free D B s i u v c (totalCost Y q) p q e f in
-    (v, f ∙ ap (λ (z : List ℕ). found v z (totalCost Y z)) (sym y) ∙ ap (found v p) (sym x))
+  -- and where one finds a plan, so does any other that is given no allowance: the same, at the same cost
+  pub same-found :
+      (u c : ℕ) (p : List ℕ) → search Y h A D B s ≡ found u p c → (v : ℕ) × (search Y k free D B s ≡ found v p c)
+  same-found u c p e =
+      let (x, b) = found-best Y h L P D B s good A u c p e in
+      let (v, q, f) = finds Y k L Q D B s good p (b .reaches) (b .open-list .short) (b .within) in
+      let y : p ≡ q = same-plan free u v c (totalCost Y q) p q e f in
+      (v, f ∙ ap (λ (z : List ℕ). found v z (totalCost Y z)) (sym y) ∙ ap (found v p) (sym x))
 
-pub same-none :
-    (Y : System) (h k : Y .State → Estimate) {Good : Y .State → Type 0} (L : Lawful Y Good) → Passing Y Good h
-    → Passing Y Good k → (A : Allowance) (D B : ℕ) (s : Y .State) → Good s → (u : ℕ) → search Y h A D B s ≡ noPlan u
-    → (v : ℕ) × (search Y k free D B s ≡ noPlan v)
-same-none Y h k L P Q A D B s i u e =
-    finds-none Y k L Q D B s i (λ q w l c. omega (arith, no-plan-none Y h L P D B s i A u e q w l))
+  pub same-none : (u : ℕ) → search Y h A D B s ≡ noPlan u → (v : ℕ) × (search Y k free D B s ≡ noPlan v)
+  same-none u e = finds-none Y k L Q D B s good (λ q w l c. omega (arith, no-plan-none Y h L P D B s good A u e q w l))

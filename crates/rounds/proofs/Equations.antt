@@ -1,6 +1,6 @@
 -- The rounds' equations, a law for each branch of a program: a visit that is due (`visit-stop`, `visit-goal`, `visit-leaf`, `visit-more`), what a rule offers
 -- (`offer-none`, `offer-seen`, `offer-mark`, `offer-over`, `offer-due`), one rule and then the others (`extend-none` to `extend-stop`), a round and then the others
--- (`rounds-above` to `rounds-on`). Code that searches rests on these and unfolds nothing.
+-- (`rounds-above` to `rounds-on`). Code that searches rests on these; beside them it unfolds only `begin`, `conclude`, `round`, `search` and `lower`.
 use mathlib.Core.Path.{_≡_, refl, ap, ap₂, _∙_}
 use mathlib.Core.Bool.{Bool, true, false}
 use mathlib.Core.Option.{none, some}
@@ -8,9 +8,9 @@ use mathlib.Core.List.{List, [], _∷_}
 use Prim.Native.Nat.{ℕ, zero, suc, _+_}
 use lib.Dec.{leb}
 use Rattle.rounds.specs.Systems.{System, Lawful, Estimate, mark, at, plus, lower}
-use Rattle.rounds.specs.Rounds.{occurs, Allowance, allows, Progress, on, hit, stop, found, noPlan, spent, Offer, cut, over, due, judge, weigh, andThen, behind, takeUp, arrive, conclude, capped, offered, offer, extend, visit, round, roundsFrom}
+use Rattle.rounds.specs.Rounds.{occurs, Allowance, allows, Progress, on, hit, stop, found, noPlan, spent, Offer, cut, over, due, judge, weigh, andThen, behind, takeUp, arrive, conclude, capped, Visitor, offered, offer, extend, visit, round, roundsFrom}
 use Rattle.rounds.proofs.ReachingLists.{offer-judge}
-use Rattle.rounds.proofs.Fuel.{rounds-again}
+use Rattle.rounds.proofs.RoundCounts.{rounds-again}
 
 -- a visit that is due, by its two tests
 module _ (a b : Bool) (g u : ℕ) (o : Estimate) (k : ℕ → Estimate → Progress) where
@@ -50,6 +50,7 @@ module _ (Y : System) (h : Y .State → Estimate) (A : Allowance) (T : ℕ) (see
   unfolding visit
   visit-more d u o e f = arrive-on (allows A u) (Y .goal s) g u o _ e f
 
+module _ (Y : System) (h : Y .State → Estimate) (T : ℕ) (seen : List (Y .State)) (s : Y .State) (g : ℕ) where
   -- ---- an offer
 
   pub offer-none : (r : ℕ) → Y .step r s ≡ none → offer Y h T seen s g r ≡ cut
@@ -82,11 +83,11 @@ module _ (Y : System) (h : Y .State → Estimate) (A : Allowance) (T : ℕ) (see
 
   -- ---- one rule, then the others
 
-  module _ (next : List (Y .State) → Y .State → ℕ → ℕ → Estimate → Progress) (k i u : ℕ) (o : Estimate) where
-    pub extend-none : extend Y h T next seen s g 0 i u o ≡ on u o
-    unfolding extend
-    extend-none = refl
+  pub extend-none : (next : Visitor (Y .State)) (i u : ℕ) (o : Estimate) → extend Y h T next seen s g 0 i u o ≡ on u o
+  unfolding extend
+  extend-none next i u o = refl
 
+  module _ (next : Visitor (Y .State)) (k i u : ℕ) (o : Estimate) where
     -- what rule i leaves, handed on to the others
     handed-on : Progress → Progress
     handed-on x = andThen x (λ w q. extend Y h T next seen s g k (suc i) w q)

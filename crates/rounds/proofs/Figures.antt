@@ -14,19 +14,11 @@ use Rattle.rounds.specs.OpenLists.{plusMaybe, Avoids, run, totalCost, Op
 use Rattle.rounds.specs.Rounds.{Allowance, on, Offer, cut, over, due, offer, round}
 use Rattle.rounds.specs.Promises.{InRound, Fringe, Least}
 use Rattle.rounds.proofs.OpenListLaws.{Trail, run-step, trail-open, open-trail, avoids-fresh, fresh-avoids}
-use Rattle.rounds.proofs.OneRound.{mark-at, at-injective, within-mono, OnEdge, Visited, Edge, at-visited, at-edge, round-passed}
+use Rattle.rounds.proofs.EstimateLaws.{within-mono, zero-plus, number}
+use Rattle.rounds.proofs.OneRound.{OnEdge, Visited, Edge, at-visited, at-edge, round-passed}
 use Rattle.rounds.proofs.BestPlans.{higher}
 use Rattle.rounds.proofs.Demand.{RoundAt, first-round, further}
-use Rattle.rounds.proofs.ReachingLists.{Leads, Sound, offer-sound, offer-cases, visited-cons}
-
-zero-plus : (x : Estimate) → x ≡ plus 0 x
-zero-plus mark = refl
-zero-plus (at n) = ap at (omega arith)
-
--- the figure of an estimate that is a number
-number : (e : Estimate) (g f : ℕ) → plus g e ≡ at f → (k : ℕ) × (e ≡ at k) × (g + k ≡ f)
-number mark g f x = absurd (mark-at f x)
-number (at k) g f x = (k, refl, at-injective (g + k) f x)
+use Rattle.rounds.proofs.ReachingLists.{Leads, Sound, offer-sound, offer-cases, visited-cons, visited-trail}
 
 module _ (Y : System) (h : Y .State → Estimate) where
   -- the figure of a list from s, where the list before it costs g
@@ -118,7 +110,7 @@ module _ (Y : System) (h : Y .State → Estimate) where
       -- the first rule of a trail, where the figure after it is a number
       leads :
           (seen : List (Y .State)) (s m : Y .State) (r k : ℕ) → Y .step r s ≡ some m → Avoids m seen → h m ≡ at k
-          → Leads Y h T seen s r m k
+          → Leads Y h seen s r m k
       leads seen s m r k e a x = record { steps = e; fresh = avoids-fresh Y L m seen a; rated = x }
 
       from-visited :
@@ -143,7 +135,7 @@ module _ (Y : System) (h : Y .State → Estimate) where
           go (offer Y h T seen s g r) (offer-sound Y h T seen s g r) v (λ m b w. edge-from (m ∷ seen) m (g + Y .cost r) p f b w)
         where
           one :
-              (m : Y .State) (k z : ℕ) → Leads Y h T seen s r m k → z ≡ g + Y .cost r + k → T < z → z ≡ f
+              (m : Y .State) (k z : ℕ) → Leads Y h seen s r m k → z ≡ g + Y .cost r + k → T < z → z ≡ f
               → FringeFrom seen s g (r ∷ []) f
           one m k z l e b c = (
             m,
@@ -199,11 +191,17 @@ module _ (Y : System) (h : Y .State → Estimate) where
 
       -- ---- the same from a start
 
+      at-start : (s : Y .State) → Within (h s) T → Within (plus 0 (h s)) T
+      at-start s w = within (sym (zero-plus (h s))) w
+
       pub visited-in :
-          (s : Y .State) (p : List ℕ) (t : Y .State) → Within (h s) T → Visited Y h T (s ∷ []) s 0 p t → InRound Y h T s p
+          (d : ℕ) (s : Y .State) (p : List ℕ) (t : Y .State) → Within (h s) T → length p ≤ d → Visited Y h T (s ∷ []) s 0 p t
+          → Open Y d s p × InRound Y h T s p
       unfolding InRound InFrom
-      visited-in s p t w v q z e =
-          within (figure-from s q) (visited-from (s ∷ []) s 0 p t (within (zero-plus (h s)) w) v q z e)
+      visited-in d s p t w l v = (
+        trail-open Y d s p t (visited-trail Y h T L (s ∷ []) s 0 p t v) l,
+        λ q z e. within (figure-from s q) (visited-from (s ∷ []) s 0 p t (at-start s w) v q z e),
+      )
 
       pub in-visited :
           (d : ℕ) (s : Y .State) (p : List ℕ) (t : Y .State) → Open Y d s p → run Y s p ≡ some t → InRound Y h T s p
@@ -217,7 +215,7 @@ module _ (Y : System) (h : Y .State → Estimate) where
           → Fringe Y h T d s p f
       unfolding ProperFrom
       edge-fringe d s p f a l v =
-          let (t, w, x, y, z) = edge-from (s ∷ []) s 0 p f (within (zero-plus (h s)) a) v in
+          let (t, w, x, y, z) = edge-from (s ∷ []) s 0 p f (at-start s a) v in
           record {
             open-list = trail-open Y d s p t w l;
             figured = sym (figure-from s p) ∙ x;
@@ -230,7 +228,7 @@ module _ (Y : System) (h : Y .State → Estimate) where
       unfolding ProperFrom
       fringe-edge d s p f a v =
           let (t, e) = v .open-list .applies in
-          from-edge (s ∷ []) s 0 p f t (within (zero-plus (h s)) a) (open-trail Y d s p t (v .open-list) e)
+          from-edge (s ∷ []) s 0 p f t (at-start s a) (open-trail Y d s p t (v .open-list) e)
           (figure-from s p ∙ v .figured) (v .above)
           (λ q i r e. within (sym (figure-from s q)) (v .proper q i r e))
 
@@ -251,7 +249,7 @@ module _ (Y : System) (h : Y .State → Estimate) where
 module _
     (Y : System) (h : Y .State → Estimate) {Good : Y .State → Type 0} (L : Lawful Y Good) (D B : ℕ) (s : Y .State)
     (A : Allowance) where
-  start-within : (T u : ℕ) → RoundAt Y h D B s A T u → Within (h s) T
+  pub start-within : (T u : ℕ) → RoundAt Y h D B s A T u → Within (h s) T
   start-within T u (first-round _ e) = within Y h T (sym e) (omega arith)
   start-within n w (further T u _ _ a l e) =
       within-mono (h s) T n (start-within T u a) (omega (arith, higher Y h D s T n (round-passed Y h T L A D s u w (at n) e)))

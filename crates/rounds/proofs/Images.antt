@@ -9,7 +9,7 @@ use Prim.Native.Nat.{ℕ, zero, suc, _+_, _≤_, _<_}
 use native.Mathlib.Omega.{arith}
 use lib.Dec.{leb}
 use Rattle.rounds.specs.Systems.{System, Estimate, mark, at, plus}
-use Rattle.rounds.specs.Rounds.{Allowance, allows, Progress, on, judge, weigh, andThen, behind, takeUp, conclude, capped, begin, arrive, occurs, offered, offer, extend, visit, round, rounds, roundsFrom, search}
+use Rattle.rounds.specs.Rounds.{Allowance, allows, Progress, on, judge, weigh, andThen, behind, takeUp, conclude, capped, begin, arrive, occurs, Visitor, offered, offer, extend, visit, round, rounds, roundsFrom, search}
 
 -- φ takes the system Y to Z, state by state, over the good states of Y; the estimates h and k agree
 pub record Image
@@ -22,10 +22,6 @@ pub record Image
   pub goal : (s : Y .State) → Good s → Y .goal s ≡ Z .goal (φ s)
   pub same : (s t : Y .State) → Good s → Good t → Y .same s t ≡ Z .same (φ s) (φ t)
   pub estimate : (s : Y .State) → Good s → h s ≡ k (φ s)
-
--- what visits a list, for each path, last state, cost, visits used and least overshoot
-abbrev Visitor : Type 0 → Type 0
-Visitor S = List S → S → ℕ → ℕ → Estimate → Progress
 
 -- all of a list are good
 abbrev AllGood : {A : Type 0} → (A → Type 0) → List A → Type 0

@@ -1,100 +1,23 @@
--- A round's visits are as many as its log is long (`log-counts`). The log holds just the visited lists up to the first that meets a goal, each once, in the order
--- by rule numbers (`log-says`). These show what visits are counted of; nothing else rests on them.
+-- The log of a round holds just the visited lists up to the first that meets a goal, each once, in the order by rule numbers: by what is offered (`log-says`), and by the
+-- definitions alone (`log-exactly`; `log-at-round`, for the rounds of a search). Shown part by part (`Holds`).
+-- With the count of the log, this shows what visits are counted of; nothing else rests on it.
 use mathlib.Core.Path.{_≡_, refl, ap, subst, sym}
-use mathlib.Core.Logic.{_⊎_, inl, inr}
-use mathlib.Core.Bool.{Bool, true, false, true≢false}
-use mathlib.Core.List.{List, [], _∷_, _++_, map, head-eq-of-cons-eq, tail-eq-of-cons-eq}
+use mathlib.Core.Logic.{_⊎_, inl, inr, _↔_}
+use mathlib.Core.Bool.{Bool, true, false}
+use mathlib.Core.List.{List, [], _∷_, _++_, map, tail-eq-of-cons-eq}
 use Prim.Native.Nat.{ℕ, zero, suc, _+_, _≤_}
 use native.Mathlib.Omega.{arith}
-use lib.ListN.{length, length-append, length-map}
-use Rattle.rounds.specs.Systems.{System, Estimate, mark, Lawful}
-use Rattle.rounds.specs.OpenLists.{Before}
-use Rattle.rounds.specs.Rounds.{free, Progress, on, hit, stop, Offer, cut, over, due, andThen, behind, takeUp, arrive, offer, extend, visit, round}
-use Rattle.rounds.specs.Logs.{Log, log, logAfter, logThen, logBehind, logTake, logArrive, logExtend, logVisit, roundLog}
-use Rattle.rounds.proofs.OneRound.{OnDue, Visited, Hits, Short, Only, From, only-from, later-from, from-split, from-none, from-short, only-before, not-goal, visited-at, none-due, at-visited, due-rule}
-
--- ---- the visits are counted
-
--- x adds to u visits as many as the log is long, and has a plan where the log has ended
-unfoldable pub Counts : ℕ → Progress → Log → Type 0
-Counts u (on w o) (log xs b) = (w ≡ u + length xs) × (b ≡ false)
-Counts u (hit w p c) (log xs b) = (w ≡ u + length xs) × (b ≡ true)
-Counts u (stop w) (log xs b) = ⊥
-
-counts-on : (u : ℕ) (o : Estimate) → Counts u (on u o) (log [] false)
-unfolding Counts
-counts-on u o = (omega arith, refl)
-
-counts-behind : (u r : ℕ) (x : Progress) (l : Log) → Counts u x l → Counts u (behind r x) (logBehind r l)
-unfolding Counts behind logBehind
-counts-behind u r (on w o) (log xs b) c = (omega (arith, length-map xs (λ p. r ∷ p)), c .1)
-counts-behind u r (hit w p c) (log xs b) k = (omega (arith, length-map xs (λ p. r ∷ p)), k .1)
-counts-behind u r (stop w) (log xs b) c = c
-
-counts-take :
-    {S : Type 0} (x : Offer S) (r : ℕ) (next : S → ℕ → Estimate → Progress) (other : S → Log) (u : ℕ) (o : Estimate)
-    → ((t : S) → Counts u (next t u o) (other t)) → Counts u (takeUp x r next u o) (logTake x r other)
-unfolding takeUp logTake
-counts-take cut r next other u o c = counts-on u o
-counts-take (over f) r next other u o c = counts-on u _
-counts-take (due t) r next other u o c = counts-behind u r (next t u o) (other t) (c t)
-
-counts-after :
-    (u w : ℕ) (x : Progress) (xs : List (List ℕ)) (l : Log) → w ≡ u + length xs → Counts w x l → Counts u x (logAfter xs l)
-unfolding Counts
-counts-after u w (on v o) xs (log ys b) e c = (omega (arith, length-append xs ys), c .1)
-counts-after u w (hit v p k) xs (log ys b) e c = (omega (arith, length-append xs ys), c .1)
-counts-after u w (stop v) xs (log ys b) e c = c
-
-counts-then :
-    (u : ℕ) (x : Progress) (l : Log) (k : ℕ → Estimate → Progress) (m : ℕ → Log) → Counts u x l
-    → ((w : ℕ) (o : Estimate) → Counts w (k w o) (m 0)) → Counts u (andThen x k) (logThen l m)
-unfolding andThen logThen
-counts-then u (on w o) (log xs true) k m c n = absurd (unfold Counts in (true≢false (c .1)))
-counts-then u (on w o) (log xs false) k m c n = counts-after u w (k w o) xs (m 0) (unfold Counts in (c .0)) (n w o)
-counts-then u (hit w p z) (log xs true) k m c n = c
-counts-then u (hit w p z) (log xs false) k m c n = absurd (unfold Counts in (true≢false (sym (c .1))))
-counts-then u (stop w) (log xs b) k m c n = absurd (unfold Counts in c)
-
-counts-arrive :
-    (b : Bool) (g u : ℕ) (o : Estimate) (k : ℕ → Estimate → Progress) (m : ℕ → Log)
-    → ((w : ℕ) (q : Estimate) → Counts w (k w q) (m 0)) → Counts u (arrive true b g u o k) (logArrive b m)
-unfolding arrive logArrive
-counts-arrive true g u o k m n = unfold Counts in (omega arith, refl)
-counts-arrive false g u o k m n = counts-after u (suc u) (k (suc u) o) ([] ∷ []) (m 0) (omega arith) (n (suc u) o)
-
-module _ (Y : System) (h : Y .State → Estimate) (T : ℕ) where
-  extend-counts :
-      (next : List (Y .State) → Y .State → ℕ → ℕ → Estimate → Progress) (other : List (Y .State) → Y .State → ℕ → Log)
-      → ((seen : List (Y .State)) (s : Y .State) (g u : ℕ) (o : Estimate) → Counts u (next seen s g u o) (other seen s g))
-      → (seen : List (Y .State)) (s : Y .State) (g k i u : ℕ) (o : Estimate)
-      → Counts u (extend Y h T next seen s g k i u o) (logExtend Y h T other seen s g k i)
-  unfolding extend logExtend
-  extend-counts next other ih seen s g zero i u o = counts-on u o
-  extend-counts next other ih seen s g (suc k) i u o =
-      counts-then u _ _ _ _
-      (counts-take (offer Y h T seen s g i) i _ _ u o (λ t. ih (t ∷ seen) t (g + Y .cost i) u o))
-      (λ w q. extend-counts next other ih seen s g k (suc i) w q)
-
-  visit-counts :
-      (d : ℕ) (seen : List (Y .State)) (s : Y .State) (g u : ℕ) (o : Estimate)
-      → Counts u (visit Y h free T d seen s g u o) (logVisit Y h T d seen s g)
-  unfolding visit logVisit
-  visit-counts zero seen s g u o = counts-arrive (Y .goal s) g u o on _ counts-on
-  visit-counts (suc d) seen s g u o =
-      counts-arrive (Y .goal s) g u o _ _
-      (extend-counts (visit Y h free T d) (logVisit Y h T d) (λ ss t c x y. visit-counts d ss t c x y) seen s g (Y .rules) 0)
-
-  -- a round with no allowance: its visits, and whether it finds a plan
-  pub log-counts : (D : ℕ) (s : Y .State) (u : ℕ) → Counts u (round Y h free D s T u) (roundLog Y h T D s)
-  unfolding round roundLog
-  log-counts D s u = visit-counts D (s ∷ []) s 0 u mark
-
--- ---- what a log holds
-
-abbrev pub Member : List ℕ → List (List ℕ) → Type 0
-Member p [] = ⊥
-Member p (x ∷ xs) = (p ≡ x) ⊎ Member p xs
+use lib.ListN.{length}
+use Rattle.rounds.specs.Systems.{System, Estimate, Within, Lawful}
+use Rattle.rounds.specs.OpenLists.{Before, Sooner}
+use Rattle.rounds.specs.Rounds.{Allowance, Offer, cut, over, due, offer}
+use Rattle.rounds.specs.Logs.{Log, log, Member, Rising, logAfter, logThen, logBehind, logTake, logArrive, logExtend, logVisit, roundLog, Logged}
+use Rattle.rounds.proofs.OpenListLaws.{trail-run}
+use Rattle.rounds.proofs.ListSets.{Short, Only, From, only-from, later-from, from-split, from-none, from-short, only-sooner}
+use Rattle.rounds.proofs.OneRound.{OnDue, Visited, Hits, not-goal, visited-at, none-due, at-visited, due-rule}
+use Rattle.rounds.proofs.ReachingLists.{visited-trail}
+use Rattle.rounds.proofs.Demand.{RoundAt, before-antisym}
+use Rattle.rounds.proofs.Figures.{visited-in, in-visited, start-within}
 
 member-append : (p : List ℕ) (xs ys : List (List ℕ)) → Member p (xs ++ ys) → Member p xs ⊎ Member p ys
 member-append p [] ys m = inr m
@@ -121,15 +44,6 @@ map-member r p [] m = absurd m
 map-member r p (x ∷ xs) (inl e) = inl (ap (λ (q : List ℕ). r ∷ q) e)
 map-member r p (x ∷ xs) (inr m) = inr (map-member r p xs m)
 
--- p comes before q
-abbrev pub Sooner : List ℕ → List ℕ → Type 0
-Sooner p q = Before p q × (¬ (p ≡ q))
-
--- each list comes before all those behind it
-abbrev pub Rising : List (List ℕ) → Type 0
-Rising [] = Unit {0}
-Rising (x ∷ xs) = ((q : List ℕ) → Member q xs → Sooner x q) × Rising xs
-
 rising-append :
     (xs ys : List (List ℕ)) → Rising xs → Rising ys → ((p q : List ℕ) → Member p xs → Member q ys → Sooner p q)
     → Rising (xs ++ ys)
@@ -148,11 +62,6 @@ rising-map r (x ∷ xs) a = (
   λ q m. let (p, e, n) = member-map r q xs m in subst (Sooner (r ∷ x)) (sym e) (sooner-cons r x p (a .0 p n)),
   rising-map r xs (a .1),
 )
-
-only-sooner : (i k d : ℕ) (p q : List ℕ) → Only i d p → From (suc i) k d q → Sooner p q
-only-sooner i k d [] q a b = absurd a
-only-sooner i k d (r ∷ p) [] a b = absurd b
-only-sooner i k d (r ∷ p) (x ∷ q) a b = (inl (omega arith), λ e. omega (arith, head-eq-of-cons-eq e))
 
 module _ (Y : System) (h : Y .State → Estimate) (T : ℕ) where
   -- p is visited, and no list of Q that meets a goal comes before it
@@ -246,12 +155,6 @@ module _ (Y : System) (h : Y .State → Estimate) (T : ℕ) where
     take-holds (over f) e next ih = nothing (over f) e (λ P w. w)
     take-holds (due t) e next ih = behind-holds t e (next t) (ih t)
 
-    not-before : (k : ℕ) (p q : List ℕ) → Only i d p → From (suc i) k d q → Before q p → ⊥
-    not-before k [] q a b c = a
-    not-before k (r ∷ p) [] a b c = b
-    not-before k (r ∷ p) (x ∷ q) a b (inl c) = omega arith
-    not-before k (r ∷ p) (x ∷ q) a b (inr c) = omega (arith, c .0)
-
     after-holds :
         (k : ℕ) (xs : List (List ℕ)) (l : Log) → Holds seen s g (Only i d) xs false → LogSays seen s g (From (suc i) k d) l
         → LogSays seen s g (From i (suc k) d) (logAfter xs l)
@@ -274,7 +177,7 @@ module _ (Y : System) (h : Y .State → Estimate) (T : ℕ) where
                     only-from i k d p (z .0),
                     z .1,
                     λ q f v. elim (from-split i k d q f)
-                        [ inl c ↦ absurd (x .ends q c v) | inr c ↦ only-before i k d p q (z .0) c ],
+                        [ inl c ↦ absurd (x .ends q c v) | inr c ↦ only-sooner i k d p q (z .0) c .0 ],
                   ))
               | inr w ↦
                   (let z = y .sound p w in (
@@ -296,23 +199,24 @@ module _ (Y : System) (h : Y .State → Estimate) (T : ℕ) where
         ends false n = λ p f v. elim (from-split i k d p f) [ inl c ↦ x .ends p c v | inr c ↦ n p c v ]
 
     then-holds :
-        (k : ℕ) (l : Log) (m : ℕ → Log) → LogSays seen s g (Only i d) l → LogSays seen s g (From (suc i) k d) (m 0)
+        (k : ℕ) (l m : Log) → LogSays seen s g (Only i d) l → LogSays seen s g (From (suc i) k d) m
         → LogSays seen s g (From i (suc k) d) (logThen l m)
     unfolding LogSays logThen
-    then-holds k (log xs false) m x y = after-holds k xs (m 0) x y
+    then-holds k (log xs false) m x y = after-holds k xs m x y
     then-holds k (log xs true) m x y =
         record {
           sound = λ p w. let z = x .sound p w in (
             only-from i k d p (z .0),
             z .1,
-            λ q f v. elim (from-split i k d q f) [ inl c ↦ z .2 q c v | inr c ↦ only-before i k d p q (z .0) c ],
+            λ q f v. elim (from-split i k d q f) [ inl c ↦ z .2 q c v | inr c ↦ only-sooner i k d p q (z .0) c .0 ],
           );
           complete = λ p w.
               elim (from-split i k d p (w .0)) [
                 | inl c ↦ x .complete p (c, w .1, λ q f v. w .2 q (only-from i k d q f) v)
                 | inr c ↦
                     (let (q, f, v) = x .ends in
-                    absurd (not-before k q p f c (w .2 q (only-from i k d q f) v)))
+                    let z = only-sooner i k d q p f c in
+                    absurd (z .1 (before-antisym q p (z .0) (w .2 q (only-from i k d q f) v))))
               ];
           ends = let z = x .ends in (z .0, only-from i k d (z .0) (z .1), z .2);
           rises = x .rises;
@@ -386,8 +290,8 @@ module _ (Y : System) (h : Y .State → Estimate) (T : ℕ) where
           complete (r ∷ p) w = absurd (w .2 [] (omega arith) (s, refl, e))
 
       arrive-holds :
-          (d : ℕ) (b : Bool) → Y .goal s ≡ b → (m : ℕ → Log)
-          → (Y .goal s ≡ false → LogSays seen s g (Short d) (logAfter ([] ∷ []) (m 0)))
+          (d : ℕ) (b : Bool) → Y .goal s ≡ b → (m : Log)
+          → (Y .goal s ≡ false → LogSays seen s g (Short d) (logAfter ([] ∷ []) m))
           → LogSays seen s g (Short d) (logArrive b m)
       unfolding logArrive
       arrive-holds d true e m k = goal-holds d e
@@ -413,3 +317,41 @@ module _ (Y : System) (h : Y .State → Estimate) (T : ℕ) where
     pub log-says : (D : ℕ) (s : Y .State) → LogSays (s ∷ []) s 0 (Short D) (roundLog Y h T D s)
     unfolding roundLog
     log-says D s = visit-holds D (s ∷ []) s 0
+
+    module _ (D : ℕ) (s : Y .State) (w : Within (h s) T) where
+      logged-due : (p : List ℕ) → Logged Y h T D s p → Due (s ∷ []) s 0 (Short D) p
+      logged-due p (o, i, f) =
+          let (t, e) = o .applies in
+          (o .short, (t, in-visited Y h T L D s p t o e i), first)
+        where
+          first : (q : List ℕ) → length q ≤ D → Hits Y h T (s ∷ []) s 0 q → Before p q
+          first q l (t, v, g) =
+              let (x, y) = visited-in Y h T L D s q t w l v in
+              let tr = visited-trail Y h T L (s ∷ []) s 0 q t v in
+              f q x y (record { last = t; runs = trail-run Y (s ∷ []) s q t tr; meets = g })
+
+      due-logged : (p : List ℕ) → Due (s ∷ []) s 0 (Short D) p → Logged Y h T D s p
+      due-logged p (l, (t, v), f) =
+          let (x, y) = visited-in Y h T L D s p t w l v in (
+            x,
+            y,
+            λ q o i r. f q (o .short) (r .last, in-visited Y h T L D s q (r .last) o (r .runs) i, r .meets),
+          )
+
+      -- the same by the definitions alone
+      pub log-exactly :
+          (xs : List (List ℕ)) (b : Bool) → roundLog Y h T D s ≡ log xs b
+          → ((p : List ℕ) → Member p xs ↔ Logged Y h T D s p) × Rising xs
+      unfolding LogSays
+      log-exactly xs b e =
+          let a : Holds (s ∷ []) s 0 (Short D) xs b = subst (LogSays (s ∷ []) s 0 (Short D)) e (log-says D s) in (
+            λ p. (λ m. due-logged p (a .sound p m), λ x. a .complete p (logged-due p x)),
+            a .rises,
+          )
+
+-- so it is in every round that the search comes to
+pub log-at-round :
+    (Y : System) (h : Y .State → Estimate) {Good : Y .State → Type 0} (L : Lawful Y Good) (D B : ℕ) (s : Y .State)
+    (A : Allowance) (T u : ℕ) → RoundAt Y h D B s A T u → (xs : List (List ℕ)) (b : Bool) → roundLog Y h T D s ≡ log xs b
+    → ((p : List ℕ) → Member p xs ↔ Logged Y h T D s p) × Rising xs
+log-at-round Y h L D B s A T u a = log-exactly Y h T L D s (start-within Y h L D B s A T u a)

@@ -2,17 +2,18 @@
 -- is theirs (`Passed`); where it finds a plan, that is the first of them that meets a goal (`Struck`). Lists are `Visited`, or an `Edge`, by what is offered.
 -- The answer, the next threshold and the log of a round rest on these.
 use mathlib.Core.Path.{_≡_, refl, ap, subst, sym, _∙_}
-use mathlib.Core.Logic.{_⊎_, inl, inr, ⊎-elim}
+use mathlib.Core.Logic.{_⊎_, inl, inr}
 use mathlib.Core.Bool.{Bool, true, false, true≢false}
 use mathlib.Core.Option.{Option, none, some}
 use mathlib.Core.List.{List, [], _∷_}
 use Prim.Native.Nat.{ℕ, zero, suc, _+_, _≤_, _<_}
 use native.Mathlib.Omega.{arith}
 use lib.ListN.{length}
-use Rattle.basics.proofs.Order.{below?}
 use Rattle.rounds.specs.Systems.{System, Estimate, mark, at, Within, lower, Lawful}
 use Rattle.rounds.specs.OpenLists.{Before, totalCost}
-use Rattle.rounds.specs.Rounds.{Allowance, allows, Progress, on, hit, stop, Offer, cut, over, due, andThen, behind, takeUp, arrive, offered, offer, extend, visit, round}
+use Rattle.rounds.specs.Rounds.{Allowance, allows, Progress, on, hit, stop, Offer, cut, over, due, andThen, behind, takeUp, arrive, Visitor, offered, offer, extend, visit, round}
+use Rattle.rounds.proofs.EstimateLaws.{lower-within, lower-kept, lower-cases}
+use Rattle.rounds.proofs.ListSets.{Short, Only, From, only-from, later-from, from-split, from-none, from-short, only-sooner}
 
 -- what holds of the state that is offered for a visit
 abbrev pub OnDue : {S : Type 0} → Offer S → (S → Type 0) → Type 0
@@ -25,74 +26,6 @@ abbrev pub OnEdge : {S : Type 0} → Offer S → List ℕ → ℕ → (S → Typ
 OnEdge cut p f P = ⊥
 OnEdge (over e) p f P = (p ≡ []) × (e ≡ f)
 OnEdge (due m) p f P = P m
-
--- ---- sets of lists
-
--- up to d rules
-abbrev pub Short : ℕ → List ℕ → Type 0
-Short d p = length p ≤ d
-
--- one rule i, then up to d
-abbrev pub Only : ℕ → ℕ → List ℕ → Type 0
-Only i d [] = ⊥
-Only i d (r ∷ p) = (r ≡ i) × (length p ≤ d)
-
--- a rule from i on, one of k, then up to d
-abbrev pub From : ℕ → ℕ → ℕ → List ℕ → Type 0
-From i k d [] = ⊥
-From i k d (r ∷ p) = (i ≤ r) × (r < i + k) × (length p ≤ d)
-
-pub only-from : (i k d : ℕ) (p : List ℕ) → Only i d p → From i (suc k) d p
-only-from i k d [] q = absurd q
-only-from i k d (r ∷ p) q = (omega arith, omega arith, q .1)
-
-pub later-from : (i k d : ℕ) (p : List ℕ) → From (suc i) k d p → From i (suc k) d p
-later-from i k d [] q = absurd q
-later-from i k d (r ∷ p) q = (omega arith, omega arith, q .2)
-
-pub from-split : (i k d : ℕ) (p : List ℕ) → From i (suc k) d p → Only i d p ⊎ From (suc i) k d p
-from-split i k d [] q = absurd q
-from-split i k d (r ∷ p) q = ⊎-elim (λ l. inr (l, omega arith, q .2)) (λ l. inl (omega arith, q .2)) (below? i r)
-
-pub from-none : (i d : ℕ) (p : List ℕ) → From i zero d p → ⊥
-from-none i d [] q = q
-from-none i d (r ∷ p) q = omega arith
-
-pub from-short : (i k d : ℕ) (p : List ℕ) → From i k d p → length p ≤ suc d
-from-short i k d [] q = absurd q
-from-short i k d (r ∷ p) q = omega (arith, q .2)
-
-pub only-before : (i k d : ℕ) (p q : List ℕ) → Only i d p → From (suc i) k d q → Before p q
-only-before i k d [] q a b = absurd a
-only-before i k d (r ∷ p) [] a b = absurd b
-only-before i k d (r ∷ p) (x ∷ q) a b = inl (omega arith)
-
--- ---- estimates
-
-pub mark-at : (n : ℕ) → mark ≡ at n → ⊥
-mark-at n e = let z : _≡_ {A = ℕ} 0 1 = cc in omega arith
-
-pub at-injective : (m n : ℕ) → at m ≡ at n → m ≡ n
-at-injective m n e = cc
-
-pub within-mono : (e : Estimate) (f c : ℕ) → Within e f → f ≤ c → Within e c
-within-mono mark f c v l = v
-within-mono (at n) f c v l = omega arith
-
-lower-within : (f z : ℕ) (o : Estimate) → f ≤ z → Within (lower f o) z
-unfolding lower
-lower-within f z mark l = l
-lower-within f z (at n) l = omega arith
-
-lower-kept : (f z : ℕ) (o : Estimate) → Within o z → Within (lower f o) z
-unfolding lower
-lower-kept f z mark l = absurd l
-lower-kept f z (at n) l = omega arith
-
-lower-cases : (f : ℕ) (o : Estimate) → (lower f o ≡ o) ⊎ (lower f o ≡ at f)
-unfolding lower
-lower-cases f mark = inr refl
-lower-cases f (at n) = ⊎-elim (λ l. inl (ap at (omega arith))) (λ l. inr (ap at (omega arith))) (below? n f)
 
 module _ (Y : System) (h : Y .State → Estimate) (T : ℕ) where
   -- from a list of cost g with last state s: the list that goes on by p is visited, and its last state is t
@@ -170,7 +103,7 @@ module _ (Y : System) (h : Y .State → Estimate) (T : ℕ) where
           inside = only-from i k d p (a .inside);
           hits = a .hits;
           costs = a .costs;
-          first = λ x w y. elim (from-split i k d x w) [ inl v ↦ a .first x v y | inr v ↦ only-before i k d p x (a .inside) v ];
+          first = λ x w y. elim (from-split i k d x w) [ inl v ↦ a .first x v y | inr v ↦ only-sooner i k d p x (a .inside) v .0 ];
         }
     after o (stop u) m a b = a
 
@@ -277,12 +210,9 @@ module _ (Y : System) (h : Y .State → Estimate) (T : ℕ) where
 
   -- ---- the extensions of a list, and a visit
 
-  abbrev Next : Type 0
-  Next = List (Y .State) → Y .State → ℕ → ℕ → Estimate → Progress
-
   module _ (A : Allowance) where
     extend-says :
-        (d : ℕ) (next : Next)
+        (d : ℕ) (next : Visitor (Y .State))
         → ((seen : List (Y .State)) (s : Y .State) (g u : ℕ) (o : Estimate) → Says A seen s g (Short d) o (next seen s g u o))
         → (seen : List (Y .State)) (s : Y .State) (g k i u : ℕ) (o : Estimate)
         → Says A seen s g (From i k d) o (extend Y h T next seen s g k i u o)
@@ -300,25 +230,26 @@ module _ (Y : System) (h : Y .State → Estimate) (T : ℕ) where
         (λ w q. extend-says d next ih seen s g k (suc i) w q)
 
   module _ {Good : Y .State → Type 0} (L : Lawful Y Good) where
+    -- where more is offered than nothing, r is one of the rules
+    offer-rule :
+        (seen : List (Y .State)) (s : Y .State) (g r : ℕ) (P : Offer (Y .State) → Type 0) → (P cut → ⊥)
+        → P (offer Y h T seen s g r) → r < Y .rules
+    unfolding offer
+    offer-rule seen s g r P n w = go (Y .step r s) refl w
+      where
+        go : (x : Option (Y .State)) → Y .step r s ≡ x → P (offered Y h T seen (g + Y .cost r) x) → r < Y .rules
+        go none e v = absurd (n v)
+        go (some t) e v = L .numbered r s t e
+
     pub due-rule :
         (seen : List (Y .State)) (s : Y .State) (g r : ℕ) (P : Y .State → Type 0) → OnDue (offer Y h T seen s g r) P
         → r < Y .rules
-    unfolding offer
-    due-rule seen s g r P w = go (Y .step r s) refl w
-      where
-        go : (x : Option (Y .State)) → Y .step r s ≡ x → OnDue (offered Y h T seen (g + Y .cost r) x) P → r < Y .rules
-        go none e v = absurd v
-        go (some t) e v = L .numbered r s t e
+    due-rule seen s g r P w = offer-rule seen s g r (λ x. OnDue x P) (λ v. v) w
 
     edge-rule :
         (seen : List (Y .State)) (s : Y .State) (g r : ℕ) (p : List ℕ) (f : ℕ) (P : Y .State → Type 0)
         → OnEdge (offer Y h T seen s g r) p f P → r < Y .rules
-    unfolding offer
-    edge-rule seen s g r p f P w = go (Y .step r s) refl w
-      where
-        go : (x : Option (Y .State)) → Y .step r s ≡ x → OnEdge (offered Y h T seen (g + Y .cost r) x) p f P → r < Y .rules
-        go none e v = absurd v
-        go (some t) e v = L .numbered r s t e
+    edge-rule seen s g r p f P w = offer-rule seen s g r (λ x. OnEdge x p f P) (λ v. v) w
 
     module _ (A : Allowance) (seen : List (Y .State)) (s : Y .State) (g : ℕ) where
       -- the list itself meets no goal, and its extensions are told of

@@ -17,24 +17,38 @@ use Rattle.rounds.specs.Rounds.{occurs, Offer, cut, over, due, judge, ra
 use Rattle.rounds.proofs.OpenListLaws.{Trail, run-cons, fresh-avoids, avoids-fresh, trail-run}
 use Rattle.rounds.proofs.OneRound.{OnDue, OnEdge, Visited, Edge, at-visited, at-edge}
 
-module _ (Y : System) (h : Y .State → Estimate) (T : ℕ) where
-  -- ---- what an offer tells
-
+module _ (Y : System) (h : Y .State → Estimate) where
   -- rule r leads from s to m, which is new; k is the estimate of m
   pub record Leads (seen : List (Y .State)) (s : Y .State) (r : ℕ) (m : Y .State) (k : ℕ) : Type 0 where
     pub steps : Y .step r s ≡ some m
     pub fresh : occurs Y m seen ≡ false
     pub rated : h m ≡ at k
 
+  -- an estimate is at most what it costs to reach a goal
+  module _ {Good : Y .State → Type 0} (L : Lawful Y Good) (P : Passing Y Good h) where
+    pub bound :
+        (s : Y .State) (p : List ℕ) (t : Y .State) → Good s → run Y s p ≡ some t → Y .goal t ≡ true
+        → (k : ℕ) × (h s ≡ at k) × (k ≤ totalCost Y p)
+    bound s [] t i e q =
+        (0, P .at-goal s i (subst (λ (z : Y .State). Y .goal z ≡ true) (sym (Option·some-injective s t e)) q), omega arith)
+    bound s (r ∷ p) t i e q =
+        let (m, w, f) = run-cons Y r s p t e in
+        let (k, a, l) = bound m p t (L .stays r s m i w) f q in
+        let (j, b, c) = P .at-step r s m k i w a in
+        (j, b, omega arith)
+
+module _ (Y : System) (h : Y .State → Estimate) (T : ℕ) where
+  -- ---- what an offer tells
+
   -- what an offer of rule r at a list of cost g with last state s says
   abbrev pub Sound : List (Y .State) → Y .State → ℕ → ℕ → Offer (Y .State) → Type 0
   Sound seen s g r cut = Unit {0}
-  Sound seen s g r (over f) = (m : Y .State) × (k : ℕ) × Leads seen s r m k × (f ≡ g + Y .cost r + k) × (T < f)
-  Sound seen s g r (due m) = (k : ℕ) × Leads seen s r m k × (g + Y .cost r + k ≤ T)
+  Sound seen s g r (over f) = (m : Y .State) × (k : ℕ) × Leads Y h seen s r m k × (f ≡ g + Y .cost r + k) × (T < f)
+  Sound seen s g r (due m) = (k : ℕ) × Leads Y h seen s r m k × (g + Y .cost r + k ≤ T)
 
   module _ (seen : List (Y .State)) (s : Y .State) (g r : ℕ) where
     sound-judge :
-        (m : Y .State) (k : ℕ) → Leads seen s r m k → (b : Bool) → leb (g + Y .cost r + k) T ≡ b
+        (m : Y .State) (k : ℕ) → Leads Y h seen s r m k → (b : Bool) → leb (g + Y .cost r + k) T ≡ b
         → Sound seen s g r (judge b m (g + Y .cost r + k))
     sound-judge m k w true e = (k, w, leb-true (g + Y .cost r + k) T e)
     sound-judge m k w false e = (m, k, w, refl, leb-false (g + Y .cost r + k) T e)
@@ -60,7 +74,7 @@ module _ (Y : System) (h : Y .State → Estimate) (T : ℕ) where
     offer-sound = sound-offered (Y .step r s) refl
 
     pub offer-judge :
-        (m : Y .State) (k : ℕ) → Leads seen s r m k
+        (m : Y .State) (k : ℕ) → Leads Y h seen s r m k
         → offer Y h T seen s g r ≡ judge (leb (g + Y .cost r + k) T) m (g + Y .cost r + k)
     unfolding offer
     offer-judge m k w =
@@ -74,7 +88,7 @@ module _ (Y : System) (h : Y .State → Estimate) (T : ℕ) where
         ((g + Y .cost r + k ≤ T) × (offer Y h T seen s g r ≡ due m))
         ⊎ ((T < g + Y .cost r + k) × (offer Y h T seen s g r ≡ over (g + Y .cost r + k)))
 
-    pub offer-cases : (m : Y .State) (k : ℕ) → Leads seen s r m k → DueOrOver m k
+    pub offer-cases : (m : Y .State) (k : ℕ) → Leads Y h seen s r m k → DueOrOver m k
     offer-cases m k w = go (leb (g + Y .cost r + k) T) refl (offer-judge m k w)
       where
         go :
@@ -87,7 +101,7 @@ module _ (Y : System) (h : Y .State → Estimate) (T : ℕ) where
   module _ (seen : List (Y .State)) (s : Y .State) (g r : ℕ) (p : List ℕ) (t : Y .State) where
     abbrev Onward : Type 0
     Onward =
-        (m : Y .State) × (k : ℕ) × Leads seen s r m k × (g + Y .cost r + k ≤ T)
+        (m : Y .State) × (k : ℕ) × Leads Y h seen s r m k × (g + Y .cost r + k ≤ T)
         × Visited Y h T (m ∷ seen) m (g + Y .cost r) p t
 
     pub visited-cons : Visited Y h T seen s g (r ∷ p) t → Onward
@@ -137,18 +151,6 @@ module _ (Y : System) (h : Y .State → Estimate) (T : ℕ) where
         (m, w .steps, fresh-avoids Y L m seen (w .fresh), visited-trail (m ∷ seen) m (g + Y .cost r) p t v′)
 
     module _ (P : Passing Y Good h) where
-      -- an estimate is at most what it costs to reach a goal
-      pub bound :
-          (s : Y .State) (p : List ℕ) (t : Y .State) → Good s → run Y s p ≡ some t → Y .goal t ≡ true
-          → (k : ℕ) × (h s ≡ at k) × (k ≤ totalCost Y p)
-      bound s [] t i e q =
-          (0, P .at-goal s i (subst (λ (z : Y .State). Y .goal z ≡ true) (sym (Option·some-injective s t e)) q), omega arith)
-      bound s (r ∷ p) t i e q =
-          let (m, w, f) = run-cons Y r s p t e in
-          let (k, a, l) = bound m p t (L .stays r s m i w) f q in
-          let (j, b, c) = P .at-step r s m k i w a in
-          (j, b, omega arith)
-
       -- a list that reaches a goal is visited, or has an edge on it
       pub reach :
           (seen : List (Y .State)) (s : Y .State) (g : ℕ) (p : List ℕ) (t : Y .State) → Good s → Trail Y seen s p t
@@ -157,8 +159,8 @@ module _ (Y : System) (h : Y .State → Estimate) (T : ℕ) where
       reach seen s g (r ∷ p) t i w q =
           let m : Y .State = w .0 in
           let j : Good m = L .stays r s m i (w .1) in
-          let (k, a, l) = bound m p t j (trail-run Y (m ∷ seen) m p t (w .3)) q in
-          let le : Leads seen s r m k = record { steps = w .1; fresh = avoids-fresh Y L m seen (w .2); rated = a } in
+          let (k, a, l) = bound Y h L P m p t j (trail-run Y (m ∷ seen) m p t (w .3)) q in
+          let le : Leads Y h seen s r m k = record { steps = w .1; fresh = avoids-fresh Y L m seen (w .2); rated = a } in
           go m k l (offer-cases seen s g r m k le) (reach (m ∷ seen) m (g + Y .cost r) p t j (w .3) q)
         where
           go :

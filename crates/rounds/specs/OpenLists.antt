@@ -1,5 +1,5 @@
 -- Lists of rule numbers over a system: where they lead (`run`), what they cost (`totalCost`), when they are open (`Open`) and reach a goal (`Reaches`),
--- their figure (`figure`), and the order by rule numbers (`Before`). The promises of the search are stated with these.
+-- their figure (`figure`), and the order by rule numbers (`Before`, `Sooner`). The promises of the search are stated with these.
 use mathlib.Core.Path.{_≡_}
 use mathlib.Core.Logic.{_⊎_}
 use mathlib.Core.Bool.{true}
@@ -39,6 +39,10 @@ abbrev pub Before : List ℕ → List ℕ → Type 0
 Before [] q = Unit {0}
 Before (r ∷ p) [] = ⊥
 Before (r ∷ p) (i ∷ q) = (r < i) ⊎ ((r ≡ i) × Before p q)
+
+-- p comes before q, and is not q
+abbrev pub Sooner : List ℕ → List ℕ → Type 0
+Sooner p q = Before p q × (¬ (p ≡ q))
 
 module _ (Y : System) where
   -- where the rules of a list lead, applied in turn

@@ -1,6 +1,6 @@
--- What is promised of an answer (`Kept`, demand 3): which plan is found (`Best`), and what the visits are counted of.
--- A round by the figures of its lists (document 01): those it visits (`InRound`), those one rule past them (`Fringe`), and the next threshold (`Least`).
--- The search call keeps these promises.
+-- What is promised of an answer (`Kept`, demand 3), and which plan is found (`Best`); the search's own promises are made of these.
+-- A round by the figures of its lists (document 01): those it visits (`InRound`), those one rule past them (`Fringe`), and the next threshold (`Least`);
+-- `Figures` shows the rounds to be that.
 use mathlib.Core.Path.{_≡_}
 use mathlib.Core.Logic.{_⊎_, _↔_}
 use mathlib.Core.List.{List, _∷_, _++_}

@@ -123,6 +123,10 @@ abbrev pub occurs : (Y : System) → Y .State → List (Y .State) → Bool
 occurs Y x [] = false
 occurs Y x (y ∷ ys) = Y .same x y || occurs Y x ys
 
+-- what visits a list, for each path, last state, cost, visits used and least overshoot
+abbrev pub Visitor : Type 0 → Type 0
+Visitor S = List S → S → ℕ → ℕ → Estimate → Progress
+
 module _ (Y : System) (h : Y .State → Estimate) where
   -- what is offered at threshold T where a rule leads to x, if anywhere, at cost g; seen are the states of the path
   abbrev pub offered : ℕ → List (Y .State) → ℕ → Option (Y .State) → Offer (Y .State)
@@ -134,16 +138,14 @@ module _ (Y : System) (h : Y .State → Estimate) where
   offer T seen s g r = offered T seen (g + Y .cost r) (Y .step r s)
 
   -- k extensions of a list, by the rules from i on; `next` visits one
-  unfoldable pub extend :
-      ℕ → (List (Y .State) → Y .State → ℕ → ℕ → Estimate → Progress) → List (Y .State) → Y .State → ℕ → ℕ → ℕ → ℕ
-      → Estimate → Progress
+  unfoldable pub extend : ℕ → Visitor (Y .State) → List (Y .State) → Y .State → ℕ → ℕ → ℕ → ℕ → Estimate → Progress
   extend T next seen s g zero i u o = on u o
   extend T next seen s g (suc k) i u o =
       andThen (takeUp (offer T seen s g i) i (λ t. next (t ∷ seen) t (g + Y .cost i)) u o)
       (λ u′ o′. extend T next seen s g k (suc i) u′ o′)
 
   -- the visit of a list that is due, then the visits of its extensions by up to d rules
-  unfoldable pub visit : Allowance → ℕ → ℕ → List (Y .State) → Y .State → ℕ → ℕ → Estimate → Progress
+  unfoldable pub visit : Allowance → ℕ → ℕ → Visitor (Y .State)
   visit A T zero seen s g u o = arrive (allows A u) (Y .goal s) g u o on
   visit A T (suc d) seen s g u o =
       arrive (allows A u) (Y .goal s) g u o (λ u′ o′. extend T (visit A T d) seen s g (Y .rules) 0 u′ o′)

@@ -6,7 +6,7 @@ use Prim.Native.Nat.{ℕ, _≤_, _<_}
 use lib.Dec.{ltb}
 use borrow.Author.Tests.{ltb-true, lt-ltb, le-ltb}
 use Rattle.rounds.specs.Systems.{mark, at}
-use Rattle.rounds.proofs.OneRound.{mark-at, at-injective}
+use Rattle.rounds.proofs.EstimateLaws.{mark-at, at-injective}
 use Rattle.search.specs.Exercises.{below}
 
 module _ (top x : ℕ) where

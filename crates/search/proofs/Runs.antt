@@ -20,6 +20,7 @@ use Rattle.blocks.proofs.StateLaws.{labelled-length, label-below}
 use Rattle.words.specs.Packing.{pack}
 use Rattle.rounds.specs.Systems.{Estimate, mark, at, plus}
 use Rattle.rounds.specs.Rounds.{Answer, Progress, on, found, plan, upto, begin, conclude, visit, round, roundsFrom, search}
+use Rattle.rounds.proofs.EstimateLaws.{zero-plus}
 use Rattle.rounds.proofs.OneRound.{round-passed}
 use Rattle.rounds.proofs.BestPlans.{higher}
 use Rattle.rounds.proofs.Equations.{rounds-above, rounds-found, rounds-stop, rounds-none, rounds-on}
@@ -192,10 +193,6 @@ module _ {b words moves weights table : List ℕ} (y : Ready b words moves weigh
 
 -- ---- the search from a start
 
-plus-none : (e : Estimate) → plus 0 e ≡ e
-plus-none mark = refl
-plus-none (at m) = ap at (omega arith)
-
 -- a start is short and its labels are small
 pub start-small :
     {b : List ℕ} → Valid b → (s : List ℕ) → stateOk b s ≡ true → (length s ≤ 16) × ((i : ℕ) → i < length s → getD s i 0 < 16)
@@ -218,7 +215,7 @@ pub run-search :
 unfolding search
 run-search {b} {words} {moves} {weights} {table} y D B v s ok n w first en ew ef =
     ap (λ (e : Estimate). begin e (λ T. roundsAt b words moves weights table D B v w T 0))
-    (ef ∙ plus-none _ ∙ ap (λ (k : ℕ). wordEstimate weights table k w) en)
+    (ef ∙ zero-plus _ ∙ ap (λ (k : ℕ). wordEstimate weights table k w) en)
     ∙ ap
     (λ (z : ℕ). search (wordSystem words moves (rules b) (goals b)) (wordEstimate weights table (positions b)) (upto v) D B z)
     ew

@@ -18,7 +18,7 @@ use Rattle.blocks.specs.Layout.{rules}
 use Rattle.words.specs.Sides.{appliesWord, stepWord, costWord}
 use Rattle.words.specs.Ranking.{rankWord}
 use Rattle.rounds.specs.Systems.{Estimate, mark, at, plus, lower}
-use Rattle.rounds.specs.Rounds.{free, Progress, on, Offer, cut, over, occurs, offer, extend}
+use Rattle.rounds.specs.Rounds.{Progress, on, Offer, cut, over, occurs, offer, extend}
 use Rattle.rounds.proofs.Equations.{offer-none, offer-seen, offer-mark, offer-over, offer-due, extend-none, extend-cut, extend-over}
 use Rattle.tallies.specs.declared.Tally.{Tally}
 use Rattle.tallies.specs.Tallies.{overshotBy}
@@ -214,7 +214,7 @@ module _ (words moves weights table path limits : List ℕ) (depth cost : ℕ) w
       let e : ruleCount limits - j ≡ 0 = omega arith in
       a .same next
       ∙ ap (λ (m : ℕ). extend Y h (threshold limits) next (seen path depth) (getD path depth 0) cost m j (y .visits) (figureOf (y .least))) e
-      ∙ extend-none Y h free (threshold limits) (seen path depth) (getD path depth 0) cost next 0 j (y .visits) (figureOf (y .least))
+      ∙ extend-none Y h (threshold limits) (seen path depth) (getD path depth 0) cost next j (y .visits) (figureOf (y .least))
 
   module _ (i : ℕ) (low : i < ruleCount limits) where
     pass-cut :
@@ -223,7 +223,7 @@ module _ (words moves weights table path limits : List ℕ) (depth cost : ℕ) w
         record {
           same = λ next.
               one-more i low x y counted next (figureOf (x .least))
-              (extend-cut (systemAt words moves limits) (estimateAt weights table limits) free (threshold limits) (seen path depth)
+              (extend-cut (systemAt words moves limits) (estimateAt weights table limits) (threshold limits) (seen path depth)
               (getD path depth 0) cost next (ruleCount limits - (i + 1)) i (x .visits) (figureOf (x .least)) e)
               q;
         }
@@ -233,7 +233,7 @@ module _ (words moves weights table path limits : List ℕ) (depth cost : ℕ) w
         record {
           same = λ next.
               one-more i low x (overshotBy x f) refl next (lower f (figureOf (x .least)))
-              (extend-over (systemAt words moves limits) (estimateAt weights table limits) free (threshold limits) (seen path depth)
+              (extend-over (systemAt words moves limits) (estimateAt weights table limits) (threshold limits) (seen path depth)
               (getD path depth 0) cost next (ruleCount limits - (i + 1)) i (x .visits) (figureOf (x .least)) f e)
               (lower-min f (x .least) l);
         }
@@ -246,7 +246,7 @@ module _ (words moves weights table path limits : List ℕ) (depth cost : ℕ) w
         ap (λ (b : Bool). cond b (option.some (stepWord words moves i w)) option.none)
         (and-right-false (ltb i (ruleCount limits)) (appliesWord words moves i w) e) in
         pass-cut
-        (offer-none (systemAt words moves limits) (estimateAt weights table limits) free (threshold limits) (seen path depth) w cost i stuck)
+        (offer-none (systemAt words moves limits) (estimateAt weights table limits) (threshold limits) (seen path depth) w cost i stuck)
         x y (ap (λ (t : Tally). t .visits) (sym q)) (ap (λ (t : Tally). figureOf (t .least)) (sym q))
 
   module _ {i n child charge total : ℕ} (t : Tried i n child charge total) where
@@ -269,7 +269,7 @@ module _ (words moves weights table path limits : List ℕ) (depth cost : ℕ) w
     pub pass-seen : onPath path depth child ≡ true → (x y : Tally) → y ≡ x → Same i x (i + 1) y
     pass-seen e x y q =
         pass-cut i (t .low)
-        (offer-seen (systemAt words moves limits) (estimateAt weights table limits) free (threshold limits) (seen path depth)
+        (offer-seen (systemAt words moves limits) (estimateAt weights table limits) (threshold limits) (seen path depth)
         (getD path depth 0) cost i child steps (occurs-as true e))
         x y (ap (λ (t : Tally). t .visits) (sym q)) (ap (λ (t : Tally). figureOf (t .least)) (sym q))
 
@@ -280,13 +280,13 @@ module _ (words moves weights table path limits : List ℕ) (depth cost : ℕ) w
         go : Figure total (cost + charge) (estimateAt weights table limits child) → Same i x (i + 1) (overshotBy x total)
         go (marked m l) =
             pass-cut i (t .low)
-            (offer-mark (systemAt words moves limits) (estimateAt weights table limits) free (threshold limits) (seen path depth)
+            (offer-mark (systemAt words moves limits) (estimateAt weights table limits) (threshold limits) (seen path depth)
             (getD path depth 0) cost i child steps m (occurs-as false e))
             x (overshotBy x total) refl (sym (min-none total (x .least) l))
         go (rated k m f l) =
             let g : total ≡ cost + costWord words i + k = omega (arith, t .paid) in
             pass-noted i (t .low) total
-            (offer-over (systemAt words moves limits) (estimateAt weights table limits) free (threshold limits) (seen path depth)
+            (offer-over (systemAt words moves limits) (estimateAt weights table limits) (threshold limits) (seen path depth)
             (getD path depth 0) cost i child k steps (occurs-as false e) m
             (lt-leb (cost + costWord words i + k) (threshold limits) (omega (arith, g)))
             ∙ ap over (sym g))
@@ -319,7 +319,7 @@ module _ (words moves weights table path limits : List ℕ) (depth cost : ℕ) w
               cost-low = omega arith;
               made = steps;
               offered =
-                  offer-due (systemAt words moves limits) (estimateAt weights table limits) free (threshold limits) (seen path depth)
+                  offer-due (systemAt words moves limits) (estimateAt weights table limits) (threshold limits) (seen path depth)
                   (getD path depth 0) cost i child k steps (occurs-as false e) m
                   (le-leb (cost + costWord words i + k) (threshold limits) (omega (arith, t .paid)));
               same = left .same;

@@ -14,7 +14,7 @@ use borrow.Author.Tests.{lt-ltb, le-ltb}
 use Rattle.basics.specs.Frames.{Outside}
 use Rattle.basics.proofs.Frames.{outside-none, outside-set, outside-then, outside-within}
 use Rattle.words.specs.Sides.{appliesWord, stepWord, costWord, meetsWord}
-use Rattle.rounds.specs.Rounds.{Progress, on, hit, upto, extend}
+use Rattle.rounds.specs.Rounds.{Progress, on, hit, extend}
 use Rattle.rounds.proofs.Equations as equations
 use Rattle.tallies.specs.declared.Tally.{Tally}
 use Rattle.search.specs.Limits.{threshold, allowance, stepLimit, ruleCount, goalCount}
@@ -314,7 +314,7 @@ module _
           record {
             told =
                 f .told ∙ others
-                ∙ sym (counted ∙ equations.extend-on _ _ (upto (allowance limits)) _ _ _ _ _ _ _ _ _ (e .word) (n .offered) _ _ told);
+                ∙ sym (counted ∙ equations.extend-on _ _ _ _ _ _ _ _ _ _ _ (e .word) (n .offered) _ _ told);
             within = f .within;
             path-kept = outside-then path-over (f .path-kept);
             plan-kept = outside-then plan-over (f .plan-kept);
@@ -327,7 +327,7 @@ module _
             told =
                 sym
                 (counted
-                ∙ equations.extend-stop _ _ (upto (allowance limits)) _ _ _ _ _ _ _ _ _ (e .word) (n .offered) u
+                ∙ equations.extend-stop _ _ _ _ _ _ _ _ _ _ _ (e .word) (n .offered) u
                 (left ∙ ap (progressOf (suc depth) plan′) is));
             within = tt;
             path-kept = path-over;
@@ -348,7 +348,7 @@ module _
                 ap (λ (p : List ℕ). hit u p total) (plan-next plan′ depth steps (e .rule) (omega (arith, w)) long byte)
                 ∙ sym
                 (counted
-                ∙ equations.extend-hit _ _ (upto (allowance limits)) _ _ _ _ _ _ _ _ _ (e .word) (n .offered) u _ total
+                ∙ equations.extend-hit _ _ _ _ _ _ _ _ _ _ _ (e .word) (n .offered) u _ total
                 (left ∙ ap (progressOf (suc depth) plan′) is));
             within = (omega (arith, w), w .1, w .2);
             path-kept = path-over;

@@ -10,7 +10,8 @@ use lib.Dec.{leb}
 use borrow.Author.Tests.{leb-true}
 use Rattle.rounds.specs.Systems.{System, Estimate, mark, at, Lawful}
 use Rattle.rounds.specs.Rounds.{Allowance, Progress, on, hit, stop, Answer, noPlan, conclude, capped, round, rounds, roundsFrom}
-use Rattle.rounds.proofs.OneRound.{Says, Short, round-says}
+use Rattle.rounds.proofs.ListSets.{Short}
+use Rattle.rounds.proofs.OneRound.{Says, round-says}
 use Rattle.rounds.proofs.BestPlans.{higher}
 
 module _
