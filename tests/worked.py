@@ -217,63 +217,93 @@ def block_of(n, labels, rules, goals=None, mapped=None):
     return out + [byte for goal in goals for byte in terms(goal)]
 
 
-def predecessors():
-    def back(block, rule, *states):
-        for state in states:
-            earlier, value = None, 'found'
-            while value == 'found':
-                value, out = step_back(block, rule, state, earlier, [170] * 7)
-                earlier = out[: len(state)]
+def counter(bits, cost, goal, direction=1):
+    """Counts up at a cost a step: 0 1 .. 1 at the end become 1 0 .. 0. Where the direction is -1 the last position comes first."""
+    rules = []
+    for ones in range(bits):
+        kept = '-' * (bits - 1 - ones)
+        left, right = kept + '0' + '1' * ones, kept + '1' + '0' * ones
+        rules.append((cost, left[::direction], right[::direction]))
+    return block_of(bits, 2, rules, [goal], [0, 1])
 
-    def after(block, rule, state, *earlier):
-        for text in earlier:
-            step_back(block, rule, state, list(map(int, text)), [170] * 7)
 
-    def tests(block, rules):
-        for rule in range(rules + 1):
-            reversible(block, rule)
+# 64 steps of cost 255 from all zeros to the goal.
+DEEP = counter(7, 255, '1000000')
 
+
+def cycles():
+    """Cycles at no cost: one has a way to the goal, the other has none."""
+    steps = [(0, '0', '1'), (0, '1', '2'), (0, '2', '0'), (5, '2', '3'), (0, '4', '5'), (0, '5', '4')]
+    return block_of(1, 6, steps, ['3'], list(range(6)))
+
+
+def step_back_from(block, rule, *states):
+    """All predecessors of each state, and then that there is none further."""
+    for state in states:
+        earlier, value = None, 'found'
+        while value == 'found':
+            value, out = step_back(block, rule, state, earlier, [170] * 7)
+            earlier = out[: len(state)]
+
+
+def step_back_after(block, rule, state, *earlier):
+    for text in earlier:
+        step_back(block, rule, state, list(map(int, text)), [170] * 7)
+
+
+def all_reversible(block, rules):
+    for rule in range(rules + 1):
+        reversible(block, rule)
+
+
+def printed_predecessors():
     example = block_of(6, 8, [(1, 'AA1-BC', '2---CB')])
     title('<A,A,1,-,B,C> to <2,-,-,-,C,B>, back from <2,4,1,7,6,5>')
-    back(example, 0, [2, 4, 1, 7, 6, 5])
+    step_back_from(example, 0, [2, 4, 1, 7, 6, 5])
     title('back from <1,4,1,7,6,5>, <2,4,0,7,6,5> and <2,2,1,0,0,0>')
-    back(example, 0, [1, 4, 1, 7, 6, 5], [2, 4, 0, 7, 6, 5], [2, 2, 1, 0, 0, 0])
+    step_back_from(example, 0, [1, 4, 1, 7, 6, 5], [2, 4, 0, 7, 6, 5], [2, 2, 1, 0, 0, 0])
     six = block_of(4, 6, [(1, 'AA--', '-2--'), (1, 'AA--', '--A-')])
     title('<A,A,-,-> to <-,2,-,-> and <A,A,-,-> to <-,-,A,->, reversible and not')
-    tests(six, 2)
+    all_reversible(six, 2)
     title('the first rule back from <4,2,0,5> and <4,3,0,5>')
-    back(six, 0, [4, 2, 0, 5], [4, 3, 0, 5])
+    step_back_from(six, 0, [4, 2, 0, 5], [4, 3, 0, 5])
     title('the second rule back from <1,1,1,5>')
-    back(six, 1, [1, 1, 1, 5])
+    step_back_from(six, 1, [1, 1, 1, 5])
     title('after <0,0,0,0>, <1,1,2,4>, <1,1,3,0>, <1,1,5,4>, <1,1,5,5>, <1,2,0,0>, <5,5,5,5>')
-    after(six, 1, [1, 1, 1, 5], '0000', '1124', '1130', '1154', '1155', '1200', '5555')
+    step_back_after(six, 1, [1, 1, 1, 5], '0000', '1124', '1130', '1154', '1155', '1200', '5555')
+
+
+def small_predecessors():
     one = block_of(2, 1, [(1, 'A-', '0-'), (1, '--', '00')])
     title('one label: <A,-> to <0,->, <-,-> to <0,0>, not reversible by form')
-    tests(one, 2)
+    all_reversible(one, 2)
     title('yet <0,0> has one predecessor')
-    back(one, 0, [0, 0])
-    back(one, 1, [0, 0])
+    step_back_from(one, 0, [0, 0])
+    step_back_from(one, 1, [0, 0])
     title('twelve rules, reversible and not')
     forms = 'A--0-- AA-0-- A--0A- AB-BA- 0--1-- ---0-- ABBAAB AB1AA0 AAA00A AAA01- AAA011 ------'
     twelve = block_of(3, 2, [(1, form[:3], form[3:]) for form in forms.split()])
-    tests(twelve, 12)
+    all_reversible(twelve, 12)
     title('rule 10, <A,A,A> to <0,1,1>, back from <0,1,1>; then after <0,0,1>, <0,1,0>')
-    back(twelve, 10, [0, 1, 1])
-    after(twelve, 10, [0, 1, 1], '001', '010')
+    step_back_from(twelve, 10, [0, 1, 1])
+    step_back_after(twelve, 10, [0, 1, 1], '001', '010')
 
-    def back_with(faults, earlier):
-        if earlier and 'earlier' in faults:
-            earlier = [3, *earlier[1:]]
-        state = [1, 0, 3 if 'state' in faults else 2]
-        out = [170] * (2 if 'buffer' in faults else 5)
-        step_back(faulty(faults), 6 if 'rule' in faults else 2, state, earlier, out)
 
+def faulty_step_back(faults, earlier):
+    if earlier and 'earlier' in faults:
+        earlier = [3, *earlier[1:]]
+    state = [1, 0, 3 if 'state' in faults else 2]
+    out = [170] * (2 if 'buffer' in faults else 5)
+    step_back(faulty(faults), 6 if 'rule' in faults else 2, state, earlier, out)
+
+
+def faulty_predecessors():
     title("rule 2 back from <1,0,2>, 'first', with every set of faults 7, 8, 9, 11")
     for k in range(16):
-        back_with(subset(k, ['variable', 'state', 'rule', 'buffer']), None)
+        faulty_step_back(subset(k, ['variable', 'state', 'rule', 'buffer']), None)
     title('rule 2 back from <1,0,2> after <1,0,0>, with every set of faults 7, 8, 8 of the earlier state, 9, 11')
     for k in range(32):
-        back_with(subset(k, ['variable', 'state', 'earlier', 'rule', 'buffer']), [1, 0, 0])
+        faulty_step_back(subset(k, ['variable', 'state', 'earlier', 'rule', 'buffer']), [1, 0, 0])
     title('the state with two, three, four labels, and the earlier state with none, two, three, four')
     for count, earlier in itertools.product((2, 3, 4), (0, 2, 3, 4)):
         step_back(E, 2, [1, 0, 2, 0][:count], [1, 0, 0, 0][:earlier], [170] * 5)
@@ -281,6 +311,12 @@ def predecessors():
     for k in range(4):
         faults = subset(k, ['variable', 'rule'])
         reversible(faulty(faults), 6 if 'rule' in faults else 2)
+
+
+def predecessors():
+    printed_predecessors()
+    small_predecessors()
+    faulty_predecessors()
 
 
 def replays():
@@ -320,58 +356,68 @@ def replays():
 # What stands in a table before it is filled.
 UNWRITTEN = 0xAAAAAAAA
 
+# Input E's table, as the document prints it.
+E_TABLE = [reference.MARK if entry == 'M' else int(entry) for entry in 'M M M 2 M 1 0 M'.split()]
+assert reference.fill_table(E, [UNWRITTEN] * 8) == ('filled', E_TABLE)
 
-def tables():
+
+def fill_and_test(block):
+    """The fill; the test, then with each element raised, lowered, marked, 0 and large."""
     mark = reference.MARK
+    _, table = fill_table(block, [UNWRITTEN] * 10)
+    test_table(block, table)
+    for at, entry in enumerate(table):
+        for other in (min(entry + 1, mark), max(entry - 1, 0), mark, 0, mark - 1):
+            test_table(block, table[:at] + [other] + table[at + 1 :])
 
-    def exercise(block):
-        _, table = fill_table(block, [UNWRITTEN] * 10)
-        test_table(block, table)
-        for at, entry in enumerate(table):
-            for other in (min(entry + 1, mark), max(entry - 1, 0), mark, 0, mark - 1):
-                test_table(block, table[:at] + [other] + table[at + 1 :])
 
-    def one_rule(cost):
-        return block_of(1, 3, [(cost, '0', '1')], ['2'], [0, 1, 2])
+def one_rule(cost):
+    return block_of(1, 3, [(cost, '0', '1')], ['2'], [0, 1, 2])
 
+
+def filled_tables():
     title('input E: the fill; the test, then with each element raised, lowered, marked, 0 and large')
-    exercise(E)
+    fill_and_test(E)
     title('the test on zeros')
     test_table(E, [0] * 10)
     title('<0> to <1> at cost 255')
-    exercise(one_rule(255))
+    fill_and_test(one_rule(255))
     title('one abstract label')
-    exercise(block_of(3, 2, [(7, '0A-', '1-A'), (0, '---', '---')], ['101']))
+    fill_and_test(block_of(3, 2, [(7, '0A-', '1-A'), (0, '---', '---')], ['101']))
     title('no rules')
-    exercise(block_of(2, 2, [], ['1-'], [0, 1]))
+    fill_and_test(block_of(2, 2, [], ['1-'], [0, 1]))
     title('cycles at no cost, with and without a way to the goal')
-    steps = [(0, '0', '1'), (0, '1', '2'), (0, '2', '0'), (5, '2', '3'), (0, '4', '5'), (0, '5', '4')]
-    exercise(block_of(1, 6, steps, ['3'], list(range(6))))
+    fill_and_test(cycles())
     title('three goals')
-    exercise(block_of(2, 3, [(4, '01', '-0'), (3, '1A', 'A1')], ['AA', '2-', '02'], [0, 1, 2]))
+    fill_and_test(block_of(2, 3, [(4, '01', '-0'), (3, '1A', 'A1')], ['AA', '2-', '02'], [0, 1, 2]))
     title('a goal of dashes')
-    exercise(block_of(2, 2, [(1, '0-', '1-')], ['00', '--'], [0, 1]))
+    fill_and_test(block_of(2, 2, [(1, '0-', '1-')], ['00', '--'], [0, 1]))
     title('a map that is not onto')
-    exercise(block_of(2, 3, [(1, 'PO', 'OP'), (2, '1P', '2-')], ['22'], [0, 0, 2]))
+    fill_and_test(block_of(2, 3, [(1, 'PO', 'OP'), (2, '1P', '2-')], ['22'], [0, 0, 2]))
     title('input E over 0, 1, 4294967294 and the mark: the fill; the test, on zeros too')
-    for contents in (0, 1, mark - 1, mark):
+    for contents in (0, 1, reference.MARK - 1, reference.MARK):
         _, filled = fill_table(E, [contents] * 10)
         test_table(E, filled)
         test_table(E, [0] * 8 + [contents] * 2)
-    table = [mark, mark, mark, 2, mark, 1, 0, mark, 0, 0]
-    failing = [9, 8, 7, 6, 5, mark - 1, mark, 2, 1, 0]
 
-    def estimates(table):
-        for state in itertools.product(range(3), repeat=3):
-            look_up(E, state, table)
 
+def estimates(table):
+    for state in itertools.product(range(3), repeat=3):
+        look_up(E, state, table)
+
+
+def looked_up_estimates():
+    failing = [9, 8, 7, 6, 5, reference.MARK - 1, reference.MARK, 2, 1, 0]
     title("the estimates of <0,0,0>, .., <2,2,2> by input E's table")
-    estimates(table)
+    estimates(E_TABLE + [0, 0])
     title('and by a table that fails the test')
     test_table(E, failing)
     estimates(failing)
-    entries = [0, 1, 2, 254, 255, 256, 257, mark - 257, mark - 256, mark - 255, mark - 2, mark - 1, mark]
 
+
+def entries_around_limits():
+    mark = reference.MARK
+    entries = [0, 1, 2, 254, 255, 256, 257, mark - 257, mark - 256, mark - 255, mark - 2, mark - 1, mark]
     for cost in (0, 1, 255):
         title(f'<0> to <1> at cost {cost}: the test for each entry of <1> and of <0>')
         for v, u in itertools.product(entries, entries):
@@ -379,6 +425,10 @@ def tables():
     title('for each entry of the goal the test')
     for goal in entries:
         test_table(one_rule(1), [0, 0, goal])
+
+
+def short_tables():
+    table = E_TABLE + [0, 0]
     title('the fill of input E into 0 to 10 elements, then with fault 7')
     for faults in (set(), {'variable'}):
         for length in range(11):
@@ -397,6 +447,13 @@ def tables():
     for length in (10, 7):
         for count in (0, 2, 3, 4):
             look_up(E, [1, 2, 0, 0][:count], table[:length])
+
+
+def tables():
+    filled_tables()
+    looked_up_estimates()
+    entries_around_limits()
+    short_tables()
 
 
 @functools.lru_cache(maxsize=8)
@@ -423,99 +480,109 @@ def find_plan(block, start, steps, limit, allowance, table, plan):
     line('find_plan', arguments, value, packed_bytes(out))
 
 
-def searches():
-    mark = reference.MARK
-    table = [mark, mark, mark, 2, mark, 1, 0, mark]
-    assert reference.fill_table(E, [UNWRITTEN] * 8) == ('filled', table)
+def search(block, start, steps, limit, allowance, table, room=12):
+    find_plan(block, start, steps, limit, allowance, table, [170] * room)
 
-    def search(block, start, steps, limit, allowance, table, room=12):
-        find_plan(block, start, steps, limit, allowance, table, [170] * room)
 
-    def query(steps, limit, allowance, table=table):
-        search(E, [1, 2, 0], steps, limit, allowance, table)
+def search_e(steps, limit, allowance, table=E_TABLE):
+    search(E, [1, 2, 0], steps, limit, allowance, table)
 
+
+def searches_of_e():
     title('input E from <1,2,0>: D = 8, B = 100, V = 100; V = 9; B = 4; D = 2; on zeros; D = 65; then from the goal')
     for limits in [(8, 100, 100), (8, 100, 9), (8, 4, 100), (2, 100, 100), (8, 100, 100, [0] * 8), (65, 100, 100)]:
-        query(*limits)
-    search(E, [2, 1, 0], 8, 100, 100, table)
+        search_e(*limits)
+    search(E, [2, 1, 0], 8, 100, 100, E_TABLE)
     title('D = 66, D = 4294967304, D = 18446744073709551615')
     for steps in (66, 2**32 + 8, 2**64 - 1):
-        query(steps, 100, 100)
+        search_e(steps, 100, 100)
     title('V from 0 to 11; on zeros from 0 to 20; for B = 4 from 0 to 7; for D = 2 from 0 to 12')
-    for steps, limit, contents, most in [(8, 100, table, 11), (8, 100, [0] * 8, 20), (8, 4, table, 7), (2, 100, table, 12)]:
+    for steps, limit, contents, most in [(8, 100, E_TABLE, 11), (8, 100, [0] * 8, 20), (8, 4, E_TABLE, 7), (2, 100, E_TABLE, 12)]:
         for allowance in range(most + 1):
-            query(steps, limit, allowance, contents)
+            search_e(steps, limit, allowance, contents)
     title('B from 0 to 7; on zeros')
-    for contents in (table, [0] * 8):
+    for contents in (E_TABLE, [0] * 8):
         for limit in range(8):
-            query(8, limit, 100, contents)
+            search_e(8, limit, 100, contents)
     title('D from 0 to 9; on zeros')
-    for contents in (table, [0] * 8):
+    for contents in (E_TABLE, [0] * 8):
         for steps in range(10):
-            query(steps, 100, 100, contents)
+            search_e(steps, 100, 100, contents)
     title(
         'from the goal; from <0,1,2>, whose estimate is 2; from <0,0,0>, which is marked; from <0,0,0> on zeros:'
         ' B = 0, 1, 2 with V = 0 and V = 100, then B = 100 with V = 0, 1, 100'
     )
     pairs = [*itertools.product((0, 1, 2), (0, 100)), (100, 0), (100, 1), (100, 100)]
-    for start, contents in [([2, 1, 0], table), ([0, 1, 2], table), ([0, 0, 0], table), ([0, 0, 0], [0] * 8)]:
+    for start, contents in [([2, 1, 0], E_TABLE), ([0, 1, 2], E_TABLE), ([0, 0, 0], E_TABLE), ([0, 0, 0], [0] * 8)]:
         for limit, allowance in pairs:
             search(E, start, 8, limit, allowance, contents)
 
-    def exercise(block, start):
-        for contents in (reference.fill_table(block, [UNWRITTEN] * 6)[1], [0] * 6):
-            search(block, [start], 6, 100, 100, contents)
 
+def search_twice(block, start):
+    """On the filled table, and on zeros."""
+    for contents in (reference.fill_table(block, [UNWRITTEN] * 6)[1], [0] * 6):
+        search(block, [start], 6, 100, 100, contents)
+
+
+def searches_of_one_position():
     title('a short way to the goal that costs more, on a filled table and on zeros')
-    exercise(block_of(1, 3, [(5, '0', '2'), (1, '0', '1'), (1, '1', '2')], ['2'], [0, 1, 2]), 0)
+    search_twice(block_of(1, 3, [(5, '0', '2'), (1, '0', '1'), (1, '1', '2')], ['2'], [0, 1, 2]), 0)
     title('two rules to one state, and no way to the goal')
-    exercise(block_of(1, 4, [(1, '0', '1'), (1, '0', '1'), (1, '1', '2')], ['3'], list(range(4))), 0)
+    search_twice(block_of(1, 4, [(1, '0', '1'), (1, '0', '1'), (1, '1', '2')], ['3'], list(range(4))), 0)
     title('three steps and one at the same cost')
-    exercise(block_of(1, 4, [(0, '0', '1'), (0, '1', '2'), (2, '2', '3'), (2, '0', '3')], ['3'], list(range(4))), 0)
+    search_twice(block_of(1, 4, [(0, '0', '1'), (0, '1', '2'), (2, '2', '3'), (2, '0', '3')], ['3'], list(range(4))), 0)
     title('cycles at no cost, with and without a way to the goal')
-    steps = [(0, '0', '1'), (0, '1', '2'), (0, '2', '0'), (5, '2', '3'), (0, '4', '5'), (0, '5', '4')]
     for start in (0, 1, 4):
-        exercise(block_of(1, 6, steps, ['3'], list(range(6))), start)
+        search_twice(cycles(), start)
 
-    def figures(first):
-        block = block_of(1, 4, [(1, '0', '1'), (255, '1', '2')], ['3'], list(range(4)))
-        limits = [(6, mark - 2, 100), (6, mark - 1, 100), (6, mark, 100), (1, mark, 100), (0, mark, 100)]
-        for steps, limit, allowance in limits + [(6, mark, 3), (6, mark, 2), (6, mark, 1)]:
-            search(block, [0], steps, limit, allowance, [first, mark - 1, mark - 1, 0])
 
+def search_with_large_figures(first):
+    mark = reference.MARK
+    block = block_of(1, 4, [(1, '0', '1'), (255, '1', '2')], ['3'], list(range(4)))
+    limits = [(6, mark - 2, 100), (6, mark - 1, 100), (6, mark, 100), (1, mark, 100), (0, mark, 100)]
+    for steps, limit, allowance in limits + [(6, mark, 3), (6, mark, 2), (6, mark, 1)]:
+        search(block, [0], steps, limit, allowance, [first, mark - 1, mark - 1, 0])
+
+
+def searches_with_large_figures():
     title(
         'figures of 4294967294, 4294967295 and 4294967550: B = 4294967293, 4294967294, 4294967295, then with D = 1 and 0,'
         ' then with V = 3, 2, 1'
     )
-    figures(mark - 1)
+    search_with_large_figures(reference.MARK - 1)
     title('the same where the first estimate is 0')
-    figures(0)
+    search_with_large_figures(0)
     title('and where it is the mark, by a table that fails the test')
-    figures(mark)
-    sides = [('-' * (6 - ones) + '0' + '1' * ones, '-' * (6 - ones) + '1' + '0' * ones) for ones in range(7)]
-    deep = block_of(7, 2, [(255, left, right) for left, right in sides], ['1000000'], [0, 1])
+    search_with_large_figures(reference.MARK)
 
-    def counts(contents, needed):
-        for steps, limit, allowance, room in [
-            (64, 16320, needed, 70),
-            (64, 16320, needed, 64),
-            (64, 16320, needed, 63),
-            (65, 16320, needed, 70),
-            (63, 16320, needed, 70),
-            (64, 16319, needed, 70),
-            (64, 16320, needed - 1, 70),
-        ]:
-            search(deep, [0] * 7, steps, limit, allowance, contents, room)
 
+def search_deep(contents, needed):
+    """64 steps, with each of steps, cost, visits and room at what is needed, and beyond it."""
+    for steps, limit, allowance, room in [
+        (64, 16320, needed, 70),
+        (64, 16320, needed, 64),
+        (64, 16320, needed, 63),
+        (65, 16320, needed, 70),
+        (63, 16320, needed, 70),
+        (64, 16319, needed, 70),
+        (64, 16320, needed - 1, 70),
+    ]:
+        search(DEEP, [0] * 7, steps, limit, allowance, contents, room)
+
+
+def large_searches():
     title('64 steps of cost 255: into 70, 64 and 63 bytes; D = 65; D = 63; B = 16319; V too small')
-    counts(reference.fill_table(deep, [UNWRITTEN] * 128)[1], 65)
+    search_deep(reference.fill_table(DEEP, [UNWRITTEN] * 128)[1], 65)
     title('on zeros')
-    counts([0] * 128, 2145)
+    search_deep([0] * 128, 2145)
     title('sixteen positions and labels, five steps: D = 12, D = 4, B = 14, V = 20')
     turn = block_of(16, 16, [(3, 'ABCDEFGHIJKLMNOP', 'BCDEFGHIJKLMNOPA')], ['56789abcdef01234'])
     for steps, limit, allowance in [(12, 15, 21), (4, 15, 21), (12, 14, 21), (12, 15, 20)]:
         search(turn, list(range(16)), steps, limit, allowance, [0])
-    longer = table + [UNWRITTEN] * 2
+
+
+def faulty_searches():
+    longer = E_TABLE + [UNWRITTEN] * 2
     title('three steps into 0, 2, 3 and 4 bytes; then by 0, 7, 8 and 9 elements; then both too short')
     for room, length in [(0, 10), (2, 10), (3, 10), (4, 10), (3, 0), (3, 7), (3, 8), (3, 9), (2, 7)]:
         search(E, [1, 2, 0], 3, 100, 100, longer[:length], room)
@@ -527,6 +594,17 @@ def searches():
         steps, room, length = 65 if 'limit' in faults else 8, 7 if 'buffer' in faults else 8, 7 if 'table' in faults else 8
         search(faulty(faults), start, steps, 100, 100, failing[:length], room)
 
+
+def searches():
+    searches_of_e()
+    searches_of_one_position()
+    searches_with_large_figures()
+    large_searches()
+    faulty_searches()
+
+
+# The largest block there is, with zeros behind its head.
+LARGEST = [16, 16, 1, 64, 8] + [0] * 2256
 
 # Input E's text.
 E_TEXT = ('\n'.join(INPUT_E.split()) + '\n').encode()
@@ -561,14 +639,16 @@ def faulty_text(k):
     return text, 52 if 'buffer' in faults else 56
 
 
-def texts():
-    def reading(text, room=56):
-        read_exercise(text, [170] * room)
+def reading(text, room=56):
+    read_exercise(text, [170] * room)
 
-    def readings(*edits):
-        for edit in edits:
-            reading(replaced(E_TEXT, *edit))
 
+def readings(*edits):
+    for edit in edits:
+        reading(replaced(E_TEXT, *edit))
+
+
+def faulty_texts():
     title("input E's text")
     reading(E_TEXT)
     title(
@@ -580,6 +660,9 @@ def texts():
     title('every set of these faults')
     for k in range(256):
         reading(*faulty_text(k))
+
+
+def texts_with_other_characters():
     title(
         "in the map's line a digit left out, a digit more; in the head line; a digit moved from the map's line to rule 0's,"
         " from rule 0's to the map's"
@@ -595,6 +678,9 @@ def texts():
         title(heading)
         for character in range(256):
             reading(replaced(E_TEXT, place, place + 1, bytes([character])))
+
+
+def texts_with_other_lines():
     title(
         'the last line unended; no text; one line feed, two; an empty line behind the text, in front of it, within it; the head line alone'
     )
@@ -614,6 +700,9 @@ def texts():
         joined = replaced(E_TEXT, at - 1, at)
         for by in (-2, -1, 1, 2):
             reading(replaced(joined, at - 1 + by, at - 1 + by, b'\n'))
+
+
+def texts_edited_everywhere():
     edits_of = {
         'each character left out': lambda at: (at, at + 1),
         'each doubled': lambda at: (at + 1, at),
@@ -626,6 +715,9 @@ def texts():
     for heading, edit in edits_of.items():
         title(heading)
         readings(*(edit(at) for at in range(115)))
+
+
+def texts_with_other_heads():
     title('a head line of twelve digits, of eight; both with a head out of limits; another head line in front')
     readings((10, 10, b'00'), (8, 10), (9, 10, b'900'), (0, 10, b'00030206'), (0, 0, b'0303020600\n'))
     title('the head line alone: n from 1 to 16, K from 1 to 16')
@@ -635,6 +727,9 @@ def texts():
     for x in range(3):
         for head in heads_around(x):
             reading(text_of(head))
+
+
+def texts_into_short_buffers():
     title("input E's text into 0 to 56 bytes")
     for room in range(57):
         reading(E_TEXT, room)
@@ -642,53 +737,76 @@ def texts():
     for room in (56, 7, 6):
         reading(b'0101010001\n00\n00\n', room)
 
-    def largest(*edit, room=2300):
-        reading(replaced(text_of([16, 16, 1, 64, 8] + [0] * 2256), *edit), room)
 
+def read_largest(*edit, room=2300):
+    reading(replaced(text_of(LARGEST), *edit), room)
+
+
+def largest_texts():
     title('the largest, into 2300, 2261, 2260 bytes; its last line missing, one more, unended')
     for room in (2300, 2261, 2260):
-        largest(0, 0, room=room)
+        read_largest(0, 0, room=room)
     for edit in [(4563, 4596), (4596, 4563), (4595, 4596)]:
-        largest(*edit)
+        read_largest(*edit)
     title("its last map byte, the last goal's last term, the last rule's last term changed: good and bad")
     for place, pair in [(41, b'01'), (4593, b'FF'), (4593, b'20'), (4329, b'0F'), (4329, b'10')]:
-        largest(place, place + 2, pair)
+        read_largest(place, place + 2, pair)
     title('line feeds up to 40,000 characters; the last a lower-case digit, a digit; the head out of limits; the head line unpaired')
     for place, by in [(39999, b'\n'), (39999, b'a'), (39999, b'0'), (9, b'9'), (9, b'\n')]:
         reading(replaced(E_TEXT.ljust(40000, b'\n'), place, place + 1, by))
+
+
+def texts():
+    faulty_texts()
+    texts_with_other_characters()
+    texts_with_other_lines()
+    texts_edited_everywhere()
+    texts_with_other_heads()
+    texts_into_short_buffers()
+    largest_texts()
 
 
 def query_line(start, steps, limit, allowance):
     return (bytes([*start, steps]) + limit.to_bytes(4, 'big') + allowance.to_bytes(4, 'big')).hex().upper().encode() + b'\n'
 
 
-def sessions():
-    first = query_line([1, 2, 0], 8, 100, 100)
-    whole = E_TEXT + first
+# A query of input E that finds its plan, and input E with this query.
+E_QUERY = query_line([1, 2, 0], 8, 100, 100)
+E_SESSION = E_TEXT + E_QUERY
 
-    def queries(*lines):
-        par(E_TEXT + b''.join(lines))
 
-    def all_replaced(*edits):
-        for edit in edits:
-            par(replaced(whole, *edit))
+def queries(*lines):
+    """Input E with these query lines."""
+    par(E_TEXT + b''.join(lines))
 
-    def limits(start, *triples):
-        queries(*(query_line(start, *triple) for triple in triples))
 
+def queries_within(start, *triples):
+    queries(*(query_line(start, *triple) for triple in triples))
+
+
+def sessions_replaced(*edits):
+    for edit in edits:
+        par(replaced(E_SESSION, *edit))
+
+
+def sessions_with_limits():
     title('input E from <1,2,0>: D = 8, B = 100, V = 100; V = 9; B = 4; D = 2; D = 65; then from the goal')
     triples = [(8, 100, 100), (8, 100, 9), (8, 4, 100), (2, 100, 100), (65, 100, 100)]
     queries(*(query_line([1, 2, 0], *triple) for triple in triples), query_line([2, 1, 0], 8, 100, 100))
     title('the first of them alone, twice; no queries')
     for count in (1, 2, 0):
-        queries(*[first] * count)
+        queries(*[E_QUERY] * count)
     title('D = 0, 1, 3, 64, 65, 255; B = 0, 5, 1280, 83886080, 4294967295; V = 0, 10, 2560, 167772160, 4294967295')
-    limits([1, 2, 0], *((steps, 100, 100) for steps in (0, 1, 3, 64, 65, 255)))
-    limits([1, 2, 0], *((8, limit, 100) for limit in (0, 5, 1280, 83886080, 4294967295)))
-    limits([1, 2, 0], *((8, 100, allowance) for allowance in (0, 10, 2560, 167772160, 4294967295)))
+    queries_within([1, 2, 0], *((steps, 100, 100) for steps in (0, 1, 3, 64, 65, 255)))
+    queries_within([1, 2, 0], *((8, limit, 100) for limit in (0, 5, 1280, 83886080, 4294967295)))
+    queries_within([1, 2, 0], *((8, 100, allowance) for allowance in (0, 10, 2560, 167772160, 4294967295)))
     title('from <2,1,0> and from <0,0,0>: D = 0; B = 0; V = 0, 1; all three 0')
     for start in ([2, 1, 0], [0, 0, 0]):
-        limits(start, (0, 100, 100), (8, 0, 100), (8, 100, 0), (8, 100, 1), (0, 0, 0))
+        queries_within(start, (0, 100, 100), (8, 0, 100), (8, 100, 0), (8, 100, 1), (0, 0, 0))
+
+
+def sessions_with_other_lines():
+    first = E_QUERY
     title('the last query line unended, alone, behind another; an unended part of it')
     for lines in ([first[:-1]], [first, first[:-1]], [first, first[:1]]):
         queries(*lines)
@@ -700,22 +818,28 @@ def sessions():
         ' a digit more, a digit less'
     )
     ended = [first[:-2] + b'a', first[:-1] + b'\r', b' ' + first[:-1], first[:-1] + b' ', first[:-1] + b'\0']
-    for line in ended + [first[:-1] + b'0', first[:-2]]:
-        queries(line + b'\n', first)
+    for query in ended + [first[:-1] + b'0', first[:-2]]:
+        queries(query + b'\n', first)
     title(
         "before a query one with a pair more, a pair less, a goal's line, the head line, two in one line, a label 3, labels 255"
     )
     ended = [first[:-1] + b'00', first[:-3], b'020100', b'0303020601', first[:-1] * 2]
-    for line in ended + [query_line(start, 8, 100, 100)[:-1] for start in ([1, 2, 3], [255] * 3)]:
-        queries(line + b'\n', first)
+    for query in ended + [query_line(start, 8, 100, 100)[:-1] for start in ([1, 2, 3], [255] * 3)]:
+        queries(query + b'\n', first)
+
+
+def faulty_query(faults):
+    query = query_line([3 if 'state' in faults else 1, 2, 0], 65 if 'limit' in faults else 8, 100, 100)
+    pair = b'6a' if 'character' in faults else b'64'
+    return query[:22] + (b'00' if 'length' in faults else b'') + pair + b'\n'
+
+
+def faulty_queries():
     title('queries with every set of these faults: a lower-case digit, a pair more, a label 3, D = 65')
-    lines = []
-    for k in range(16):
-        faults = subset(k, ['character', 'length', 'state', 'limit'])
-        line = query_line([3 if 'state' in faults else 1, 2, 0], 65 if 'limit' in faults else 8, 100, 100)
-        pair = b'6a' if 'character' in faults else b'64'
-        lines.append(line[:22] + (b'00' if 'length' in faults else b'') + pair + b'\n')
-    queries(*lines)
+    queries(*(faulty_query(subset(k, ['character', 'length', 'state', 'limit'])) for k in range(16)))
+
+
+def sessions_with_other_exercises():
     title(
         "no input; one line feed, two; the head line alone, unended, with only the map's line behind; all lines but the last;"
         ' the last unended'
@@ -723,59 +847,66 @@ def sessions():
     for data in (b'', b'\n', b'\n\n', E_TEXT[:11], E_TEXT[:10], E_TEXT[:18], E_TEXT[:108], E_TEXT[:114]):
         par(data)
     title("a carriage return in the head line, in the map's line, in the last of the exercise")
-    all_replaced((10, 10, b'\r'), (17, 17, b'\r'), (114, 114, b'\r'))
+    sessions_replaced((10, 10, b'\r'), (17, 17, b'\r'), (114, 114, b'\r'))
     title(
         "an empty line in front, within, behind the exercise; the map's line, a rule's, the goal's left out; the goal's doubled"
     )
-    all_replaced((0, 0, b'\n'), (33, 33, b'\n'), (115, 115, b'\n'), (11, 18), (18, 33), (108, 115), (115, 108))
+    sessions_replaced((0, 0, b'\n'), (33, 33, b'\n'), (115, 115, b'\n'), (11, 18), (18, 33), (108, 115), (115, 108))
     title('one rule less, one more, one goal more, one label more by the head')
-    all_replaced((7, 8, b'5'), (7, 8, b'7'), (9, 10, b'2'), (3, 4, b'4'))
+    sessions_replaced((7, 8, b'5'), (7, 8, b'7'), (9, 10, b'2'), (3, 4, b'4'))
     title('lower case behind a head line of eight digits, of twelve, behind a head out of limits, in the line behind the exercise')
-    all_replaced((8, 14, b'\n10a'), (10, 14, b'00\n00a'), (9, 14, b'9\n00a'), (115, 115, b'0a\n'))
+    sessions_replaced((8, 14, b'\n10a'), (10, 14, b'00\n00a'), (9, 14, b'9\n00a'), (115, 115, b'0a\n'))
     title(
         'a lower-case digit, a head line of eight digits, a head out of limits, a line missing, map byte 2, term 3,'
         ' an unbound variable'
     )
     for fault in (1, 2, 4, 8, 32, 64, 128):
-        par(faulty_text(fault)[0] + first)
+        par(faulty_text(fault)[0] + E_QUERY)
     title('every set of these faults, the last three slowest')
     for k in range(128):
-        par(faulty_text(k // 16 * 32 + k % 16)[0] + first)
+        par(faulty_text(k // 16 * 32 + k % 16)[0] + E_QUERY)
 
-    def exercise(block, *lines):
-        par(text_of(block) + b''.join(query_line(*line) for line in lines))
 
+def session(block, *all_asked):
+    """An exercise, and queries of a start and limits."""
+    par(text_of(block) + b''.join(query_line(*asked) for asked in all_asked))
+
+
+def large_sessions():
     title('64 steps of cost 255: D = 64, B = 16320, V = 65; V = 64; B = 16319; D = 63; then 63 steps')
-    sides = [('-' * (6 - ones) + '0' + '1' * ones, '-' * (6 - ones) + '1' + '0' * ones) for ones in range(7)]
-    deep = block_of(7, 2, [(255, left, right) for left, right in sides], ['1000000'], [0, 1])
-    zeros = [0] * 7
+    start = [0] * 7
     bounds = [(64, 16320, 65), (64, 16320, 64), (64, 16319, 65), (63, 16320, 65)]
-    exercise(deep, *((zeros, *bound) for bound in bounds), ([0] * 6 + [1], 63, 16065, 64))
+    session(DEEP, *((start, *bound) for bound in bounds), ([0] * 6 + [1], 63, 16065, 64))
     title('no plan within 11 steps, after 81140 visits: V = 100000, 81140, 81139, 70000')
     flips = [(1, '-' * i + a + '-' * (3 - i), '-' * i + b + '-' * (3 - i)) for i in range(4) for a, b in ('01', '10')]
-    exercise(block_of(4, 3, flips, ['2222']), *(([0] * 4, 11, 100, allowance) for allowance in (100000, 81140, 81139, 70000)))
+    session(block_of(4, 3, flips, ['2222']), *(([0] * 4, 11, 100, allowance) for allowance in (100000, 81140, 81139, 70000)))
     title('a table of 16384 entries: from <0,0,0,0,0,0,0>; from <3,2,1,0,1,2,3>, with D = 13; from the goal')
     raised = [(label + 2, f'{label}------', f'{label + 1}------') for label in range(3)]
     ring = block_of(7, 4, [(1, 'ABCDEFG', 'BCDEFGA'), *raised], ['3333333'], [0, 1, 2, 3])
-    starts = [(zeros, 64), ([3, 2, 1, 0, 1, 2, 3], 64), ([3, 2, 1, 0, 1, 2, 3], 13), ([3] * 7, 64)]
-    exercise(ring, *((start, steps, 1000, 1000) for start, steps in starts))
+    starts = [(start, 64), ([3, 2, 1, 0, 1, 2, 3], 64), ([3, 2, 1, 0, 1, 2, 3], 13), ([3] * 7, 64)]
+    session(ring, *((start, steps, 1000, 1000) for start, steps in starts))
     title('the largest exercise, from <0,..,0>, which is a goal, and from <0,..,0,15>')
-    exercise([16, 16, 1, 64, 8] + [0] * 2256, ([0] * 16, 8, 100, 100), ([0] * 15 + [15], 8, 100, 100))
+    session(LARGEST, ([0] * 16, 8, 100, 100), ([0] * 15 + [15], 8, 100, 100))
+
+
+def long_sessions():
     title(
         'a query, an empty line and a long one, 32768, 32769, 32770, 40000 bytes in all; the long line unended, 32768 and 32769 bytes in all'
     )
-    long = whole + b'\n'
+    long = E_SESSION + b'\n'
     for length in (32768, 32769, 32770, 40000):
         par(long.ljust(length - 1, b'0') + b'\n')
     for length in (32768, 32769):
         par(long.ljust(length, b'0'))
 
 
-def counter(direction, cost):
-    """0 1 .. 1 at the end become 1 0 .. 0, up to all ones; the other way round where the direction is -1."""
-    sides = [('-' * (13 - ones) + '0' + '1' * ones, '-' * (13 - ones) + '1' + '0' * ones) for ones in range(14)]
-    rules = [(cost, left[::direction], right[::direction]) for left, right in sides]
-    return block_of(14, 2, rules, ['1' * 14], [0, 1])
+def sessions():
+    sessions_with_limits()
+    sessions_with_other_lines()
+    faulty_queries()
+    sessions_with_other_exercises()
+    large_sessions()
+    long_sessions()
 
 
 def rings():
@@ -822,7 +953,8 @@ def random_small_block(random):
 def fill_order_blocks():
     random = Random(1)
     blocks = [random_small_block(random) for _ in range(150)]
-    blocks += [counter(1, 1), counter(-1, 1), counter(1, 255), rings()]
+    ones = '1' * 14
+    blocks += [counter(14, 1, ones), counter(14, 1, ones, -1), counter(14, 255, ones), rings()]
     # seeds with which many states reach a goal, some of them from far
     large = [(3, 14, 2, 64, 1), (3, 14, 2, 64, 8), (10, 7, 4, 30, 1), (4, 6, 5, 20, 2), (11, 4, 11, 16, 3), (9, 3, 16, 16, 8)]
     large += [(1, 16, 1, 64, 8)]

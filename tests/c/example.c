@@ -56,7 +56,7 @@ static size_t read_block(uint8_t *block) {
 }
 
 static void relabel(const uint8_t *block, size_t block_length) {
-  uint8_t out[MIKJUQAN_BLOCK_LENGTH];
+  uint8_t out[MIKJUQAN_BLOCK_LENGTH] = {0};
   mikjuqan_length relabelled = mikjuqan_relabel_block(block, block_length, out, sizeof out);
   expect(relabelled.refusal == MIKJUQAN_ACCEPTED && relabelled.length == 52,
          "the relabelled block has a map of two labels, not three");
@@ -89,7 +89,7 @@ static void apply_and_test(const uint8_t *block, size_t block_length) {
 
 static void step_back(const uint8_t *block, size_t block_length) {
   static const uint8_t state[POSITIONS] = {1, 0, 2};
-  uint8_t out[POSITIONS];
+  uint8_t out[POSITIONS] = {9, 9, 9};
   mikjuqan_decision found = mikjuqan_first_predecessor(block, block_length, 2, state, POSITIONS, out, POSITIONS);
   expect(found.refusal == MIKJUQAN_ACCEPTED && found.yes && same(out, 1, 2, 0), "rule 2 leads there from <1,2,0>");
   uint8_t earlier[POSITIONS];
@@ -111,7 +111,7 @@ static void step_back(const uint8_t *block, size_t block_length) {
 
 static void replay(const uint8_t *block, size_t block_length) {
   static const uint8_t list[] = {2, 0, 5, 5};
-  uint8_t out[POSITIONS];
+  uint8_t out[POSITIONS] = {9, 9, 9};
   mikjuqan_replay run = mikjuqan_replay_run(block, block_length, start, POSITIONS, list, 3, out, POSITIONS);
   expect(run.refusal == MIKJUQAN_ACCEPTED && !run.stuck && run.cost == 5 && same(out, 2, 1, 0),
          "rules 2, 0, 5 lead to <2,1,0> at cost 5");
@@ -175,8 +175,8 @@ static void search(const uint8_t *block, size_t block_length, uint32_t *table) {
 }
 
 int main(void) {
-  uint8_t block[MIKJUQAN_BLOCK_LENGTH];
-  uint32_t table[ENTRIES];
+  uint8_t block[MIKJUQAN_BLOCK_LENGTH] = {0};
+  uint32_t table[ENTRIES] = {0};
   size_t length = read_block(block);
   relabel(block, length);
   apply_and_test(block, length);

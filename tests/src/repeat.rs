@@ -82,7 +82,7 @@ impl<T: Kind> Kind for Result<T, Refusal> {
 }
 
 /// Runs a case so many times and counts the kinds of its answers. Those listed as possible, answers and numbers of
-/// refusals with blanks between, must each have been met at least once in a thousand cases, and no others at all.
+/// refusals with commas between, must each have been met at least once in a thousand cases, and no others at all.
 pub fn repeat<T: Kind>(name: &str, cases: u64, possible: &str, case: impl Fn(&mut Random) -> T) {
     let seed = name.bytes().fold(cases_seed(), |seed, byte| seed.wrapping_mul(257).wrapping_add(byte.into()));
     let mut met: BTreeMap<&str, u64> = BTreeMap::new();

@@ -38,7 +38,7 @@ pub fn repository() -> PathBuf {
     tests.parent().expect("this package stands in the repository").to_path_buf()
 }
 
-/// All samples of the repository.
+/// All samples of the repository, of which there are at least four.
 pub fn samples() -> Vec<Sample> {
     let directory = fs::read_dir(repository().join("samples")).expect("the repository has samples");
     let inputs = directory.map(|entry| entry.expect("samples can be read").path());
@@ -47,5 +47,8 @@ pub fn samples() -> Vec<Sample> {
         answers: fs::read(input.with_extension("answers")).expect("a sample has answers"),
         input: fs::read(input).expect("a sample has an input"),
     };
-    inputs.filter(|path| path.extension().is_some_and(|extension| extension == "txt")).map(sample).collect()
+    let texts = inputs.filter(|path| path.extension().is_some_and(|extension| extension == "txt"));
+    let samples: Vec<Sample> = texts.map(sample).collect();
+    assert!(samples.len() >= 4, "there are only {} samples", samples.len());
+    samples
 }

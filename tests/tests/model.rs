@@ -51,10 +51,7 @@ fn predecessors_by_walking_are_those_by_building() {
             return false;
         };
         let (state, earlier) = draw_back(random, &drawn, number);
-        let is_state = |state: &[u8]| {
-            state.len() == exercise.positions && state.iter().all(|&label| usize::from(label) < exercise.labels)
-        };
-        if !is_state(&state) || !is_state(&earlier) {
+        if !exercise.is_state(&state) || !exercise.is_state(&earlier) {
             return false;
         }
         let rule = &exercise.rules[number];

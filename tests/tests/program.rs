@@ -124,5 +124,7 @@ fn input_in_pieces() {
         assert!(ended.status.success());
     }
     let bytes: Vec<&[u8]> = input.chunks(1).collect();
-    assert_eq!(text(&run_in_pieces(&bytes).printed), text(&expected));
+    let ended = run_in_pieces(&bytes);
+    assert_eq!(text(&ended.printed), text(&expected));
+    assert!(ended.status.success());
 }

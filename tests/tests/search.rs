@@ -3,6 +3,7 @@
 use mikjuqan::{Limits, Search};
 use outside::draw::tables::draw_passing;
 use outside::draw::Drawn;
+use outside::model;
 use outside::model::block::check;
 use outside::model::exercise::Exercise;
 use outside::model::exhaustive::{first_cheapest, least_cost, Plan};
@@ -76,6 +77,7 @@ fn cost_limit_decides_whether_there_is_a_plan() {
     });
 }
 
+/// How many visits are made is told by the model's rounds.
 #[test]
 fn spent_exactly_where_more_visits_are_made() {
     let possible = "found at the start, found near, found far, no plan, spent";
@@ -83,7 +85,7 @@ fn spent_exactly_where_more_visits_are_made() {
         let (exercise, start, steps, _) = draw_small(random);
         let table = draw_table(random, &exercise);
         let limits = Limits { steps, cost: random.pick(&[ANY, 5]), visits: ANY };
-        let free = find(&exercise, &start, limits, &table);
+        let free = model::search::find(&exercise, &start, limits, &table);
         let (Search::Found { visits: made, .. } | Search::NoPlan { visits: made }) = free.0 else {
             panic!("so many visits cannot be spent");
         };

@@ -1,9 +1,10 @@
 //! The most stack that calls and the program use.
 
-use mikjuqan::{Limits, BLOCK_LENGTH, PLAN_LENGTH, TABLE_LENGTH};
+use mikjuqan::{Limits, BLOCK_LENGTH, LIST_LENGTH, PLAN_LENGTH, TABLE_LENGTH};
 use outside::model::text::encode_line;
 use outside::model::{calls, session};
 use outside::program;
+use outside::samples::samples;
 use outside::stack::used_by;
 
 const KIB: usize = 1024;
@@ -95,6 +96,7 @@ fn find_plan() {
         println!("stack: find_plan with side extensions {side:?}: {} KiB, {expected:?}", used.div_ceil(KIB));
         used
     };
+    report("find_plan with one rule due", used(Side::NotApplying), 64);
     report("find_plan", SIDES.map(used).into_iter().max().expect("there are sides"), 1500);
 }
 
@@ -123,6 +125,39 @@ fn read_exercise() {
     let mut out = [0; BLOCK_LENGTH];
     let used = used_by(|| assert!(mikjuqan::read_exercise(&text, &mut out).is_ok()));
     report("read_exercise", used, 64);
+}
+
+/// The nine calls that neither fill nor search nor go through a table or a text, each where it has the most to do.
+#[test]
+fn other_calls() {
+    let block = deep_frames(Side::Visited).concat();
+    let (state, last) = (DEEP_START, 63);
+    let large = large_blocks().remove(0);
+    let table = vec![0; TABLE_LENGTH];
+    let list = [last as u8; LIST_LENGTH];
+    let (mut long, mut out) = ([0; BLOCK_LENGTH], [0; 16]);
+    let used = [
+        used_by(|| assert!(mikjuqan::check_block(&block).is_ok())),
+        used_by(|| assert!(mikjuqan::relabel_block(&block, &mut long).is_ok())),
+        used_by(|| assert_eq!(mikjuqan::apply_rule(&block, last, &state, &mut out), Ok(true))),
+        used_by(|| assert_eq!(mikjuqan::test_goals(&block, &state), Ok(false))),
+        used_by(|| assert_eq!(mikjuqan::first_predecessor(&block, last, &state, &mut out), Ok(true))),
+        used_by(|| assert_eq!(mikjuqan::next_predecessor(&block, last, &state, &[0; 16], &mut out), Ok(true))),
+        used_by(|| assert_eq!(mikjuqan::test_reversible(&block, last), Ok(true))),
+        used_by(|| assert!(mikjuqan::replay_run(&block, &state, &list, &mut out).is_ok())),
+        used_by(|| assert_eq!(mikjuqan::look_up_estimate(&large, &[1; 14], &table), Ok(Some(0)))),
+    ];
+    report("the largest of the other calls", used.into_iter().max().expect("there are calls"), 64);
+}
+
+/// What the samples need of stack.
+#[test]
+fn par_on_samples() {
+    for sample in samples() {
+        let ended = program::run_with_stack(&sample.input, 384);
+        assert_eq!(ended.printed, sample.answers, "sample {}", sample.name);
+        assert!(ended.status.success(), "sample {}", sample.name);
+    }
 }
 
 #[test]

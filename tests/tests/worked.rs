@@ -170,6 +170,8 @@ fn lines_printed_for_e() {
     for (query, answer) in lines {
         let input = [E_TEXT, query.as_bytes()].concat();
         assert_eq!(session::print(&input), answer.as_bytes());
-        assert_eq!(program::run(&input).printed, answer.as_bytes());
+        let ended = program::run(&input);
+        assert_eq!(ended.printed, answer.as_bytes());
+        assert!(ended.status.success());
     }
 }

@@ -60,7 +60,7 @@ fn set_abstract_labels(random: &mut Random, sizes: &mut Sizes, most_entries: usi
     }
 }
 
-/// Abstract labels and positions with K^n at 16,384 or shortly below.
+/// Abstract labels and positions with K^n at 16,384 or as near below as K and n allow, and the smallest.
 const POWERS_WITHIN: [(usize, usize); 6] = [(2, 14), (4, 7), (5, 6), (11, 4), (16, 3), (1, 16)];
 
 /// The same with K^n above that. Some of these are 0 in 32 bits, (16, 16) also in 64 bits.

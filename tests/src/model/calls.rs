@@ -130,8 +130,7 @@ pub fn find_plan(
 }
 
 fn check_state(exercise: &Exercise, state: &[u8]) -> Result<(), Refusal> {
-    let is_state = state.len() == exercise.positions && state.iter().all(|&label| usize::from(label) < exercise.labels);
-    is_state.then_some(()).ok_or(Refusal::State)
+    exercise.is_state(state).then_some(()).ok_or(Refusal::State)
 }
 
 fn check_rule(exercise: &Exercise, number: usize) -> Result<&Rule, Refusal> {

@@ -31,6 +31,11 @@ impl Exercise {
         self.abstract_labels.pow(self.positions as u32)
     }
 
+    /// Whether some bytes are a state: a label for each position.
+    pub fn is_state(&self, bytes: &[u8]) -> bool {
+        bytes.len() == self.positions && bytes.iter().all(|&label| usize::from(label) < self.labels)
+    }
+
     /// The block that describes this exercise.
     pub fn encode(&self) -> Vec<u8> {
         let head = [self.positions, self.labels, self.abstract_labels, self.rules.len(), self.goals.len()];

@@ -46,7 +46,7 @@ fn answer(exercise: &Exercise, table: &[u32], line: &[u8]) -> Result<(Search, Ve
         return Err(Refusal::Line);
     }
     let (start, numbers) = query.split_at(exercise.positions);
-    if start.iter().any(|&label| usize::from(label) >= exercise.labels) {
+    if !exercise.is_state(start) {
         return Err(Refusal::State);
     }
     let steps = usize::from(numbers[0]);

@@ -1,4 +1,4 @@
-//! A term is one byte, and its range says its kind.
+//! The three kinds of term, and the bytes that stand for them.
 
 #[derive(Clone, Copy, Debug, PartialEq, Eq)]
 pub enum Term {
