@@ -202,7 +202,7 @@ static void add_searches(void) {
   make_tiles(&task->input, &task->query);
   task = add_task(heading, "pancake", FIND);
   make_pancake(&task->input, &task->query);
-  task = add_task(heading, "yard", FIND);
+  task = add_task(heading, "slots", FIND);
   make_slots(&task->input, &task->query);
   task = add_task(heading, "64 rules", FIND);
   make_many_rules(&task->input, &task->query);

@@ -81,60 +81,53 @@ static struct query query_of(const uint8_t *start, unsigned positions, uint32_t 
 
 /* ---- for the search ---- */
 
-/* The eight tiles: few of the 24 rules apply to a state. */
+/* The eight tiles: few of the 24 rules apply to a state. Rules go by the empty place, and by the tiles above it, to its
+ * left, to its right and below it. The table tells odd tiles from even ones. */
 void make_tiles(struct input *input, struct query *query) {
-  static const uint8_t map[9] = {0, 0, 0, 0, 0, 1, 1, 1, 1};
-  static const uint8_t goal[9] = {1, 2, 3, 4, 5, 6, 7, 8, 0};
-  static const uint8_t start[9] = {3, 8, 0, 7, 4, 2, 5, 6, 1};
-  begin(input, 9, 9, 2, map);
-  for (unsigned i = 0; i < 9; i++) {
-    if (i % 3 < 2) {
-      add_exchange(input, 1, i + 1, i);
-      add_exchange(input, 1, i, i + 1);
-    }
-    if (i < 6) {
-      add_exchange(input, 1, i + 3, i);
-      add_exchange(input, 1, i, i + 3);
-    }
+  static const uint8_t goal[9] = {0, 1, 2, 3, 4, 5, 6, 7, 8};
+  static const uint8_t start[9] = {7, 6, 5, 3, 8, 0, 2, 4, 1};
+  begin(input, 9, 9, 2, NULL);
+  for (unsigned empty = 0; empty < 9; empty++) {
+    if (empty >= 3) add_exchange(input, 1, empty - 3, empty);
+    if (empty % 3 > 0) add_exchange(input, 1, empty - 1, empty);
+    if (empty % 3 < 2) add_exchange(input, 1, empty + 1, empty);
+    if (empty < 6) add_exchange(input, 1, empty + 3, empty);
   }
   add_goal(input, goal);
-  write_text(input);
   *query = query_of(start, 9, 40);
 }
 
-/* Ten pancakes: every rule applies to every state, and moves up to ten labels. */
+/* Eleven pancakes, to be laid with the highest label first: every rule applies to every state, and the first one moves
+ * all labels. */
 void make_pancake(struct input *input, struct query *query) {
-  static const uint8_t goal[10] = {0, 1, 2, 3, 4, 5, 6, 7, 8, 9};
-  static const uint8_t start[10] = {9, 3, 6, 1, 4, 5, 8, 2, 0, 7};
-  begin(input, 10, 10, 2, NULL);
-  for (unsigned turned = 2; turned <= 10; turned++) {
+  static const uint8_t map[11] = {0, 0, 0, 0, 0, 0, 1, 1, 1, 1, 1};
+  static const uint8_t goal[11] = {10, 9, 8, 7, 6, 5, 4, 3, 2, 1, 0};
+  static const uint8_t start[11] = {5, 3, 4, 10, 0, 7, 2, 1, 9, 8, 6};
+  begin(input, 11, 11, 2, map);
+  for (unsigned turned = 11; turned >= 2; turned--) {
     uint8_t *left = add_rule(input, 1);
-    uint8_t *right = left + 10;
-    for (unsigned i = 0; i < turned; i++) {
-      left[i] = (uint8_t)(FIRST_VARIABLE + i);
-      right[i] = (uint8_t)(FIRST_VARIABLE + turned - 1 - i);
-    }
+    uint8_t *right = left + 11;
+    for (unsigned i = 0; i < turned; i++) left[i] = right[turned - 1 - i] = (uint8_t)(FIRST_VARIABLE + i);
   }
   add_goal(input, goal);
-  write_text(input);
-  *query = query_of(start, 10, 40);
+  *query = query_of(start, 11, 40);
 }
 
-/* Eight slots in a row, two of them empty: neighbours are exchanged at cost 1, slots two apart at cost 3. */
+/* Seven slots in a row, two of them empty: slots two apart are exchanged at cost 3, neighbours at cost 2. */
 void make_slots(struct input *input, struct query *query) {
-  static const uint8_t map[5] = {0, 1, 1, 2, 2};
-  static const uint8_t goal[8] = {1, 2, 3, 4, 1, 2, 0, 0};
-  static const uint8_t start[8] = {4, 3, 2, 1, 0, 2, 0, 1};
-  begin(input, 8, 5, 3, map);
-  for (unsigned apart = 1; apart <= 2; apart++) {
-    for (unsigned i = 0; i + apart < 8; i++) {
-      add_exchange(input, 2 * apart - 1, i, i + apart);
-      add_exchange(input, 2 * apart - 1, i + apart, i);
+  static const uint8_t map[6] = {0, 1, 2, 3, 2, 1};
+  static const uint8_t goal[7] = {5, 4, 0, 3, 0, 2, 1};
+  static const uint8_t start[7] = {3, 0, 2, 1, 4, 5, 0};
+  begin(input, 7, 6, 4, map);
+  for (unsigned i = 0; i < 7; i++) {
+    for (unsigned apart = 2; apart > 0; apart--) {
+      if (i + apart >= 7) continue;
+      add_exchange(input, 1 + apart, i + apart, i);
+      add_exchange(input, 1 + apart, i, i + apart);
     }
   }
   add_goal(input, goal);
-  write_text(input);
-  *query = query_of(start, 8, 200);
+  *query = query_of(start, 7, 100);
 }
 
 /* A rule that turns the labels of three positions round. */
@@ -163,30 +156,31 @@ void make_many_rules(struct input *input, struct query *query) {
     }
   }
   add_goal(input, goal);
-  write_text(input);
   *query = query_of(start, 12, 200);
   query->visits = 1000000;
 }
 
-/* ---- for tables: 14 positions of two labels ---- */
+/* ---- for tables: seven digits below 4, or 14 below 2 ---- */
 
-enum { BITS = 14 };
+enum { DIGITS = 7, BASE = 4, BITS = 14 };
 
-/* A counter: 0 1 .. 1 become 1 0 .. 0, a rule for each number of ones. The lowest bit is the last position, or the
- * first one where it is reversed. From 0 to the goal it takes 16,383 rules. */
+/* A counter that goes down to 0: a digit falls by one where all below it are 0, and these become the highest. The
+ * lowest digit is the last position, or the first one where it is reversed. From the highest number to the goal it
+ * takes 16,383 rules. */
 void make_counter(struct input *input, bool reversed) {
-  begin(input, BITS, 2, 2, NULL);
-  for (unsigned ones = 0; ones < BITS; ones++) {
-    uint8_t *left = add_rule(input, 1);
-    uint8_t *right = left + BITS;
-    for (unsigned bit = 0; bit <= ones; bit++) {
-      unsigned at = reversed ? bit : BITS - 1 - bit;
-      left[at] = bit < ones;
-      right[at] = bit == ones;
+  begin(input, DIGITS, BASE, BASE, NULL);
+  for (unsigned falling = DIGITS; falling-- > 0;) {
+    for (uint8_t digit = 1; digit < BASE; digit++) {
+      uint8_t *left = add_rule(input, 2);
+      uint8_t *right = left + DIGITS;
+      for (unsigned below = 0; below <= falling; below++) {
+        unsigned at = reversed ? below : DIGITS - 1 - below;
+        left[at] = below < falling ? 0 : digit;
+        right[at] = below < falling ? BASE - 1 : digit - 1;
+      }
     }
   }
-  add_even_goal(input, 1);
-  write_text(input);
+  add_even_goal(input, 0);
 }
 
 /* Rings: a ring turns where the one below it is 1 and all below that are 0, which makes one long walk through all
@@ -203,7 +197,6 @@ void make_rings(struct input *input) {
     }
   }
   add_even_goal(input, 0);
-  write_text(input);
 }
 
 /* Numbers that look random and are the same in every run. */
@@ -237,7 +230,6 @@ void make_random_rules(struct input *input) {
     for (unsigned i = 0; i < BITS; i++) right[i] = random_right(&seed, left);
   }
   add_even_goal(input, 1);
-  write_text(input);
 }
 
 /* ---- for opening ---- */

@@ -1,4 +1,4 @@
-/* The inputs of the benchmark, each as a block and as text. */
+/* The inputs of the benchmark: each as a block, and those for opening also as text. */
 #ifndef BENCH_EXERCISES_H
 #define BENCH_EXERCISES_H
 

@@ -1,4 +1,5 @@
-/* The plain engine: states are bytes, terms are interpreted as the specification tells them, and nothing is prepared.
+/* The plain engine: a state is its labels, a byte each, each term is looked at anew whenever it is met, and nothing is
+ * prepared.
  * It is what one writes first: nothing is done for speed, but nothing is wasted either. */
 #include "block.h"
 #include "engine.h"
@@ -319,79 +320,99 @@ static bool test(const uint8_t *block, size_t length, const uint32_t *table) {
 
 /* ---- the search ---- */
 
-/* What every visit of a search sees. `least` is the least overshoot of the round so far. */
+/* A list of rules on its way through a round: for each of its states the cost up to it and the next rule to try there.
+ * The rule that led on from a state is the one before that. */
 struct search {
   struct exercise e;
   const uint32_t *table;
-  uint32_t steps;
+  uint32_t most_steps;
   uint32_t allowance;
   uint32_t visits;
   uint64_t threshold;
-  uint64_t least;
-  uint8_t path[MOST_STEPS + 1][MOST_POSITIONS];
-  uint8_t plan[MOST_STEPS];
-  uint32_t plan_steps;
-  uint32_t plan_cost;
+  uint64_t least_above;
+  uint32_t steps;
+  uint8_t states[MOST_STEPS + 1][MOST_POSITIONS];
+  uint32_t costs[MOST_STEPS + 1];
+  unsigned next_rule[MOST_STEPS + 1];
 };
 
-enum ending { ENDED_ON, ENDED_FOUND, ENDED_SPENT };
+static uint32_t estimate_of(const struct search *s, const uint8_t *state) { return s->table[rank_of(&s->e, state)]; }
 
-static bool on_path(const struct search *s, uint32_t depth, const uint8_t *state) {
-  for (uint32_t i = 0; i <= depth; i++) {
-    if (memcmp(s->path[i], state, s->e.positions) == 0) return true;
+/* Whether a state stands on the list's path. */
+static bool is_passed(const struct search *s, const uint8_t *state) {
+  uint32_t k = 0;
+  while (k <= s->steps && memcmp(s->states[k], state, s->e.positions) != 0) k++;
+  return k <= s->steps;
+}
+
+/* Whether the list with one rule more is to be visited; where its figure is above the threshold that is noted. */
+static bool is_due(struct search *s, const uint8_t *state, uint32_t cost) {
+  uint32_t estimate = estimate_of(s, state);
+  if (estimate == NO_PATH) return false;
+  uint64_t figure = (uint64_t)estimate + cost;
+  if (figure <= s->threshold) return true;
+  if (figure < s->least_above) s->least_above = figure;
+  return false;
+}
+
+/* Adds to the list the next rule with which it is due. Where there is none the list stays as it is. */
+static bool extend(struct search *s) {
+  uint32_t at = s->steps;
+  if (at == s->most_steps) return false;
+  uint8_t *made = s->states[at + 1];
+  while (s->next_rule[at] < s->e.rules) {
+    unsigned rule = s->next_rule[at]++;
+    if (!apply(&s->e, rule, s->states[at], made) || is_passed(s, made)) continue;
+    uint32_t cost = s->costs[at] + cost_of(&s->e, rule);
+    if (!is_due(s, made, cost)) continue;
+    s->steps = at + 1;
+    s->costs[at + 1] = cost;
+    s->next_rule[at + 1] = 0;
+    return true;
   }
   return false;
 }
 
-/* Takes up the list whose states stand in the path: it is visited where its figure is not above the threshold. */
-static enum ending visit(struct search *s, uint32_t depth, uint32_t cost) {
-  const uint8_t *state = s->path[depth];
-  uint32_t estimate = s->table[rank_of(&s->e, state)];
-  if (estimate == NO_PATH) return ENDED_ON;
-  uint64_t figure = (uint64_t)cost + estimate;
-  if (figure > s->threshold) {
-    if (figure < s->least) s->least = figure;
-    return ENDED_ON;
+/* One round, from the empty list on: it ends at a plan, at the allowance, or where no list is left. */
+static uint32_t run_round(struct search *s) {
+  s->steps = 0;
+  s->next_rule[0] = 0;
+  s->least_above = UINT64_MAX;
+  for (;;) {
+    if (s->visits == s->allowance) return SPENT;
+    s->visits++;
+    if (meets_goal(&s->e, s->states[s->steps])) return FOUND;
+    while (!extend(s)) {
+      if (s->steps == 0) return NO_PLAN;
+      s->steps--;
+    }
   }
-  if (s->visits == s->allowance) return ENDED_SPENT;
-  s->visits++;
-  if (meets_goal(&s->e, state)) {
-    s->plan_steps = depth;
-    s->plan_cost = cost;
-    return ENDED_FOUND;
-  }
-  if (depth == s->steps) return ENDED_ON;
-  for (unsigned r = 0; r < s->e.rules; r++) {
-    uint8_t *next = s->path[depth + 1];
-    if (!apply(&s->e, r, state, next) || on_path(s, depth, next)) continue;
-    s->plan[depth] = (uint8_t)r;
-    enum ending ending = visit(s, depth + 1, cost + cost_of(&s->e, r));
-    if (ending != ENDED_ON) return ending;
-  }
-  return ENDED_ON;
 }
 
-/* The rounds, from the start's estimate on; the next threshold is the least overshoot. */
+/* Rounds with rising thresholds, the first of them the start's estimate. */
 static uint32_t run_rounds(struct search *s, uint32_t cost_limit) {
-  uint32_t estimate = s->table[rank_of(&s->e, s->path[0])];
-  if (estimate == NO_PATH) return NO_PLAN;
-  for (s->threshold = estimate; s->threshold <= cost_limit; s->threshold = s->least) {
-    s->least = UINT64_MAX;
-    enum ending ending = visit(s, 0, 0);
-    if (ending == ENDED_FOUND) return FOUND;
-    if (ending == ENDED_SPENT) return SPENT;
+  uint32_t status = NO_PLAN;
+  uint32_t first = estimate_of(s, s->states[0]);
+  s->least_above = first == NO_PATH ? UINT64_MAX : first;
+  while (status == NO_PLAN && s->least_above <= cost_limit) {
+    s->threshold = s->least_above;
+    status = run_round(s);
   }
-  return NO_PLAN;
+  return status;
 }
 
 static struct answer find(const uint8_t *block, size_t length, const struct query *query, const uint32_t *table,
                           uint8_t *plan) {
-  struct search s = {.e = open_block(block), .table = table, .steps = query->steps, .allowance = query->visits};
+  struct search s = {.e = open_block(block), .table = table, .most_steps = query->steps, .allowance = query->visits};
   (void)length;
-  memcpy(s.path[0], query->start, s.e.positions);
+  memcpy(s.states[0], query->start, s.e.positions);
   uint32_t status = run_rounds(&s, query->cost);
-  memcpy(plan, s.plan, s.plan_steps);
-  return (struct answer){status, s.plan_steps, s.plan_cost, s.visits};
+  struct answer answer = {.status = status, .visits = s.visits};
+  if (status != FOUND) return answer;
+  for (uint32_t k = 0; k < s.steps; k++) plan[k] = (uint8_t)(s.next_rule[k] - 1);
+  answer.steps = s.steps;
+  answer.cost = s.costs[s.steps];
+  return answer;
 }
 
 const struct engine plain_engine = {"plain", read_text, check, fill, test, find};

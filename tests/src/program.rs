@@ -30,10 +30,10 @@ pub fn run_in_pieces(pieces: &[&[u8]]) -> Run {
     end(start(Command::new(path())), pieces)
 }
 
-/// Runs the program with a stack of so many KiB.
+/// Runs the program with a stack of so many KiB, and with no environment, which would stand on the stack too.
 pub fn run_with_stack(input: &[u8], kib: usize) -> Run {
     let mut shell = Command::new("sh");
-    shell.args(["-c", "ulimit -s \"$1\" && exec \"$0\""]).arg(path()).arg(kib.to_string());
+    shell.env_clear().args(["-c", "ulimit -s \"$1\" && exec \"$0\""]).arg(path()).arg(kib.to_string());
     end(start(shell), &[input])
 }
 
