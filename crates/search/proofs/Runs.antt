@@ -19,15 +19,16 @@ use Rattle.blocks.specs.States.{stateOk}
 use Rattle.blocks.proofs.StateLaws.{labelled-length, label-below}
 use Rattle.words.specs.Packing.{pack}
 use Rattle.rounds.specs.Systems.{Estimate, mark, at, plus}
-use Rattle.rounds.specs.Rounds.{Answer, Progress, on, found, plan, upto, begin, conclude, visit, round, roundsFrom, search}
+use Rattle.rounds.specs.Rounds.{Answer, Progress, on, found, plan, upto, begin, conclude, round, roundsFrom, search}
 use Rattle.rounds.proofs.EstimateLaws.{zero-plus}
 use Rattle.rounds.proofs.OneRound.{round-passed}
 use Rattle.rounds.proofs.BestPlans.{higher}
 use Rattle.rounds.proofs.Equations.{rounds-above, rounds-found, rounds-stop, rounds-none, rounds-on}
 use Rattle.search.specs.Exercises.{searchFrom}
 use Rattle.search.specs.Promises.{Kept}
-use Rattle.search.specs.OnWords.{wordSystem, wordEstimate, figureOf, seen}
-use Rattle.search.specs.Parts.{Good, Ready, Here, Done, systemAt, estimateAt, progressOf, HitWithin, Answers, answerOf, FoundWithin}
+use Rattle.search.specs.Limits.{stepLimit, roundLimits}
+use Rattle.search.specs.OnWords.{wordSystem, wordEstimate, figureOf}
+use Rattle.search.specs.Parts.{Good, Ready, Here, AfterVisit, AfterRound, Done, progressOf, HitWithin, Answers, answerOf, FoundWithin}
 use Rattle.tallies.specs.declared.Tally.{Tally}
 use Rattle.search.specs.declared.visiting.Visited.{Visited}
 use Rattle.search.specs.declared.visiting.Visited.the-variants.{On, Hit, Stop}
@@ -63,39 +64,35 @@ module _ (b words moves weights table : List ℕ) where
     pub plan-long : length plan ≡ 64
     pub same : wholeRun D B A first s ≡ conclude (on u (figureOf T)) (roundsAt D B A s)
 
+-- a round is the visit of the empty list
+pub round-done :
+    (words moves weights table limits path plan : List ℕ) (u : ℕ) (path′ plan′ : List ℕ) (r : Visited)
+    → AfterVisit words moves weights table limits path plan (record { depth = 0; cost = 0 }) (record { visits = u; least = 18446744073709551615 }) path′ plan′ r
+    → AfterRound words moves weights table limits path plan u path′ plan′ r
+unfolding round
+round-done words moves weights table limits path plan u path′ plan′ r d =
+    let all : stepLimit limits - 0 ≡ stepLimit limits = omega arith in rw all at d
+
 module _ {b words moves weights table : List ℕ} (y : Ready b words moves weights table) where
-  -- a round is the visit of the empty list, by limits in an array
-  module _ (T A D R G n : ℕ) (er : R ≡ rules b) (eg : G ≡ goals b) (en : n ≡ positions b) where
-    abbrev limits : List ℕ
-    limits = T ∷ A ∷ D ∷ R ∷ G ∷ n ∷ 0 ∷ 0 ∷ []
-
-    pub here-first :
-        (path : List ℕ) → Good b (getD path 0 0) → length path ≡ 65 → D ≤ 64 → T ≤ 4294967295 → A ≤ 4294967295
-        → Here words moves weights table path limits 0 0
-    here-first path g l d t a =
-        record {
-          block = b;
-          ready = y;
-          rules-told = er;
-          goals-told = eg;
-          positions-told = en;
-          threshold-low = t;
-          allowance-low = a;
-          steps-few = d;
-          path-long = l;
-          good = g;
-          depth-low = omega arith;
-          cost-low = omega arith;
-        }
-
-    pub round-done :
-        (u : ℕ) (path plan path′ plan′ : List ℕ) (r : Visited)
-        → Done 0 D T path plan path′ plan′
-        (visit (systemAt words moves limits) (estimateAt weights table limits) (upto A) T (D - 0) (seen path 0) (getD path 0 0) 0 u
-        (figureOf 18446744073709551615)) r
-        → Done 0 D T path plan path′ plan′ (roundAt b words moves weights table D A (getD path 0 0) T u) r
-    unfolding round
-    round-done u path plan path′ plan′ r d = let all : D - 0 ≡ D = omega arith in rw (er, eg, en, all) at d
+  -- the empty list, at the limits of a round
+  pub here-first :
+      (T v D : ℕ) (path : List ℕ) → Good b (getD path 0 0) → length path ≡ 65 → D ≤ 64 → T ≤ 4294967295 → v ≤ 4294967295
+      → Here words moves weights table path (roundLimits b T v D) 0 0
+  here-first T v D path g l d t a =
+      record {
+        block = b;
+        ready = y;
+        rules-told = refl;
+        goals-told = refl;
+        positions-told = refl;
+        threshold-low = t;
+        allowance-low = a;
+        steps-few = d;
+        path-long = l;
+        good = g;
+        depth-low = omega arith;
+        cost-low = omega arith;
+      }
 
   module _ (D B A first s : ℕ) where
     -- the rounds from s

@@ -1,5 +1,5 @@
--- What the parts of the search ask (`Good`, `Ready`, `Here`) and leave: the extensions up to the next one that is due (`Scanned`), a visit or extensions (`Done`),
--- and the search (`Answers`). `progressOf` and `answerOf` read the code's enums as the definitions of the search have them.
+-- What the parts of the search ask (`Good`, `Ready`, `Here`) and leave: the extensions up to the next one that is due (`Scanned`), a visit, extensions and a round (`AfterVisit`, `AfterExtensions`,
+-- `AfterRound`, by `Done`), and the search (`Answers`). `progressOf` and `answerOf` read the code's enums as the definitions of the search have them.
 -- The contracts of the search's functions are these.
 use mathlib.Core.Path.{_≡_}
 use mathlib.Core.Bool.{true}
@@ -15,12 +15,13 @@ use Rattle.words.specs.Packing.{unpack}
 use Rattle.words.specs.Sides.{costWord}
 use Rattle.words.specs.Compiled.{Compiled}
 use Rattle.rounds.specs.Systems.{System, Estimate}
-use Rattle.rounds.specs.Rounds.{Progress, on, hit, stop, Answer, found, noPlan, spent, plan, upto, due, offer, extend, visit}
+use Rattle.rounds.specs.Rounds.{Progress, on, hit, stop, Answer, found, noPlan, spent, plan, upto, due, offer, extend, visit, round}
 use Rattle.tallies.specs.declared.Tally.{Tally}
 use Rattle.search.specs.Exercises.{searchFrom}
 use Rattle.search.specs.Promises.{Kept}
 use Rattle.search.specs.Limits.{threshold, allowance, stepLimit, ruleCount, goalCount, positionCount}
 use Rattle.search.specs.OnWords.{wordSystem, wordEstimate, figureOf, seen}
+use Rattle.search.specs.declared.scanning.Node.{Node}
 use Rattle.search.specs.declared.scanning.Extension.{Extension}
 use Rattle.search.specs.declared.scanning.Scan.{Scan}
 use Rattle.search.specs.declared.scanning.Scan.the-variants.{Over, Due}
@@ -112,6 +113,31 @@ pub record Done (depth D T : ℕ) (path plan path′ plan′ : List ℕ) (x : Pr
   pub within : HitWithin depth D T r
   pub path-kept : Outside (suc depth) 65 path path′
   pub plan-kept : Outside depth 64 plan plan′
+
+module _ (words moves weights table limits path plan : List ℕ) where
+  -- what a visit of the list at hand leaves
+  abbrev pub AfterVisit : Node → Tally → List ℕ → List ℕ → Visited → Type 0
+  AfterVisit node tally path′ plan′ r =
+      Done (node .depth) (stepLimit limits) (threshold limits) path plan path′ plan′
+      (visitWithin words moves weights table limits (stepLimit limits - node .depth) (seen path (node .depth)) (getD path (node .depth) 0)
+      (node .cost) (tally .visits) (figureOf (tally .least)))
+      r
+
+  -- what its extensions by the rules from i on leave
+  abbrev pub AfterExtensions : Node → ℕ → Tally → List ℕ → List ℕ → Visited → Type 0
+  AfterExtensions node i tally path′ plan′ r =
+      Done (node .depth) (stepLimit limits) (threshold limits) path plan path′ plan′
+      (extendFrom words moves weights table path limits (node .depth) (node .cost)
+      (visitWithin words moves weights table limits (stepLimit limits - suc (node .depth))) i tally)
+      r
+
+  -- what a round leaves after u visits, from the state at the front of the path
+  abbrev pub AfterRound : ℕ → List ℕ → List ℕ → Visited → Type 0
+  AfterRound u path′ plan′ r =
+      Done 0 (stepLimit limits) (threshold limits) path plan path′ plan′
+      (round (systemAt words moves limits) (estimateAt weights table limits) (upto (allowance limits)) (stepLimit limits) (getD path 0 0)
+      (threshold limits) u)
+      r
 
 -- what the rounds answer, a plan read from the front of a buffer
 abbrev pub answerOf : List ℕ → Ending → Answer

@@ -37,9 +37,8 @@ pub fn find_plan(
     let mut path = [0u64; 65];
     let mut plan = [0u8; 64];
     compile(block, &mut words, &mut moves, &mut weights);
-    let word = pack(start);
-    path[0] = word;
-    let first = figure(&weights, layout::positions(block), table, 0, word);
+    path[0] = pack(start);
+    let first = figure(&weights, layout::positions(block), table, 0, path[0]);
     let ending = run_rounds(
         block,
         &words,

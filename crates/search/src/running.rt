@@ -5,11 +5,12 @@ ghost use lib.ListN.{length, getD};
 ghost use Rattle.blocks.specs.Layout.{positions, rules, goals};
 ghost use Rattle.rounds.specs.Rounds as rounds;
 ghost use Rattle.search.specs.OnWords.{wordSystem, wordEstimate, figureOf};
-ghost use Rattle.search.specs.Parts.{Good, Ready, Done, answerOf, FoundWithin};
+ghost use Rattle.search.specs.Parts.{Good, Ready, Here, AfterRound, answerOf, FoundWithin};
+use super::limits::round_limits;
 use super::scanning::NONE;
+use super::scanning::Node;
 use super::visiting::Visited;
 use super::visiting::visit;
-use blocks::layout;
 use tallies::Tally;
 
 // What the rounds answer: a plan, with its steps, its cost and the visits; no plan, with the visits; or spent, with the visits.
@@ -19,52 +20,27 @@ pub enum Ending {
     Spent(u32),
 }
 
-// One round at a threshold, after so many visits, from the state at the front of the path.
+// One round by its limits, after so many visits, from the state at the front of the path.
 fn round(
-    block: &[u8],
     words: &[u64; 608],
     moves: &[u8; 4384],
     weights: &[u16; 2048],
     table: &[u32],
     path: &mut [u64; 65],
     plan: &mut [u8; 64],
-    steps: usize,
-    allowance: u32,
-    threshold: u64,
+    limits: &[u64; 6],
     visits: u32,
 ) -> Visited
-    requires { ⌜ Ready (now block) (now words) (now moves) (now weights) (now table) × Good (now block) (getD (now path) 0 0) ⌝ }
-    requires { ⌜ (steps ≤ 64) × (threshold ≤ 4294967295) × (length (now path) ≡ 65) × (length (now plan) ≡ 64) ⌝ }
-    ensures { λ r. ⌜ Done 0 steps threshold (now (path .entry)) (now (plan .entry)) (now (path .exit)) (now (plan .exit))
-        (rounds.round (wordSystem (now (words .entry)) (now (moves .entry)) (rules (now (block .entry))) (goals (now (block .entry))))
-        (wordEstimate (now (weights .entry)) (now (table .entry)) (positions (now (block .entry)))) (rounds.upto allowance) steps (getD (now (path .entry)) 0 0) threshold visits) r ⌝ }
+    requires { ⌜ Here (now words) (now moves) (now weights) (now table) (now path) (now limits) 0 0 × (length (now plan) ≡ 64) ⌝ }
+    ensures { λ r. ⌜ AfterRound (now (words .entry)) (now (moves .entry)) (now (weights .entry)) (now (table .entry)) (now (limits .entry))
+        (now (path .entry)) (now (plan .entry)) visits (now (path .exit)) (now (plan .exit)) r ⌝ }
 {
-    let limits = [
-        threshold,
-        allowance as u64,
-        steps as u64,
-        layout::rules(block) as u64,
-        layout::goals(block) as u64,
-        layout::positions(block) as u64,
-        0,
-        0,
-    ];
-    let none_yet = Tally {
+    let at = Node { depth: 0, cost: 0 };
+    let none = Tally {
         visits,
         least: NONE,
     };
-    visit(
-        words,
-        moves,
-        weights,
-        table,
-        path,
-        plan,
-        &limits,
-        0,
-        0,
-        none_yet,
-    )
+    visit(words, moves, weights, table, path, plan, limits, at, none)
 }
 
 // The rounds from a first threshold on, up to the cost limit: each next threshold is the least overshoot. With none, or none to begin with, the threshold is above every limit.
@@ -89,30 +65,15 @@ pub fn run_rounds(
     let mut threshold = first;
     let mut visits: u32 = 0;
     while threshold <= cost as u64 {
-        let left = round(
-            block,
-            words,
-            moves,
-            weights,
-            table,
-            path,
-            plan,
-            steps,
-            allowance,
-            threshold,
-            visits,
-        );
+        let limits = round_limits(block, threshold, allowance, steps);
+        let left = round(words, moves, weights, table, path, plan, &limits, visits);
         match left {
             Visited::On(then) => {
                 visits = then.visits;
                 threshold = then.least;
             }
-            Visited::Hit(length, total, used) => {
-                return Ending::Found(length, total as u32, used);
-            }
-            Visited::Stop(used) => {
-                return Ending::Spent(used);
-            }
+            Visited::Hit(length, total, used) => return Ending::Found(length, total as u32, used),
+            Visited::Stop(used) => return Ending::Spent(used),
         }
     }
     Ending::NoPlan(visits)

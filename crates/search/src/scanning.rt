@@ -23,6 +23,12 @@ pub const NONE: u64 = 18446744073709551615;
 // The mark 'no path'.
 const MARK: u32 = 4294967295;
 
+// A list on the way: how many rules it has, and what they cost.
+pub struct Node {
+    pub depth: usize,
+    pub cost: u64,
+}
+
 // An extension that is due: its rule, its last state and its cost; and the tally up to it.
 pub struct Extension {
     pub rule: usize,
@@ -84,7 +90,7 @@ fn noted(path: &[u64; 65], depth: usize, word: u64, figure: u64, tally: Tally) -
     tally
 }
 
-// The next extension that is due, by the rules from `from` on. A rule that does not apply, a marked state and a state on the path offer nothing; overshoots are noted. The figure
+// The next extension of a list that is due, by the rules from `from` on. A rule that does not apply, a marked state and a state on the path offer nothing; overshoots are noted. The figure
 // is looked at before the path, which costs more.
 pub fn next_due(
     words: &[u64; 608],
@@ -92,39 +98,36 @@ pub fn next_due(
     weights: &[u16; 2048],
     table: &[u32],
     path: &[u64; 65],
-    limits: &[u64; 8],
-    depth: usize,
-    cost: u64,
+    limits: &[u64; 6],
+    at: Node,
     from: usize,
-    tally: Tally,
+    mut tally: Tally,
 ) -> Scan
-    requires { ⌜ Here (now words) (now moves) (now weights) (now table) (now path) (now limits) depth cost × (from ≤ ruleCount (now limits)) ⌝ }
-    ensures { λ r. ⌜ Scanned (now (words .entry)) (now (moves .entry)) (now (weights .entry)) (now (table .entry)) (now (path .entry)) (now (limits .entry)) depth cost from tally r ⌝ }
+    requires { ⌜ Here (now words) (now moves) (now weights) (now table) (now path) (now limits) (at .depth) (at .cost) × (from ≤ ruleCount (now limits)) ⌝ }
+    ensures { λ r. ⌜ Scanned (now (words .entry)) (now (moves .entry)) (now (weights .entry)) (now (table .entry)) (now (path .entry)) (now (limits .entry)) (at .depth) (at .cost) from tally r ⌝ }
 {
+    let depth = at.depth;
     let word = path[depth];
     let rules = limits::rule_count(limits);
     let n = limits::position_count(limits);
-    let mut so_far = tally;
     let mut rule = from;
     while rule < rules {
         if applies_word(words, moves, rule, word) {
             let child = step_word(words, moves, rule, word);
-            let reached = cost + cost_word(words, rule);
+            let reached = at.cost + cost_word(words, rule);
             let total = figure(weights, n, table, reached, child);
             if limits::threshold(limits) < total {
-                so_far = noted(path, depth, child, total, so_far);
-            } else {
-                if !on_path(path, depth, child) {
-                    return Scan::Due(Extension {
-                        rule,
-                        word: child,
-                        cost: reached,
-                        tally: so_far,
-                    });
-                }
+                tally = noted(path, depth, child, total, tally);
+            } else if !on_path(path, depth, child) {
+                return Scan::Due(Extension {
+                    rule,
+                    word: child,
+                    cost: reached,
+                    tally,
+                });
             }
         }
         rule += 1;
     }
-    Scan::Over(so_far)
+    Scan::Over(tally)
 }

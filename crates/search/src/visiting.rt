@@ -1,12 +1,12 @@
 // Visiting a list, trying its extensions and taking up one that is due: the three call each other, the remaining steps and rules falling.
 ghost use mathlib.Core.Path.{_≡_};
-ghost use Prim.Native.Nat.{suc, _-_, _≤_, _<_};
-ghost use lib.ListN.{length, getD};
-ghost use Rattle.search.specs.Limits.{threshold, stepLimit, ruleCount};
-ghost use Rattle.search.specs.OnWords.{figureOf, seen};
-ghost use Rattle.search.specs.Parts.{Here, NextDue, visitWithin, extendFrom, Done};
+ghost use Prim.Native.Nat.{_≤_, _<_};
+ghost use lib.ListN.{length};
+ghost use Rattle.search.specs.Limits.{stepLimit, ruleCount};
+ghost use Rattle.search.specs.Parts.{Here, NextDue, AfterVisit, AfterExtensions};
 use super::limits;
 use super::scanning::Extension;
+use super::scanning::Node;
 use super::scanning::Scan;
 use super::scanning::next_due;
 use tallies::Tally;
@@ -19,7 +19,7 @@ pub enum Visited {
     Stop(u32),
 }
 
-// A visit that is due, of the list whose states stand in the path up to depth, and the visits of its extensions.
+// A visit that is due, of the list whose states stand in the path up to its depth, and the visits of its extensions.
 pub fn visit(
     words: &[u64; 608],
     moves: &[u8; 4384],
@@ -27,43 +27,30 @@ pub fn visit(
     table: &[u32],
     path: &mut [u64; 65],
     plan: &mut [u8; 64],
-    limits: &[u64; 8],
-    depth: usize,
-    cost: u64,
+    limits: &[u64; 6],
+    at: Node,
     tally: Tally,
 ) -> Visited
-    requires { ⌜ Here (now words) (now moves) (now weights) (now table) (now path) (now limits) depth cost × (length (now plan) ≡ 64) ⌝ }
-    ensures { λ r. ⌜ Done depth (stepLimit (now (limits .entry))) (threshold (now (limits .entry))) (now (path .entry)) (now (plan .entry)) (now (path .exit)) (now (plan .exit))
-        (visitWithin (now (words .entry)) (now (moves .entry)) (now (weights .entry)) (now (table .entry)) (now (limits .entry)) (stepLimit (now (limits .entry)) - depth)
-        (seen (now (path .entry)) depth) (getD (now (path .entry)) depth 0) cost (tally .visits) (figureOf (tally .least))) r ⌝ }
+    requires { ⌜ Here (now words) (now moves) (now weights) (now table) (now path) (now limits) (at .depth) (at .cost) × (length (now plan) ≡ 64) ⌝ }
+    ensures { λ r. ⌜ AfterVisit (now (words .entry)) (now (moves .entry)) (now (weights .entry)) (now (table .entry)) (now (limits .entry))
+        (now (path .entry)) (now (plan .entry)) at tally (now (path .exit)) (now (plan .exit)) r ⌝ }
 {
+    let depth = at.depth;
     if limits::allowance(limits) <= tally.visits as u64 {
         return Visited::Stop(tally.visits);
     }
     let visits = tally.visits + 1;
     if meets_word(words, moves, limits::goal_count(limits), path[depth]) {
-        return Visited::Hit(depth, cost, visits);
+        return Visited::Hit(depth, at.cost, visits);
     }
-    let used = Tally {
+    let now = Tally {
         visits,
         least: tally.least,
     };
     if limits::step_limit(limits) <= depth {
-        return Visited::On(used);
+        return Visited::On(now);
     }
-    extend(
-        words,
-        moves,
-        weights,
-        table,
-        path,
-        plan,
-        limits,
-        depth,
-        cost,
-        0,
-        used,
-    )
+    extend(words, moves, weights, table, path, plan, limits, at, 0, now)
 }
 
 // The visits of the extensions by the rules from `from` on.
@@ -74,46 +61,21 @@ fn extend(
     table: &[u32],
     path: &mut [u64; 65],
     plan: &mut [u8; 64],
-    limits: &[u64; 8],
-    depth: usize,
-    cost: u64,
+    limits: &[u64; 6],
+    at: Node,
     from: usize,
     tally: Tally,
 ) -> Visited
-    requires { ⌜ Here (now words) (now moves) (now weights) (now table) (now path) (now limits) depth cost × (length (now plan) ≡ 64) ⌝ }
-    requires { ⌜ (depth < stepLimit (now limits)) × (from ≤ ruleCount (now limits)) ⌝ }
-    ensures { λ r. ⌜ Done depth (stepLimit (now (limits .entry))) (threshold (now (limits .entry))) (now (path .entry)) (now (plan .entry)) (now (path .exit)) (now (plan .exit))
-        (extendFrom (now (words .entry)) (now (moves .entry)) (now (weights .entry)) (now (table .entry)) (now (path .entry)) (now (limits .entry)) depth cost
-        (visitWithin (now (words .entry)) (now (moves .entry)) (now (weights .entry)) (now (table .entry)) (now (limits .entry)) (stepLimit (now (limits .entry)) - suc depth))
-        from tally) r ⌝ }
+    requires { ⌜ Here (now words) (now moves) (now weights) (now table) (now path) (now limits) (at .depth) (at .cost) × (length (now plan) ≡ 64) ⌝ }
+    requires { ⌜ (at .depth < stepLimit (now limits)) × (from ≤ ruleCount (now limits)) ⌝ }
+    ensures { λ r. ⌜ AfterExtensions (now (words .entry)) (now (moves .entry)) (now (weights .entry)) (now (table .entry)) (now (limits .entry))
+        (now (path .entry)) (now (plan .entry)) at from tally (now (path .exit)) (now (plan .exit)) r ⌝ }
 {
-    let scan = next_due(
-        words,
-        moves,
-        weights,
-        table,
-        path,
-        limits,
-        depth,
-        cost,
-        from,
-        tally,
-    );
+    let scan = next_due(words, moves, weights, table, path, limits, at, from, tally);
     match scan {
         Scan::Over(last) => return Visited::On(last),
         Scan::Due(next) => {
-            return take_up(
-                words,
-                moves,
-                weights,
-                table,
-                path,
-                plan,
-                limits,
-                depth,
-                cost,
-                next,
-            );
+            return take_up(words, moves, weights, table, path, plan, limits, at, next);
         }
     }
 }
@@ -126,48 +88,28 @@ fn take_up(
     table: &[u32],
     path: &mut [u64; 65],
     plan: &mut [u8; 64],
-    limits: &[u64; 8],
-    depth: usize,
-    cost: u64,
+    limits: &[u64; 6],
+    at: Node,
     next: Extension,
 ) -> Visited
-    requires { ⌜ Here (now words) (now moves) (now weights) (now table) (now path) (now limits) depth cost × (length (now plan) ≡ 64) ⌝ }
-    requires { ⌜ (depth < stepLimit (now limits)) × NextDue (now words) (now moves) (now weights) (now table) (now path) (now limits) depth cost (next .rule) (next .tally) next ⌝ }
-    ensures { λ r. ⌜ Done depth (stepLimit (now (limits .entry))) (threshold (now (limits .entry))) (now (path .entry)) (now (plan .entry)) (now (path .exit)) (now (plan .exit))
-        (extendFrom (now (words .entry)) (now (moves .entry)) (now (weights .entry)) (now (table .entry)) (now (path .entry)) (now (limits .entry)) depth cost
-        (visitWithin (now (words .entry)) (now (moves .entry)) (now (weights .entry)) (now (table .entry)) (now (limits .entry)) (stepLimit (now (limits .entry)) - suc depth))
-        (next .rule) (next .tally)) r ⌝ }
+    requires { ⌜ Here (now words) (now moves) (now weights) (now table) (now path) (now limits) (at .depth) (at .cost) × (length (now plan) ≡ 64) ⌝ }
+    requires { ⌜ (at .depth < stepLimit (now limits)) × NextDue (now words) (now moves) (now weights) (now table) (now path) (now limits) (at .depth) (at .cost) (next .rule) (next .tally) next ⌝ }
+    ensures { λ r. ⌜ AfterExtensions (now (words .entry)) (now (moves .entry)) (now (weights .entry)) (now (table .entry)) (now (limits .entry))
+        (now (path .entry)) (now (plan .entry)) at (next .rule) (next .tally) (now (path .exit)) (now (plan .exit)) r ⌝ }
 {
+    let depth = at.depth;
     path[depth + 1] = next.word;
     plan[depth] = next.rule as u8;
     let tally = next.tally;
-    let left = visit(
-        words,
-        moves,
-        weights,
-        table,
-        path,
-        plan,
-        limits,
-        depth + 1,
-        next.cost,
-        tally,
-    );
+    let to = Node {
+        depth: depth + 1,
+        cost: next.cost,
+    };
+    let left = visit(words, moves, weights, table, path, plan, limits, to, tally);
     match left {
-        Visited::On(then) => {
-            return extend(
-                words,
-                moves,
-                weights,
-                table,
-                path,
-                plan,
-                limits,
-                depth,
-                cost,
-                next.rule + 1,
-                then,
-            );
+        Visited::On(now) => {
+            let r = next.rule + 1;
+            return extend(words, moves, weights, table, path, plan, limits, at, r, now);
         }
         Visited::Hit(steps, total, used) => return Visited::Hit(steps, total, used),
         Visited::Stop(used) => return Visited::Stop(used),

@@ -69,24 +69,22 @@ fits d k c u e =
     found-fits _ _ _ _ _ (bytes d) (now (start (made d) .args .buffer)) (d .run-rounds .ensures .0) e (p .2)
     (d .run-rounds .ensures .1) (p .3)
 
--- src/finding.rt:39:5
 compile-requires : tie.Need-compile-requires
 compile-requires c κs = search needs
 
--- src/finding.rt:40:9
 pack-requires : tie.Need-pack-requires
 pack-requires c κs =
     let p = start c .pre .0 in start-small (p .0) _ (p .1)
 
--- src/finding.rt:41:5
 array-write-path : tie.Need-array-write-path
 array-write-path c = search needs
 
--- src/finding.rt:42:34
 positions-requires : tie.Need-positions-requires
 positions-requires c κs = search needs
 
--- src/finding.rt:42:9
+array-read-figure : tie.Need-array-read-figure
+array-read-figure c = search needs
+
 figure-requires : tie.Need-figure-requires
 figure-requires c κs =
     let d = c .before .before .before in
@@ -96,7 +94,6 @@ figure-requires c κs =
       omega arith,
     )
 
--- src/finding.rt:43:9
 run-rounds-requires : tie.Need-run-rounds-requires
 run-rounds-requires c κs =
     let d = c .before .before .before .before .before .before .before .before .before in
@@ -104,31 +101,25 @@ run-rounds-requires c κs =
     let packed = c .before .before .before .before .before .before .before .before .pack in
     (arrays d, good-start (arrays d) _ (p .1) _ (packed .ensures), p .2, refl, refl)
 
--- src/finding.rt:56:26
 enum-known-ending : tie.Need-enum-known-ending
 enum-known-ending c = search needs
 
--- src/finding.rt:57:14
 slice-aggregate-copy : tie.Need-slice-aggregate-copy
 slice-aggregate-copy c = search needs
 
--- src/finding.rt:57:9
 copy-requires : tie.Need-copy-requires
 copy-requires c κs =
     fits (c .before .before .before .before .before) _ _ _ (c .before .before .before .ending .given .1)
 
--- src/finding.rt:21:1
 same-length : tie.Need-same-length
 same-length c = search needs
 
--- src/finding.rt:21:1
 returns : tie.Need-returns
 returns c =
     let d = c .before .before .before .before .before .before .before .before in
     let e = c .before .before .before .before .before .before .ending .given .1 in
     answers-found (keeps d) (bytes d) _ _ (told d) (d .run-rounds .ensures .0) _ _ _ e (fits d _ _ _ e .0) _ (c .before .before .copy .ensures)
 
--- src/finding.rt:21:1
 returns-2 : tie.Need-returns-2
 returns-2 c =
     let d = c .before in
@@ -143,6 +134,7 @@ find-plan-spec =
     pack-requires
     array-write-path
     positions-requires
+    array-read-figure
     figure-requires
     run-rounds-requires
     enum-known-ending

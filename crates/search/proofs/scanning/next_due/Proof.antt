@@ -14,58 +14,64 @@ use Rattle.search.proofs.scanning.next_due.Statement.{statement}
 use Rattle.search.proofs.scanning.next_due.Tie as tie
 
 abbrev Inv-loop : tie.InvT-loop
-Inv-loop words moves weights table path limits depth cost from word rules n so-far₀ rule₀ so-far rule =
-    (from ≤ rule) × (rule ≤ ruleCount limits) × (ruleCount limits ≤ 64) × (depth < 65) × Same words moves weights table path limits depth cost from so-far₀ rule so-far
+Inv-loop words moves weights table path limits at from tally₀ depth word rules n rule₀ tally rule =
+    (from ≤ rule) × (rule ≤ ruleCount limits) × (ruleCount limits ≤ 64) × (at .depth < 65) × Same words moves weights table path limits (at .depth) (at .cost) from tally₀ rule tally
 
 abbrev μ-loop : tie.MeasureT-loop
-μ-loop words moves weights table path limits depth cost from word rules n so-far₀ rule₀ so-far rule = ruleCount limits - rule
+μ-loop words moves weights table path limits at from tally₀ depth word rules n rule₀ tally rule = ruleCount limits - rule
 
 -- `Same` and `Tried` with the function's arguments
 abbrev SameAt : tie.Start Inv-loop μ-loop → ℕ → Tally → ℕ → Tally → Type 0
 SameAt s =
     Same (now (s .args .words)) (now (s .args .moves)) (now (s .args .weights)) (now (s .args .table)) (now (s .args .path)) (now (s .args .limits))
-    (s .args .depth) (s .args .cost)
+    (s .args .at .depth) (s .args .at .cost)
 
 abbrev TriedAt : tie.Start Inv-loop μ-loop → ℕ → ℕ → ℕ → ℕ → ℕ → Type 0
 TriedAt s =
     Tried (now (s .args .words)) (now (s .args .moves)) (now (s .args .weights)) (now (s .args .table)) (now (s .args .path)) (now (s .args .limits))
-    (s .args .depth) (s .args .cost)
+    (s .args .at .depth) (s .args .at .cost)
 
-cost-small : (s : tie.Start Inv-loop μ-loop) → s .args .cost ≤ 4294967295
+cost-small : (s : tie.Start Inv-loop μ-loop) → s .args .at .cost ≤ 4294967295
 cost-small s = omega (arith, s .pre .0 .cost-low, s .pre .0 .threshold-low)
 
 -- the rule at hand is below the number of rules
 rule-below : (c : tie.In-loop Inv-loop μ-loop) → c .before .loop .rule < ruleCount (now (c .before .before .before .before .before .before .args .limits))
 rule-below c = omega (arith, c .loop-test .taken, c .before .before .before .rule-count .ensures)
 
--- it applies, and its figure is known
+-- where the rule's figure is known: the function's start, and the rule at hand
+abbrev start : tie.After-figure Inv-loop μ-loop → tie.Start Inv-loop μ-loop
+start c = c .before .before .before .before .before .before .before .before .before .before .before .before
+
+abbrev rule-at : tie.After-figure Inv-loop μ-loop → ℕ
+rule-at c = c .before .before .before .before .before .before .before .loop .rule
+
+-- the rule applies, and its figure is known
 tried :
     (c : tie.After-figure Inv-loop μ-loop)
-    → TriedAt (c .before .before .before .before .before .before .before .before .before .before .before) (c .before .before .before .before .before .before .loop .rule) (c .before .before .before .before .before .before .before .position-count .result)
-    (c .before .before .step-word .result) (c .before .cost-word .result) (c .figure .result)
+    → TriedAt (start c) (rule-at c) (c .before .before .before .before .before .before .before .before .position-count .result) (c .before .before .before .step-word .result) (c .before .before .cost-word .result) (c .figure .result)
 tried c =
     record {
-      low = rule-below (c .before .before .before .before .before);
-      can = sym (c .before .before .before .before .applies-word .ensures) ∙ c .before .before .before .if1 .taken;
-      made = c .before .before .step-word .ensures;
-      paid = c .before .cost-word .ensures .0;
-      placed = c .before .before .before .before .before .before .before .position-count .ensures;
+      low = rule-below (c .before .before .before .before .before .before);
+      can = sym (c .before .before .before .before .before .applies-word .ensures) ∙ c .before .before .before .before .if1 .taken;
+      made = c .before .before .before .step-word .ensures;
+      paid = c .before .before .cost-word .ensures .0;
+      placed = c .before .before .before .before .before .before .before .before .position-count .ensures;
       told = c .figure .ensures;
     }
 
 -- it offers nothing to visit
 passed :
     (c : tie.Joined1 Inv-loop μ-loop)
-    → SameAt (c .before .before .before .before .before .before .before .before) (c .before .before .before .loop .rule) (c .before .before .before .loop .so-far) (c .before .before .before .loop .rule + 1) (c .if1 .so-far)
+    → SameAt (c .before .before .before .before .before .before .before .before) (c .before .before .before .loop .rule) (c .before .before .before .loop .tally) (c .before .before .before .loop .rule + 1) (c .if1 .tally)
 passed c =
     ⊎-elim
     (λ w.
-    let t = tried (record { before = record { before = record { before = record { before = c .before; if1 = w .0 }; step-word = w .1 }; cost-word = w .2 }; figure = w .3 }) in
-    pass-over _ _ _ _ _ _ _ _ t (omega (arith, w .5 .taken, w .4 .ensures)) _ _ (w .7 ∙ w .6 .ensures))
+    let t = tried (record { before = record { before = record { before = record { before = record { before = c .before; if1 = w .0 }; step-word = w .1 }; cost-word = w .2 }; struct-known = w .3 }; figure = w .4 }) in
+    pass-over _ _ _ _ _ _ _ _ t (omega (arith, w .6 .taken, w .5 .ensures)) _ _ (w .8 ∙ w .7 .ensures))
     (⊎-elim
     (λ w.
-    let t = tried (record { before = record { before = record { before = record { before = c .before; if1 = w .0 }; step-word = w .1 }; cost-word = w .2 }; figure = w .3 }) in
-    pass-seen _ _ _ _ _ _ _ _ t (sym (w .6 .ensures) ∙ not-false _ (w .7 .left)) _ _ (w .8))
+    let t = tried (record { before = record { before = record { before = record { before = record { before = c .before; if1 = w .0 }; step-word = w .1 }; cost-word = w .2 }; struct-known = w .3 }; figure = w .4 }) in
+    pass-seen _ _ _ _ _ _ _ _ t (sym (w .7 .ensures) ∙ not-false _ (w .8 .left)) _ _ (w .9))
     (λ w. pass-idle _ _ _ _ _ _ _ _ _ (rule-below (c .before .before)) (sym (c .before .applies-word .ensures) ∙ w .0 .left) _ _ (w .1)))
     (c .if1 .came)
 
@@ -96,14 +102,15 @@ cost-word-requires : tie.Need-cost-word-requires Inv-loop μ-loop
 cost-word-requires c κs = search needs
 
 add-reached : tie.Need-add-reached Inv-loop μ-loop
-add-reached c = omega (arith, cost-small (c .before .before .before .before .before .before .before .before .before .before), c .cost-word .ensures .1)
+add-reached c = omega (arith, cost-small (c .before .before .before .before .before .before .before .before .before .before .before), c .before .cost-word .ensures .1)
 
 figure-requires : tie.Need-figure-requires Inv-loop μ-loop
 figure-requires c κs =
-    let s = c .before .before .before .before .before .before .before .before .before .before in (
-      omega (arith, positions-low (s .pre .0), c .before .before .before .before .before .before .position-count .ensures),
-      rw (c .before .before .before .before .before .before .position-count .ensures) (child-in (s .pre .0) _ _ (omega arith) (c .before .step-word .ensures)),
-      omega (arith, cost-small s, c .cost-word .ensures .1),
+    let s = c .before .before .before .before .before .before .before .before .before .before .before in
+    let n = c .before .before .before .before .before .before .before .position-count .ensures in (
+      omega (arith, positions-low (s .pre .0), n),
+      rw n (child-in (s .pre .0) _ _ (omega arith) (c .before .before .step-word .ensures)),
+      omega (arith, cost-small s, c .before .cost-word .ensures .1),
     )
 
 threshold-requires : tie.Need-threshold-requires Inv-loop μ-loop
@@ -117,11 +124,10 @@ on-path-requires c κs = search needs
 
 returns : tie.Need-returns Inv-loop μ-loop
 returns c =
-    let s = c .before .before .before .before .before .before .before .before .before .before .before .before .before .before .before in
-    let l = c .before .before .before .before .before .before .before .before .before .before .loop in
-    let a = c .before .before .before .before in
-    found-due _ _ _ _ _ _ _ _ (tried a)
-    (omega (arith, c .before .before .if2 .left, c .before .before .before .threshold .ensures)) (s .pre .0 .threshold-low)
+    let figured = c .before .before .before .before in
+    let l = figured .before .before .before .before .before .before .before .loop in
+    found-due _ _ _ _ _ _ _ _ (tried figured)
+    (omega (arith, c .before .before .if2 .left, c .before .before .before .threshold .ensures)) (start figured .pre .0 .threshold-low)
     (sym (c .before .on-path .ensures) ∙ not-true _ (c .if3 .taken))
     _ _ _ (l .inv .0) (l .inv .4)
 

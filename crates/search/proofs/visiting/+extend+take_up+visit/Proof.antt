@@ -1,5 +1,5 @@
--- The cycle of a visit, its extensions and the one that is taken up. Each call has fewer steps left or, with as many, fewer rules; a visit comes before its
--- extensions, and they come before the one that is next.
+-- `search::visiting::visit`, `extend` and `take_up` meet their contracts, as one cycle. Each call has fewer steps left or, with as many, fewer rules; a visit comes before its extensions, and
+-- they come before the one that is next. There are at most 64 rules, so 2 * 64 + 1 is below 130, and 130 below 1024: a step less outweighs all of them.
 use native.Mathlib.Omega.{arith}
 use borrow.Author.Needs.{needs}
 use denote.Ref.{now}
@@ -28,15 +28,15 @@ use Rattle.search.proofs.visiting.+extend+take_up+visit.Tie.{close}
 
 abbrev μ-extend : Measures 7 extend-kinds.ps ℕ
 μ-extend κs a =
-    1024 * (stepLimit (now (a .1 .1 .1 .1 .1 .1 .0)) - a .1 .1 .1 .1 .1 .1 .1 .0) + 2 * (ruleCount (now (a .1 .1 .1 .1 .1 .1 .0)) - a .1 .1 .1 .1 .1 .1 .1 .1 .1 .0) + 1
+    1024 * (stepLimit (now (a .1 .1 .1 .1 .1 .1 .0)) - a .1 .1 .1 .1 .1 .1 .1 .0 .depth) + 2 * (ruleCount (now (a .1 .1 .1 .1 .1 .1 .0)) - a .1 .1 .1 .1 .1 .1 .1 .1 .0) + 1
 
 abbrev μ-take-up : Measures 7 take-up-kinds.ps ℕ
 μ-take-up κs a =
-    1024 * (stepLimit (now (a .1 .1 .1 .1 .1 .1 .0)) - a .1 .1 .1 .1 .1 .1 .1 .0) + 2 * (ruleCount (now (a .1 .1 .1 .1 .1 .1 .0)) - a .1 .1 .1 .1 .1 .1 .1 .1 .1 .0 .rule)
+    1024 * (stepLimit (now (a .1 .1 .1 .1 .1 .1 .0)) - a .1 .1 .1 .1 .1 .1 .1 .0 .depth) + 2 * (ruleCount (now (a .1 .1 .1 .1 .1 .1 .0)) - a .1 .1 .1 .1 .1 .1 .1 .1 .0 .rule)
 
 abbrev μ-visit : Measures 7 visit-kinds.ps ℕ
 μ-visit κs a =
-    1024 * (stepLimit (now (a .1 .1 .1 .1 .1 .1 .0)) - a .1 .1 .1 .1 .1 .1 .1 .0) + 130
+    1024 * (stepLimit (now (a .1 .1 .1 .1 .1 .1 .0)) - a .1 .1 .1 .1 .1 .1 .1 .0 .depth) + 130
 
 abbrev extend-at : ℕ → In 7 extend-kinds.ps
 extend-at t = and 7 extend-kinds.ps (is 7 extend-kinds.ps μ-extend t) extend.Pre
@@ -81,25 +81,20 @@ visit-claims t = (
   extend.Post,
 )
 
--- src/visiting.rt:98:9
 extend-next-due-requires : (t : ℕ) → extend-lts.Need-next-due-requires (extend-claims t) (extend-at t) extend.Post
 extend-next-due-requires t c κs = search needs
 
--- src/visiting.rt:111:20
 extend-enum-known-scan : (t : ℕ) → extend-lts.Need-enum-known-scan (extend-claims t) (extend-at t) extend.Post
 extend-enum-known-scan t c = search needs
 
--- src/visiting.rt:112:13
 extend-returns : (t : ℕ) → extend-lts.Need-returns (extend-claims t) (extend-at t) extend.Post
 extend-returns t c =
     let s = c .before .before .before .before .before .before in
     extend-none (s .pre .1 .0 .0) (s .args .from) (s .args .tally) _ _ _ (c .before .before .before .next-due .ensures) (c .before .scan .given .1)
 
--- src/visiting.rt:117:19
 extend-enum-known-scan-2 : (t : ℕ) → extend-lts.Need-enum-known-scan-2 (extend-claims t) (extend-at t) extend.Post
 extend-enum-known-scan-2 t c = search needs
 
--- src/visiting.rt:118:13
 extend-take-up-requires : (t : ℕ) → extend-lts.Need-take-up-requires (extend-claims t) (extend-at t) extend.Post
 extend-take-up-requires t c κs =
     let s = c .before .before .before .before .before .before .before .before in
@@ -108,55 +103,45 @@ extend-take-up-requires t c κs =
     let n = next-due (s .pre .1 .0 .0) (s .args .from) (s .args .tally) _ _ told is in
     (omega (arith, s .pre .0, n .rule-low), (s .pre .1 .0, (s .pre .1 .1 .0, due-own (s .pre .1 .0 .0) (s .args .from) (s .args .tally) _ _ told is)))
 
--- src/visiting.rt:118:13
 extend-returns-2 : (t : ℕ) → extend-lts.Need-returns-2 (extend-claims t) (extend-at t) extend.Post
 extend-returns-2 t c =
     let s = c .before .before .before .before .before .before .before .before .before in
     extend-due (s .pre .1 .0 .0) (s .args .from) (s .args .tally) _ _ (c .before .before .before .before .before .before .next-due .ensures) (c .before .before .before .before .scan2 .given .1) (c .take-up .ensures)
 
--- src/visiting.rt:157:10
 take-up-add-path : (t : ℕ) → take-up-lts.Need-add-path (take-up-claims t) (take-up-at t) take-up.Post
 take-up-add-path t c = search needs
 
--- src/visiting.rt:157:5
 take-up-mul-path : (t : ℕ) → take-up-lts.Need-mul-path (take-up-claims t) (take-up-at t) take-up.Post
 take-up-mul-path t c = search needs
 
--- src/visiting.rt:157:5
 take-up-element-write-path : (t : ℕ) → take-up-lts.Need-element-write-path (take-up-claims t) (take-up-at t) take-up.Post
 take-up-element-write-path t c = search needs
 
--- src/visiting.rt:158:19
 take-up-cast-plan : (t : ℕ) → take-up-lts.Need-cast-plan (take-up-claims t) (take-up-at t) take-up.Post
 take-up-cast-plan t c =
     let s = c .before .before in
     omega (arith, rules-low (s .pre .1 .0 .0), s .pre .1 .1 .1 .rule-high)
 
--- src/visiting.rt:158:5
 take-up-element-write-plan : (t : ℕ) → take-up-lts.Need-element-write-plan (take-up-claims t) (take-up-at t) take-up.Post
 take-up-element-write-plan t c = search needs
 
--- src/visiting.rt:167:9
-take-up-add-visit : (t : ℕ) → take-up-lts.Need-add-visit (take-up-claims t) (take-up-at t) take-up.Post
-take-up-add-visit t c = search needs
+take-up-add-child : (t : ℕ) → take-up-lts.Need-add-t20 (take-up-claims t) (take-up-at t) take-up.Post
+take-up-add-child t c = search needs
 
--- src/visiting.rt:159:9
 take-up-visit-requires : (t : ℕ) → take-up-lts.Need-visit-requires (take-up-claims t) (take-up-at t) take-up.Post
 take-up-visit-requires t c κs =
     let s = c .before .before .before .before .before in
-    (omega (arith, s .pre), here-next (s .pre .1 .0 .0) (s .args .next) (s .pre .1 .1 .1) (s .pre .1 .1 .0) (now (s .args .plan)) (s .pre .1 .0 .1))
+    let (here, long) = here-next (s .pre .1 .0 .0) (s .args .next) (s .pre .1 .1 .1) (s .pre .1 .1 .0) (now (s .args .plan)) (s .pre .1 .0 .1) in
+    (omega (arith, s .pre), (here, long))
 
--- src/visiting.rt:175:21
 take-up-enum-known-left : (t : ℕ) → take-up-lts.Need-enum-known-left (take-up-claims t) (take-up-at t) take-up.Post
 take-up-enum-known-left t c = search needs
 
--- src/visiting.rt:186:17
-take-up-add-extend : (t : ℕ) → take-up-lts.Need-add-extend (take-up-claims t) (take-up-at t) take-up.Post
-take-up-add-extend t c =
-    let s = c .before .before .before .before .before .before .before .before .before .before .before .before in
+take-up-add-r : (t : ℕ) → take-up-lts.Need-add-r (take-up-claims t) (take-up-at t) take-up.Post
+take-up-add-r t c =
+    let s = c .before .before .before .before .before .before .before .before .before .before in
     omega (arith, rules-low (s .pre .1 .0 .0), s .pre .1 .1 .1 .rule-high)
 
--- src/visiting.rt:176:13
 take-up-extend-requires : (t : ℕ) → take-up-lts.Need-extend-requires (take-up-claims t) (take-up-at t) take-up.Post
 take-up-extend-requires t c κs =
     let s = c .before .before .before .before .before .before .before .before .before .before .before .before in
@@ -165,72 +150,58 @@ take-up-extend-requires t c κs =
     let high = s .pre .1 .1 .1 .rule-high in
     (omega (arith, s .pre .0, high), (again, (s .pre .1 .1 .0, omega (arith, high))))
 
--- src/visiting.rt:176:13
 take-up-returns : (t : ℕ) → take-up-lts.Need-returns (take-up-claims t) (take-up-at t) take-up.Post
 take-up-returns t c =
     let s = c .before .before .before .before .before .before .before .before .before .before .before .before .before in
     take-more (s .pre .1 .0 .0) (s .args .next) (s .pre .1 .1 .1) (s .pre .1 .1 .0) (now (s .args .plan)) (s .pre .1 .0 .1)
     _ _ _ (c .before .before .before .before .before .before .before .visit .ensures) _ (c .before .before .before .before .before .left .given .1) _ _ _ (c .extend .ensures)
 
--- src/visiting.rt:190:22
 take-up-enum-known-left-2 : (t : ℕ) → take-up-lts.Need-enum-known-left-2 (take-up-claims t) (take-up-at t) take-up.Post
 take-up-enum-known-left-2 t c = search needs
 
--- src/visiting.rt:190:45
 take-up-returns-2 : (t : ℕ) → take-up-lts.Need-returns-2 (take-up-claims t) (take-up-at t) take-up.Post
 take-up-returns-2 t c =
     let s = c .before .before .before .before .before .before .before .before .before in
     take-found (s .pre .1 .0 .0) (s .args .next) (s .pre .1 .1 .1) (s .pre .1 .1 .0) (now (s .args .plan)) (s .pre .1 .0 .1)
     _ _ _ (c .before .before .before .visit .ensures) _ _ _ (c .before .left2 .given .1)
 
--- src/visiting.rt:191:23
 take-up-enum-known-left-3 : (t : ℕ) → take-up-lts.Need-enum-known-left-3 (take-up-claims t) (take-up-at t) take-up.Post
 take-up-enum-known-left-3 t c = search needs
 
--- src/visiting.rt:191:32
 take-up-returns-3 : (t : ℕ) → take-up-lts.Need-returns-3 (take-up-claims t) (take-up-at t) take-up.Post
 take-up-returns-3 t c =
     let s = c .before .before .before .before .before .before .before .before .before in
     take-spent (s .pre .1 .0 .0) (s .args .next) (s .pre .1 .1 .1) (s .pre .1 .1 .0) (now (s .args .plan)) (s .pre .1 .0 .1)
     _ _ _ (c .before .before .before .visit .ensures) _ (c .before .left3 .given .1)
 
--- src/visiting.rt:47:8
 visit-allowance-requires : (t : ℕ) → visit-lts.Need-allowance-requires (visit-claims t) (visit-at t) visit.Post
 visit-allowance-requires t c κs = search needs
 
--- src/visiting.rt:47:37
 visit-cast-if1 : (t : ℕ) → visit-lts.Need-cast-if1 (visit-claims t) (visit-at t) visit.Post
 visit-cast-if1 t c = search needs
 
--- src/visiting.rt:48:9
 visit-returns : (t : ℕ) → visit-lts.Need-returns (visit-claims t) (visit-at t) visit.Post
 visit-returns t c =
     let s = c .before .before .before .before in
     visit-spent (s .pre .1 .0) _ (s .args .tally) (omega (arith, c .if1 .taken, c .before .before .allowance .ensures))
 
--- src/visiting.rt:50:18
 visit-add-visits : (t : ℕ) → visit-lts.Need-add-visits (visit-claims t) (visit-at t) visit.Post
 visit-add-visits t c =
     let s = c .before .before .before .before .before in
     omega (arith, c .before .if1 .left, c .before .before .before .allowance .ensures, s .pre .1 .0 .allowance-low)
 
--- src/visiting.rt:51:33
 visit-goal-count-requires : (t : ℕ) → visit-lts.Need-goal-count-requires (visit-claims t) (visit-at t) visit.Post
 visit-goal-count-requires t c κs = search needs
 
--- src/visiting.rt:51:61
 visit-mul-meets-word : (t : ℕ) → visit-lts.Need-mul-meets-word (visit-claims t) (visit-at t) visit.Post
 visit-mul-meets-word t c = search needs
 
--- src/visiting.rt:51:61
 visit-element-copy-out-meets-word : (t : ℕ) → visit-lts.Need-element-copy-out-meets-word (visit-claims t) (visit-at t) visit.Post
 visit-element-copy-out-meets-word t c = search needs
 
--- src/visiting.rt:51:8
 visit-meets-word-requires : (t : ℕ) → visit-lts.Need-meets-word-requires (visit-claims t) (visit-at t) visit.Post
 visit-meets-word-requires t c κs = search needs
 
--- src/visiting.rt:52:9
 visit-returns-2 : (t : ℕ) → visit-lts.Need-returns-2 (visit-claims t) (visit-at t) visit.Post
 visit-returns-2 t c =
     let s = c .before .before .before .before .before .before .before .before .before in
@@ -239,11 +210,9 @@ visit-returns-2 t c =
     goal-tested (s .pre .1 .0) _ _ _ (c .before .before .before .goal-count .ensures) (c .before .meets-word .ensures) (c .if2 .taken) in
     visit-met (s .pre .1 .0) _ (s .args .tally) left tested
 
--- src/visiting.rt:58:8
 visit-step-limit-requires : (t : ℕ) → visit-lts.Need-step-limit-requires (visit-claims t) (visit-at t) visit.Post
 visit-step-limit-requires t c κs = search needs
 
--- src/visiting.rt:59:9
 visit-returns-3 : (t : ℕ) → visit-lts.Need-returns-3 (visit-claims t) (visit-at t) visit.Post
 visit-returns-3 t c =
     let s = c .before .before .before .before .before .before .before .before .before .before .before in
@@ -252,14 +221,12 @@ visit-returns-3 t c =
     goal-tested (s .pre .1 .0) _ _ _ (c .before .before .before .before .before .goal-count .ensures) (c .before .before .before .meets-word .ensures) (c .before .before .if2 .left) in
     visit-last (s .pre .1 .0) _ (s .args .tally) left tested (omega (arith, c .if3 .taken, c .before .step-limit .ensures))
 
--- src/visiting.rt:61:5
 visit-extend-requires : (t : ℕ) → visit-lts.Need-extend-requires (visit-claims t) (visit-at t) visit.Post
 visit-extend-requires t c κs =
     let s = c .before .before .before .before .before .before .before .before .before .before .before .before .before in
-    let low : s .args .depth < stepLimit (now (s .args .limits)) = omega (arith, c .before .before .if3 .left, c .before .before .before .step-limit .ensures) in
+    let low : s .args .at .depth < stepLimit (now (s .args .limits)) = omega (arith, c .before .before .if3 .left, c .before .before .before .step-limit .ensures) in
     (omega (arith, s .pre .0, rules-low (s .pre .1 .0), low), (s .pre .1, (low, omega arith)))
 
--- src/visiting.rt:29:1
 visit-returns-4 : (t : ℕ) → visit-lts.Need-returns-4 (visit-claims t) (visit-at t) visit.Post
 visit-returns-4 t c =
     let s = c .before .before .before .before .before .before .before .before .before .before .before .before .before .before in
@@ -286,10 +253,10 @@ pub +extend+take-up+visit-spec : {M : Type 1} → statement M
     (take-up-element-write-path t)
     (take-up-cast-plan t)
     (take-up-element-write-plan t)
-    (take-up-add-visit t)
+    (take-up-add-child t)
     (take-up-visit-requires t)
     (take-up-enum-known-left t)
-    (take-up-add-extend t)
+    (take-up-add-r t)
     (take-up-extend-requires t)
     (take-up-returns t)
     (take-up-enum-known-left-2 t)
