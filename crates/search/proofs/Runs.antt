@@ -1,4 +1,4 @@
--- One round (`here-first`, `round-done`), and the rounds as the code runs them: what is left equals the whole (`Rest`, `rest-whole`, `rest-next`), up to the end (`rest-found`, `rest-spent`,
+-- One round (`here-first`, `round-done`), and the rounds as the code runs them: what is left equals the whole (`Rest`, `rest-whole`, `rest-on`), up to the end (`rest-hit`, `rest-stop`,
 -- `rest-none`); thresholds rise (`rest-higher`). From a start (`start-small`) they are the search (`run-search`), and its answer stands in a buffer (`answers-found`, `answers-none`).
 -- The functions that run the rounds and the search rest on these.
 use mathlib.Core.Path.{_≡_, refl, sym, ap, subst, _∙_}
@@ -27,7 +27,7 @@ use Rattle.rounds.proofs.Equations.{rounds-above, rounds-found, rounds-stop, ro
 use Rattle.search.specs.Exercises.{searchFrom}
 use Rattle.search.specs.Promises.{Kept}
 use Rattle.search.specs.Limits.{stepLimit, roundLimits}
-use Rattle.search.specs.OnWords.{wordSystem, wordEstimate, figureOf}
+use Rattle.search.specs.OnWords.{wordSystem, wordEstimate, noFigure, figureOf}
 use Rattle.search.specs.Parts.{Good, Ready, Here, AfterVisit, AfterRound, Done, progressOf, HitWithin, Answers, answerOf, FoundWithin}
 use Rattle.tallies.specs.declared.Tally.{Tally}
 use Rattle.search.specs.declared.visiting.Visited.{Visited}
@@ -67,7 +67,7 @@ module _ (b words moves weights table : List ℕ) where
 -- a round is the visit of the empty list
 pub round-done :
     (words moves weights table limits path plan : List ℕ) (u : ℕ) (path′ plan′ : List ℕ) (r : Visited)
-    → AfterVisit words moves weights table limits path plan (record { depth = 0; cost = 0 }) (record { visits = u; least = 18446744073709551615 }) path′ plan′ r
+    → AfterVisit words moves weights table limits path plan (record { depth = 0; cost = 0 }) (record { visits = u; least = noFigure }) path′ plan′ r
     → AfterRound words moves weights table limits path plan u path′ plan′ r
 unfolding round
 round-done words moves weights table limits path plan u path′ plan′ r d =
@@ -125,7 +125,7 @@ module _ {b words moves weights table : List ℕ} (y : Ready b words moves weigh
         ⊎-elim
             (λ m. sym (left-at (at T) (figure-at T m) ∙ rounds-above _ _ (words-lawful y) (upto A) D B s T u (lt-leb T B l)))
             (λ m. sym (left-at mark (figure-mark T m)))
-            (below? T 18446744073709551615),
+            (below? T noFigure),
       )
 
       -- within it, by what a round leaves
@@ -150,14 +150,14 @@ module _ {b words moves weights table : List ℕ} (y : Ready b words moves weigh
         pub cost-small : (n c w : ℕ) → r ≡ Hit n c w → c < 4294967296
         cost-small n c w e = omega (arith, hit-within n c w e .1)
 
-        pub rest-found : (n c w : ℕ) → r ≡ Hit n c w → Ran plan′ (Found n c w)
-        rest-found n c w e =
+        pub rest-hit : (n c w : ℕ) → r ≡ Hit n c w → Ran plan′ (Found n c w)
+        rest-hit n c w e =
             let f = told-round (Hit n c w) e in
             let g = rounds-found _ _ (words-lawful y) (upto A) D B s T u (le-leb T B l) w (take n plan′) c f in
             (hit-within n c w e .0, plan-stays, sym (left-now ∙ g))
 
-        pub rest-spent : (w : ℕ) → r ≡ Stop w → Ran plan′ (Spent w)
-        rest-spent w e =
+        pub rest-stop : (w : ℕ) → r ≡ Stop w → Ran plan′ (Spent w)
+        rest-stop w e =
             let f = told-round (Stop w) e in
             (tt, plan-stays, sym (left-now ∙ rounds-stop _ _ (words-lawful y) (upto A) D B s T u (le-leb T B l) w f))
 
@@ -169,8 +169,8 @@ module _ {b words moves weights table : List ℕ} (y : Ready b words moves weigh
           left-on mark f = rounds-none _ _ (words-lawful y) (upto A) D B s T u (le-leb T B l) (t .visits) f
           left-on (at n) f = rounds-on _ _ (words-lawful y) (upto A) D B s T u (le-leb T B l) (t .visits) n f
 
-          pub rest-next : Rest b words moves weights table D B A first s path′ plan′ (t .least) (t .visits)
-          rest-next =
+          pub rest-on : Rest b words moves weights table D B A first s path′ plan′ (t .least) (t .visits)
+          rest-on =
               record {
                 start = d .path-kept .before 0 (omega arith) ∙ k .start;
                 path-long = d .path-kept .len ∙ k .path-long;
@@ -180,9 +180,9 @@ module _ {b words moves weights table : List ℕ} (y : Ready b words moves weigh
 
           -- the next threshold is higher, also where there is none
           pub rest-higher : T < t .least
-          rest-higher = ⊎-elim one (λ m. omega arith) (below? (t .least) 18446744073709551615)
+          rest-higher = ⊎-elim one (λ m. omega arith) (below? (t .least) noFigure)
             where
-              one : t .least < 18446744073709551615 → T < t .least
+              one : t .least < noFigure → T < t .least
               one m =
                   higher _ _ D s T (t .least)
                   (round-passed _ _ T (words-lawful y) (upto A) D s u (t .visits) (at (t .least))

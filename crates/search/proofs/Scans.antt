@@ -1,9 +1,9 @@
 -- The extensions of a list, rule by rule: figures as numbers (`figure-sum`, `figure-none`, `lower-min`), the states of a path (`from-less`, `occurs-path`), and what each rule
--- leaves of the extensions (`Same`: `pass-idle`, `pass-over`, `pass-seen`), up to the next one that is due (`found-due`) or the last (`none-due`).
+-- leaves of the extensions (`Same`: `pass-idle`, `pass-over`, `pass-seen`), up to the next one that is due (`found-due`) or the last (`none-left`).
 -- The function that looks for the next extension rests on these.
 use mathlib.Core.Path.{_≡_, refl, sym, ap, ap₂, _∙_}
 use mathlib.Core.Logic.{⊎-elim}
-use mathlib.Core.Bool.{Bool, true, false, cond, _||_}
+use mathlib.Core.Bool.{Bool, true, false, cond, _||_, or-comm}
 use mathlib.Core.List.{List}
 use mathlib.Core.Option as option
 use Prim.Native.Nat.{ℕ, zero, suc, _+_, _-_, _≤_, _<_, min}
@@ -11,86 +11,73 @@ use native.Mathlib.Numerals.{add-one}
 use native.Mathlib.Omega.{arith}
 use lib.Dec.{eqb, ltb}
 use lib.ListN.{length, getD}
-use borrow.Author.Tests.{eqb-true, eqb-false, eq-eqb, ne-eqb, ltb-true, ltb-false, lt-ltb, le-leb, lt-leb}
+use borrow.Author.Tests.{lt-ltb, le-leb, lt-leb}
 use Rattle.basics.proofs.Truth.{and-intro, and-right-false}
-use Rattle.basics.proofs.Order.{same?}
+use Rattle.basics.proofs.Order.{below?, same?}
 use Rattle.blocks.specs.Layout.{rules}
 use Rattle.words.specs.Sides.{appliesWord, stepWord, costWord}
 use Rattle.words.specs.Ranking.{rankWord}
 use Rattle.rounds.specs.Systems.{Estimate, mark, at, plus, lower}
 use Rattle.rounds.specs.Rounds.{Progress, on, Offer, cut, over, occurs, offer, extend}
+use Rattle.rounds.proofs.EstimateLaws.{mark-at}
 use Rattle.rounds.proofs.Equations.{offer-none, offer-seen, offer-mark, offer-over, offer-due, extend-none, extend-cut, extend-over}
 use Rattle.tallies.specs.declared.Tally.{Tally}
 use Rattle.tallies.specs.Tallies.{overshotBy}
-use Rattle.search.specs.Exercises.{entryEstimate}
+use Rattle.search.specs.Exercises.{markEntry, entryEstimate}
 use Rattle.search.specs.Limits.{threshold, ruleCount, goalCount, positionCount}
-use Rattle.search.specs.OnWords.{wordSystem, wordEstimate, figureOf, seen, onPath}
+use Rattle.search.specs.OnWords.{wordSystem, wordEstimate, noFigure, figureOf, seen, onPath}
 use Rattle.search.specs.Parts.{Here, systemAt, estimateAt, Next, extendFrom, NextDue}
-use Rattle.search.proofs.Estimates.{below-at, below-mark}
+use Rattle.search.proofs.Estimates.{below-at, below-mark, below-number}
 use Rattle.search.proofs.GoodWords.{positions-few, rules-few, good-step, rank-in}
 
 -- ---- figures as numbers
 
-pub figure-at : (x : ℕ) → x < 18446744073709551615 → figureOf x ≡ at x
-figure-at x l = below-at 18446744073709551615 x l
+pub figure-at : (x : ℕ) → x < noFigure → figureOf x ≡ at x
+figure-at x l = below-at noFigure x l
 
-pub figure-mark : (x : ℕ) → 18446744073709551615 ≤ x → figureOf x ≡ mark
-figure-mark x l = below-mark 18446744073709551615 x l
+pub figure-mark : (x : ℕ) → noFigure ≤ x → figureOf x ≡ mark
+figure-mark x l = below-mark noFigure x l
 
 pub figure-sum :
-    (cost entry : ℕ) → cost ≤ 8589934592 → entry < 4294967295 → figureOf (cost + entry) ≡ plus cost (entryEstimate entry)
+    (cost entry : ℕ) → cost ≤ 8589934592 → entry < markEntry → figureOf (cost + entry) ≡ plus cost (entryEstimate entry)
 figure-sum cost entry k l =
-    figure-at (cost + entry) (omega arith) ∙ ap (plus cost) (sym (below-at 4294967295 entry l))
+    figure-at (cost + entry) (omega arith) ∙ ap (plus cost) (sym (below-at markEntry entry l))
 
-pub figure-none : (cost entry : ℕ) → 4294967295 ≤ entry → figureOf 18446744073709551615 ≡ plus cost (entryEstimate entry)
-figure-none cost entry l = figure-mark 18446744073709551615 (omega arith) ∙ ap (plus cost) (sym (below-mark 4294967295 entry l))
+pub figure-none : (cost entry : ℕ) → markEntry ≤ entry → figureOf noFigure ≡ plus cost (entryEstimate entry)
+figure-none cost entry l = figure-mark noFigure (omega arith) ∙ ap (plus cost) (sym (below-mark markEntry entry l))
 
 -- what a figure f of cost g says of the estimate: it is the mark, or the number that is added
 pub data Figure (f g : ℕ) (e : Estimate) : Type 0 where
-  marked : e ≡ mark → 18446744073709551615 ≤ f → Figure f g e
-  rated : (k : ℕ) → e ≡ at k → f ≡ g + k → f < 18446744073709551615 → Figure f g e
+  marked : e ≡ mark → noFigure ≤ f → Figure f g e
+  rated : (k : ℕ) → e ≡ at k → f ≡ g + k → f < noFigure → Figure f g e
 
 pub figure-is : (f g : ℕ) (e : Estimate) → figureOf f ≡ plus g e → Figure f g e
-figure-is f g e q = go e q (ltb f 18446744073709551615) refl
-  where
-    go : (e : Estimate) → figureOf f ≡ plus g e → (b : Bool) → ltb f 18446744073709551615 ≡ b → Figure f g e
-    go mark q true l =
-        let p = sym (figure-at f (ltb-true f 18446744073709551615 l)) ∙ q in
-        let z : _≡_ {A = ℕ} 0 1 = cc in
-        absurd (omega arith)
-    go mark q false l = marked refl (ltb-false f 18446744073709551615 l)
-    go (at k) q true l =
-        let n = ltb-true f 18446744073709551615 l in
-        let p = sym (figure-at f n) ∙ q in
-        let m : f ≡ g + k = cc in
-        rated k refl m n
-    go (at k) q false l =
-        let p = sym (figure-mark f (ltb-false f 18446744073709551615 l)) ∙ q in
-        let z : _≡_ {A = ℕ} 0 1 = cc in
-        absurd (omega arith)
+figure-is f g mark q =
+    ⊎-elim (λ l. absurd (mark-at f (sym q ∙ figure-at f l))) (λ l. marked refl l) (below? f noFigure)
+figure-is f g (at k) q = let (l, e) = below-number noFigure f (g + k) q in rated k refl e l
 
 -- one more figure, as numbers
-pub lower-min : (f x : ℕ) → f < 18446744073709551615 → lower f (figureOf x) ≡ figureOf (min x f)
+pub lower-min : (f x : ℕ) → f < noFigure → lower f (figureOf x) ≡ figureOf (min x f)
 unfolding lower
-lower-min f x l = go (ltb x 18446744073709551615) refl
+lower-min f x l = ⊎-elim number none (below? x noFigure)
   where
-    go : (b : Bool) → ltb x 18446744073709551615 ≡ b → lower f (figureOf x) ≡ figureOf (min x f)
-    go true e =
-        let k = ltb-true x 18446744073709551615 e in
+    number : x < noFigure → lower f (figureOf x) ≡ figureOf (min x f)
+    number k =
         let m : min f x ≡ min x f = omega arith in
         ap (lower f) (figure-at x k) ∙ ap at m ∙ sym (figure-at (min x f) (omega arith))
-    go false e =
-        let k = ltb-false x 18446744073709551615 e in
+
+    none : noFigure ≤ x → lower f (figureOf x) ≡ figureOf (min x f)
+    none k =
         let m : min x f ≡ f = omega arith in
         ap (lower f) (figure-mark x k) ∙ sym (ap figureOf m ∙ figure-at f l)
 
 -- no figure lowers nothing
-min-none : (f x : ℕ) → 18446744073709551615 ≤ f → figureOf (min x f) ≡ figureOf x
-min-none f x l = go (ltb x 18446744073709551615) refl
-  where
-    go : (b : Bool) → ltb x 18446744073709551615 ≡ b → figureOf (min x f) ≡ figureOf x
-    go true e = let k = ltb-true x 18446744073709551615 e in let m : min x f ≡ x = omega arith in ap figureOf m
-    go false e = let k = ltb-false x 18446744073709551615 e in figure-mark (min x f) (omega arith) ∙ sym (figure-mark x k)
+min-none : (f x : ℕ) → noFigure ≤ f → figureOf (min x f) ≡ figureOf x
+min-none f x l =
+    ⊎-elim
+    (λ k. let m : min x f ≡ x = omega arith in ap figureOf m)
+    (λ k. figure-mark (min x f) (omega arith) ∙ sym (figure-mark x k))
+    (below? x noFigure)
 
 -- what is the same either way
 pub same-either : (b : Bool) (x y : Tally) → y ≡ x → cond b x y ≡ x
@@ -112,28 +99,13 @@ pub from-less :
 from-less f i n h e k l m =
     ⊎-elim (λ d. ap f d ∙ e) (λ d. h k (omega arith) m) (same? k (i - 1))
 
-eqb-swap : (a b : ℕ) → eqb a b ≡ eqb b a
-eqb-swap a b = go (eqb a b) refl
-  where
-    go : (x : Bool) → eqb a b ≡ x → eqb a b ≡ eqb b a
-    go true e = e ∙ sym (eq-eqb b a (sym (eqb-true a b e)))
-    go false e = e ∙ sym (ne-eqb b a (λ p. eqb-false a b e (sym p)))
-
-or-swapped : (a b x y : Bool) → a ≡ x → b ≡ y → (a || b) ≡ (y || x)
-or-swapped true true x y p q = rw (← p, ← q) refl
-or-swapped true false x y p q = rw (← p, ← q) refl
-or-swapped false true x y p q = rw (← p, ← q) refl
-or-swapped false false x y p q = rw (← p, ← q) refl
-
 pub occurs-path :
     (words moves : List ℕ) (rules goals : ℕ) (path : List ℕ) (depth w : ℕ)
     → occurs (wordSystem words moves rules goals) w (seen path depth) ≡ onPath path depth w
-occurs-path words moves rules goals path zero w =
-    or-swapped (eqb w (getD path 0 0)) false (eqb (getD path 0 0) w) false (eqb-swap w (getD path 0 0)) refl
+occurs-path words moves rules goals path zero w = or-comm (eqb w (getD path 0 0)) false
 occurs-path words moves rules goals path (suc depth) w =
-    or-swapped (eqb w (getD path (suc depth) 0)) (occurs (wordSystem words moves rules goals) w (seen path depth))
-    (eqb (getD path (suc depth) 0) w) (onPath path depth w)
-    (eqb-swap w (getD path (suc depth) 0)) (occurs-path words moves rules goals path depth w)
+    or-comm (eqb w (getD path (suc depth) 0)) (occurs (wordSystem words moves rules goals) w (seen path depth))
+    ∙ ap (λ (b : Bool). b || eqb w (getD path (suc depth) 0)) (occurs-path words moves rules goals path depth w)
 
 -- ---- what is asked at a rule
 
@@ -205,10 +177,10 @@ module _ (words moves weights table path limits : List ℕ) (depth cost : ℕ) w
   same-then a b = record { same = λ next. a .same next ∙ b .same next }
 
   -- no rule is left
-  pub none-due :
+  pub none-left :
       {i j : ℕ} {x y : Tally} → Same i x j y → ruleCount limits ≤ j
       → (next : Next) → extendFrom words moves weights table path limits depth cost next i x ≡ on (y .visits) (figureOf (y .least))
-  none-due {i} {j} {x} {y} a l next =
+  none-left {i} {j} {x} {y} a l next =
       let Y = systemAt words moves limits in
       let h = estimateAt weights table limits in
       let e : ruleCount limits - j ≡ 0 = omega arith in
@@ -228,7 +200,7 @@ module _ (words moves weights table path limits : List ℕ) (depth cost : ℕ) w
               q;
         }
 
-    pass-noted : (f : ℕ) → offered-at i ≡ over f → f < 18446744073709551615 → (x : Tally) → Same i x (i + 1) (overshotBy x f)
+    pass-noted : (f : ℕ) → offered-at i ≡ over f → f < noFigure → (x : Tally) → Same i x (i + 1) (overshotBy x f)
     pass-noted f e l x =
         record {
           same = λ next.

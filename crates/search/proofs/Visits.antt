@@ -1,15 +1,14 @@
--- What a visit on words leaves, branch by branch (`visit-spent`, `visit-met`, `visit-last`, `visit-more`), what extensions leave (`extend-none`, `extend-due`), and
--- what one that is taken up leaves (`take-more`, `take-found`, `take-spent`); where a list stands (`Here`) one rule further (`here-next`), and after the visits
+-- What a visit on words leaves, branch by branch (`visit-stop`, `visit-goal`, `visit-leaf`, `visit-more`), what extensions leave (`extend-none`, `extend-due`), and
+-- what one that is taken up leaves (`take-on`, `take-hit`, `take-stop`); where a list stands (`Here`) one rule further (`here-next`), and after the visits
 -- there (`here-again`). The cycle of the visits and the extensions rests on these.
 use mathlib.Core.Path.{_≡_, refl, sym, ap, ap₂, subst, _∙_}
 use mathlib.Core.Bool.{Bool, true, false}
 use mathlib.Core.List.{List, [], _∷_}
 use Prim.Native.Nat.{ℕ, zero, suc, _+_, _-_, _≤_, _<_}
-use native.Mathlib.Nat.{min-le-left}
 use native.Mathlib.Omega.{arith}
 use native.Mathlib.Numerals.{add-one}
-use lib.ListN.{length, getD, set, take, drop, length-set, length-take, drop-of-length-le}
-use lib.Seq.{drop-cons, getD-set-same, getD-take, length-take-le}
+use lib.ListN.{length, getD, set, take, drop, length-set}
+use lib.Seq.{getD-set-same, slice-empty, slice-cons}
 use borrow.Author.Tests.{lt-ltb, le-ltb}
 use Rattle.basics.specs.Frames.{Outside}
 use Rattle.basics.proofs.Frames.{outside-none, outside-set, outside-then, outside-within}
@@ -45,20 +44,6 @@ seen-next path depth w l =
     let e = getD-set-same path (suc depth) w 0 l in
     let kept = outside-set (suc depth) w (omega arith) (omega arith) (outside-none (suc depth) (suc (suc depth)) path) in
     (e, ap₂ (λ (x : ℕ) (s : List ℕ). x ∷ s) e (seen-kept path (set path (suc depth) w) depth (kept .before)))
-
--- ---- the bytes of a plan
-
--- a plan of depth steps, from depth on
-plan-empty : (plan : List ℕ) (depth : ℕ) → drop depth (take depth plan) ≡ []
-plan-empty plan depth = drop-of-length-le (take depth plan) {i = depth} (rw length-take (min-le-left depth (length plan)))
-
--- a longer one, from the byte at depth on
-plan-next :
-    (plan : List ℕ) (depth steps r : ℕ) → depth < steps → steps ≤ length plan → getD plan depth 0 ≡ r
-    → drop depth (take steps plan) ≡ r ∷ drop (suc depth) (take steps plan)
-plan-next plan depth steps r l h e =
-    drop-cons (take steps plan) depth 0 (omega (arith, length-take-le steps plan h))
-    ∙ ap (λ (x : ℕ). x ∷ drop (suc depth) (take steps plan)) (getD-take steps plan depth 0 l ∙ e)
 
 -- ---- a list that is due
 
@@ -113,28 +98,28 @@ module _
     here d =
         visitWithin words moves weights table limits d (seen path depth) (getD path depth 0) cost (tally .visits) (figureOf (tally .least))
 
-    pub visit-spent :
+    pub visit-stop :
         allowance limits ≤ tally .visits → Leaves plan path plan (here (stepLimit limits - depth)) (Stop (tally .visits))
-    visit-spent l =
+    visit-stop l =
         unchanged plan (here (stepLimit limits - depth)) (Stop (tally .visits))
         (equations.visit-stop _ _ _ _ _ _ _ _ _ _ (le-ltb (tally .visits) (allowance limits) l))
         tt
 
     module _ (left : tally .visits < allowance limits) where
-      pub visit-met :
+      pub visit-goal :
           meetsWord words moves (goalCount limits) (getD path depth 0) ≡ true
           → Leaves plan path plan (here (stepLimit limits - depth)) (Hit depth cost (tally .visits + 1))
-      visit-met e =
+      visit-goal e =
           unchanged plan (here (stepLimit limits - depth)) (Hit depth cost (tally .visits + 1))
           (equations.visit-goal _ _ _ _ _ _ _ _ _ _ (lt-ltb (tally .visits) (allowance limits) left) e
-          ∙ ap₂ (λ (u : ℕ) (p : List ℕ). hit u p cost) (sym (add-one (tally .visits))) (sym (plan-empty plan depth)))
+          ∙ ap₂ (λ (u : ℕ) (p : List ℕ). hit u p cost) (sym (add-one (tally .visits))) (sym (slice-empty depth plan)))
           (omega arith, k .depth-low, k .cost-low)
 
       module _ (e : meetsWord words moves (goalCount limits) (getD path depth 0) ≡ false) where
-        pub visit-last :
+        pub visit-leaf :
             stepLimit limits ≤ depth
             → Leaves plan path plan (here (stepLimit limits - depth)) (On (record { visits = tally .visits + 1; least = tally .least }))
-        visit-last l =
+        visit-leaf l =
             let none-left : stepLimit limits - depth ≡ 0 = omega arith in
             unchanged plan (here (stepLimit limits - depth)) (On (record { visits = tally .visits + 1; least = tally .least }))
             (ap here none-left
@@ -296,13 +281,13 @@ module _
       pub here-again : Here words moves weights table path′ limits depth cost × (length plan′ ≡ 64)
       here-again = (here-kept path-over, plan-over .len ∙ plan-long)
 
-      pub take-more :
+      pub take-on :
           (then : Tally) → r ≡ On then → (path″ plan″ : List ℕ) (q : Visited)
           → Done depth (stepLimit limits) (threshold limits) path′ plan′ path″ plan″
           (extendFrom words moves weights table path′ limits depth cost (visitWithin words moves weights table limits (stepLimit limits - suc depth))
           (e .rule + 1) then) q
           → Leaves plan path″ plan″ (fromRule (e .rule) (e .tally)) q
-      take-more then is path″ plan″ q f =
+      take-on then is path″ plan″ q f =
           let told : next (e .word ∷ seen path depth) (e .word) (cost + costWord words (e .rule)) (e .tally .visits) (figureOf (e .tally .least))
           ≡ on (then .visits) (figureOf (then .least)) = left ∙ ap (progressOf (suc depth) plan′) is in
           let others : extendFrom words moves weights table path′ limits depth cost next (e .rule + 1) then
@@ -320,9 +305,9 @@ module _
             plan-kept = outside-then plan-over (f .plan-kept);
           }
 
-      pub take-spent :
+      pub take-stop :
           (u : ℕ) → r ≡ Stop u → Leaves plan path′ plan′ (fromRule (e .rule) (e .tally)) (Stop u)
-      take-spent u is =
+      take-stop u is =
           record {
             told =
                 sym
@@ -334,10 +319,10 @@ module _
             plan-kept = plan-over;
           }
 
-      pub take-found :
+      pub take-hit :
           (steps total u : ℕ) → r ≡ Hit steps total u
           → Leaves plan path′ plan′ (fromRule (e .rule) (e .tally)) (Hit steps total u)
-      take-found steps total u is =
+      take-hit steps total u is =
           let w : HitWithin (suc depth) (stepLimit limits) (threshold limits) (Hit steps total u) = rw is at (child .within) in
           let byte : getD plan′ depth 0 ≡ e .rule =
           child .plan-kept .before depth (omega arith)
@@ -345,7 +330,8 @@ module _
           let long : steps ≤ length plan′ = omega (arith, w, plan-over .len, k .steps-few) in
           record {
             told =
-                ap (λ (p : List ℕ). hit u p total) (plan-next plan′ depth steps (e .rule) (omega (arith, w)) long byte)
+                ap (λ (p : List ℕ). hit u p total)
+                (slice-cons depth steps plan′ 0 (omega (arith, w)) long ∙ ap (λ (x : ℕ). x ∷ drop (suc depth) (take steps plan′)) byte)
                 ∙ sym
                 (counted
                 ∙ equations.extend-hit _ _ _ _ _ _ _ _ _ _ _ (e .word) (n .offered) u _ total

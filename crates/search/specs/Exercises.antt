@@ -35,12 +35,15 @@ systemOf b =
     }
 
 -- a number below the top one, and the mark from there on
-abbrev pub below : ℕ → ℕ → Estimate
-below top x = cond (ltb x top) (at x) mark
+abbrev pub numberBelow : ℕ → ℕ → Estimate
+numberBelow top x = cond (ltb x top) (at x) mark
 
 -- the estimate that a table's entry gives: 4,294,967,295 is the mark
+abbrev pub markEntry : ℕ
+markEntry = 4294967295
+
 abbrev pub entryEstimate : ℕ → Estimate
-entryEstimate entry = below 4294967295 entry
+entryEstimate entry = numberBelow markEntry entry
 
 -- the estimate of a state
 abbrev pub estimateOf : List ℕ → List ℕ → List ℕ → Estimate

@@ -70,7 +70,7 @@ fn on_path(path: &[u64; 65], depth: usize, word: u64) -> bool
     let mut left = depth + 1;
     while left > 0 {
         left -= 1;
-        if path[left] == word {
+        if word == path[left] {
             return true;
         }
     }

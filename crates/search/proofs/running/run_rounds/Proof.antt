@@ -8,7 +8,7 @@ use lib.ListN.{getD}
 use borrow.Author.Needs.{needs}
 use Rattle.search.specs.Limits.{roundLimits}
 use Rattle.search.specs.Parts.{AfterRound}
-use Rattle.search.proofs.Runs.{here-first, Rest, rest-whole, rest-none, cost-small, rest-found, rest-spent, rest-next, rest-higher}
+use Rattle.search.proofs.Runs.{here-first, Rest, rest-whole, rest-none, cost-small, rest-hit, rest-stop, rest-on, rest-higher}
 use Rattle.search.proofs.running.run_rounds.Statement.{statement}
 use Rattle.search.proofs.running.run_rounds.Tie as tie
 
@@ -64,7 +64,7 @@ loop-less c =
 loop-again : tie.Need-loop-again Inv-loop μ-loop
 loop-again c =
     let at = c .before .before .before .before .before .before .before .before .before in
-    rest-next (at .before .before .before .pre .0) _ _ _ _ _ _ _ _ _ (at .loop .inv) (c .before .before .before .before .before .before .before .before .loop-test .taken) (omega arith) _ _ _
+    rest-on (at .before .before .before .pre .0) _ _ _ _ _ _ _ _ _ (at .loop .inv) (c .before .before .before .before .before .before .before .before .loop-test .taken) (omega arith) _ _ _
     (left (c .before .before .before)) _ (c .before .left .given .1)
 
 enum-known-left-2 : tie.Need-enum-known-left-2 Inv-loop μ-loop
@@ -82,7 +82,7 @@ cast-cost c =
 returns : tie.Need-returns Inv-loop μ-loop
 returns c =
     let at = c .before .before .before .before .before .before .before .before .before in
-    rest-found (at .before .before .before .pre .0) _ _ _ _ _ _ _ _ _ (at .loop .inv) (c .before .before .before .before .before .before .before .before .loop-test .taken) (omega arith) _ _ _
+    rest-hit (at .before .before .before .pre .0) _ _ _ _ _ _ _ _ _ (at .loop .inv) (c .before .before .before .before .before .before .before .before .loop-test .taken) (omega arith) _ _ _
     (left (c .before .before .before)) _ _ _ (c .before .left2 .given .1)
 
 enum-known-left-3 : tie.Need-enum-known-left-3 Inv-loop μ-loop
@@ -91,7 +91,7 @@ enum-known-left-3 c = search needs
 returns-2 : tie.Need-returns-2 Inv-loop μ-loop
 returns-2 c =
     let at = c .before .before .before .before .before .before .before .before .before in
-    rest-spent (at .before .before .before .pre .0) _ _ _ _ _ _ _ _ _ (at .loop .inv) (c .before .before .before .before .before .before .before .before .loop-test .taken) (omega arith) _ _ _
+    rest-stop (at .before .before .before .pre .0) _ _ _ _ _ _ _ _ _ (at .loop .inv) (c .before .before .before .before .before .before .before .before .loop-test .taken) (omega arith) _ _ _
     (left (c .before .before .before)) _ (c .before .left3 .given .1)
 
 returns-3 : tie.Need-returns-3 Inv-loop μ-loop

@@ -9,7 +9,7 @@ use borrow.Author.Tests.{not-true, not-false}
 use borrow.Author.Needs.{needs}
 use Rattle.tallies.specs.declared.Tally.{Tally}
 use Rattle.search.specs.Limits.{ruleCount}
-use Rattle.search.proofs.Scans.{rules-low, positions-low, depth-below, child-in, Same, Tried, same-start, same-then, none-due, pass-idle, pass-seen, pass-over, found-due}
+use Rattle.search.proofs.Scans.{rules-low, positions-low, depth-below, child-in, Same, Tried, same-start, same-then, none-left, pass-idle, pass-seen, pass-over, found-due}
 use Rattle.search.proofs.scanning.next_due.Statement.{statement}
 use Rattle.search.proofs.scanning.next_due.Tie as tie
 
@@ -146,7 +146,7 @@ returns-2 : tie.Need-returns-2 Inv-loop μ-loop
 returns-2 c =
     let l = c .before .loop in
     let all : ruleCount (now (c .before .before .before .before .before .before .args .limits)) ≤ l .rule = omega (arith, c .loop-test .left, c .before .before .before .rule-count .ensures) in
-    none-due _ _ _ _ _ _ _ _ (l .inv .4) all
+    none-left _ _ _ _ _ _ _ _ (l .inv .4) all
 
 pub next-due-spec : {M : Type 1} → statement M
 next-due-spec =

@@ -6,7 +6,7 @@ use denote.Ref.{now}
 use Prim.Native.Nat.{ℕ, _+_, _*_, _-_, _<_}
 use Rattle.search.specs.Limits.{allowance, stepLimit, ruleCount}
 use Rattle.search.proofs.Scans.{rules-low}
-use Rattle.search.proofs.Visits.{goal-tested, visit-spent, visit-met, visit-last, visit-more, extend-none, next-due, due-own, extend-due, here-next, here-again, take-more, take-found, take-spent}
+use Rattle.search.proofs.Visits.{goal-tested, visit-stop, visit-goal, visit-leaf, visit-more, extend-none, next-due, due-own, extend-due, here-next, here-again, take-on, take-hit, take-stop}
 use borrow.Fn.Kinds.{In}
 use borrow.Fn.PlainCycle.{Measures, is, falls, and}
 use Rattle.search.proofs.visiting.extend.Reads as extend
@@ -153,7 +153,7 @@ take-up-extend-requires t c κs =
 take-up-returns : (t : ℕ) → take-up-lts.Need-returns (take-up-claims t) (take-up-at t) take-up.Post
 take-up-returns t c =
     let s = c .before .before .before .before .before .before .before .before .before .before .before .before .before in
-    take-more (s .pre .1 .0 .0) (s .args .next) (s .pre .1 .1 .1) (s .pre .1 .1 .0) (now (s .args .plan)) (s .pre .1 .0 .1)
+    take-on (s .pre .1 .0 .0) (s .args .next) (s .pre .1 .1 .1) (s .pre .1 .1 .0) (now (s .args .plan)) (s .pre .1 .0 .1)
     _ _ _ (c .before .before .before .before .before .before .before .visit .ensures) _ (c .before .before .before .before .before .left .given .1) _ _ _ (c .extend .ensures)
 
 take-up-enum-known-left-2 : (t : ℕ) → take-up-lts.Need-enum-known-left-2 (take-up-claims t) (take-up-at t) take-up.Post
@@ -162,7 +162,7 @@ take-up-enum-known-left-2 t c = search needs
 take-up-returns-2 : (t : ℕ) → take-up-lts.Need-returns-2 (take-up-claims t) (take-up-at t) take-up.Post
 take-up-returns-2 t c =
     let s = c .before .before .before .before .before .before .before .before .before in
-    take-found (s .pre .1 .0 .0) (s .args .next) (s .pre .1 .1 .1) (s .pre .1 .1 .0) (now (s .args .plan)) (s .pre .1 .0 .1)
+    take-hit (s .pre .1 .0 .0) (s .args .next) (s .pre .1 .1 .1) (s .pre .1 .1 .0) (now (s .args .plan)) (s .pre .1 .0 .1)
     _ _ _ (c .before .before .before .visit .ensures) _ _ _ (c .before .left2 .given .1)
 
 take-up-enum-known-left-3 : (t : ℕ) → take-up-lts.Need-enum-known-left-3 (take-up-claims t) (take-up-at t) take-up.Post
@@ -171,7 +171,7 @@ take-up-enum-known-left-3 t c = search needs
 take-up-returns-3 : (t : ℕ) → take-up-lts.Need-returns-3 (take-up-claims t) (take-up-at t) take-up.Post
 take-up-returns-3 t c =
     let s = c .before .before .before .before .before .before .before .before .before in
-    take-spent (s .pre .1 .0 .0) (s .args .next) (s .pre .1 .1 .1) (s .pre .1 .1 .0) (now (s .args .plan)) (s .pre .1 .0 .1)
+    take-stop (s .pre .1 .0 .0) (s .args .next) (s .pre .1 .1 .1) (s .pre .1 .1 .0) (now (s .args .plan)) (s .pre .1 .0 .1)
     _ _ _ (c .before .before .before .visit .ensures) _ (c .before .left3 .given .1)
 
 visit-allowance-requires : (t : ℕ) → visit-lts.Need-allowance-requires (visit-claims t) (visit-at t) visit.Post
@@ -183,7 +183,7 @@ visit-cast-if1 t c = search needs
 visit-returns : (t : ℕ) → visit-lts.Need-returns (visit-claims t) (visit-at t) visit.Post
 visit-returns t c =
     let s = c .before .before .before .before in
-    visit-spent (s .pre .1 .0) _ (s .args .tally) (omega (arith, c .if1 .taken, c .before .before .allowance .ensures))
+    visit-stop (s .pre .1 .0) _ (s .args .tally) (omega (arith, c .if1 .taken, c .before .before .allowance .ensures))
 
 visit-add-visits : (t : ℕ) → visit-lts.Need-add-visits (visit-claims t) (visit-at t) visit.Post
 visit-add-visits t c =
@@ -208,7 +208,7 @@ visit-returns-2 t c =
     let left : s .args .tally .visits < allowance (now (s .args .limits)) = omega (arith, c .before .before .before .before .before .if1 .left, c .before .before .before .before .before .before .before .allowance .ensures) in
     let tested =
     goal-tested (s .pre .1 .0) _ _ _ (c .before .before .before .goal-count .ensures) (c .before .meets-word .ensures) (c .if2 .taken) in
-    visit-met (s .pre .1 .0) _ (s .args .tally) left tested
+    visit-goal (s .pre .1 .0) _ (s .args .tally) left tested
 
 visit-step-limit-requires : (t : ℕ) → visit-lts.Need-step-limit-requires (visit-claims t) (visit-at t) visit.Post
 visit-step-limit-requires t c κs = search needs
@@ -219,7 +219,7 @@ visit-returns-3 t c =
     let left : s .args .tally .visits < allowance (now (s .args .limits)) = omega (arith, c .before .before .before .before .before .before .before .if1 .left, c .before .before .before .before .before .before .before .before .before .allowance .ensures) in
     let tested =
     goal-tested (s .pre .1 .0) _ _ _ (c .before .before .before .before .before .goal-count .ensures) (c .before .before .before .meets-word .ensures) (c .before .before .if2 .left) in
-    visit-last (s .pre .1 .0) _ (s .args .tally) left tested (omega (arith, c .if3 .taken, c .before .step-limit .ensures))
+    visit-leaf (s .pre .1 .0) _ (s .args .tally) left tested (omega (arith, c .if3 .taken, c .before .step-limit .ensures))
 
 visit-extend-requires : (t : ℕ) → visit-lts.Need-extend-requires (visit-claims t) (visit-at t) visit.Post
 visit-extend-requires t c κs =
