@@ -29,7 +29,7 @@ use Rattle.rounds.proofs.Demand as laws
 use Rattle.search.specs.Exercises.{sameState, stepOf, systemOf, entryEstimate, estimateOf, searchFrom, unlimited}
 use Rattle.search.specs.Promises.{Within, Kept}
 use Rattle.search.proofs.Estimates.{below-at, below-number}
-use Rattle.search.proofs.GoodWords.{step-made}
+use Rattle.search.proofs.StepsMade.{step-made}
 
 -- ---- the exercise is lawful
 

@@ -80,14 +80,17 @@ module _ {b words moves weights table : List ℕ} (y : Ready b words moves weigh
       → Here words moves weights table path (roundLimits b T v D) 0 0
   here-first T v D path g l d t a =
       record {
-        block = b;
-        ready = y;
-        rules-told = refl;
-        goals-told = refl;
-        positions-told = refl;
-        threshold-low = t;
-        allowance-low = a;
-        steps-few = d;
+        given =
+            record {
+              block = b;
+              ready = y;
+              rules-told = refl;
+              goals-told = refl;
+              positions-told = refl;
+              threshold-low = t;
+              allowance-low = a;
+              steps-few = d;
+            };
         path-long = l;
         good = g;
         depth-low = omega arith;

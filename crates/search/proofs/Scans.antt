@@ -112,20 +112,20 @@ occurs-path words moves rules goals path (suc depth) w =
 module _
     {words moves weights table path limits : List ℕ} {depth cost : ℕ} (k : Here words moves weights table path limits depth cost) where
   pub rules-low : ruleCount limits ≤ 64
-  rules-low = omega (arith, k .rules-told, rules-few (k .ready .compiled))
+  rules-low = omega (arith, k .given .rules-told, rules-few (k .given .ready .compiled))
 
   pub positions-low : positionCount limits ≤ 16
-  positions-low = omega (arith, k .positions-told, positions-few (k .ready .compiled))
+  positions-low = omega (arith, k .given .positions-told, positions-few (k .given .ready .compiled))
 
   pub depth-below : depth < 65
-  depth-below = omega (arith, k .depth-low, k .steps-few)
+  depth-below = omega (arith, k .depth-low, k .given .steps-few)
 
   pub child-in :
       (r child : ℕ) → r < ruleCount limits → child ≡ stepWord words moves r (getD path depth 0)
       → rankWord weights (positionCount limits) child < length table
   child-in r child l e =
-      let low : r < rules (k .block) = omega (arith, k .rules-told) in
-      rw (k .positions-told, e) (rank-in (k .ready) _ (good-step (k .ready .compiled) r _ low (k .good)))
+      let low : r < rules (k .given .block) = omega (arith, k .given .rules-told) in
+      rw (k .given .positions-told, e) (rank-in (k .given .ready) _ (good-step (k .given .ready .compiled) r _ low (k .good)))
 
 -- ---- one rule, then the others
 

@@ -24,7 +24,8 @@ use Rattle.search.specs.declared.scanning.Scan.{Scan}
 use Rattle.search.specs.declared.scanning.Scan.the-variants.{Over, Due}
 use Rattle.search.specs.declared.visiting.Visited.{Visited}
 use Rattle.search.specs.declared.visiting.Visited.the-variants.{On, Hit, Stop}
-use Rattle.search.proofs.GoodWords.{step-made, good-step}
+use Rattle.search.proofs.StepsMade.{step-made}
+use Rattle.search.proofs.GoodWords.{good-step}
 
 -- ---- the states of a path
 
@@ -54,14 +55,7 @@ module _
   here-kept : {path′ : List ℕ} → Outside (suc depth) 65 path path′ → Here words moves weights table path′ limits depth cost
   here-kept o =
       record {
-        block = k .block;
-        ready = k .ready;
-        rules-told = k .rules-told;
-        goals-told = k .goals-told;
-        positions-told = k .positions-told;
-        threshold-low = k .threshold-low;
-        allowance-low = k .allowance-low;
-        steps-few = k .steps-few;
+        given = k .given;
         path-long = o .len ∙ k .path-long;
         good = rw (o .before depth (omega arith)) (k .good);
         depth-low = k .depth-low;
@@ -133,22 +127,17 @@ module _
             (extendFrom words moves weights table path limits depth cost (visitWithin words moves weights table limits (stepLimit limits - suc depth)) 0
             (record { visits = tally .visits + 1; least = tally .least })) r
             → Leaves plan path′ plan′ (here (stepLimit limits - depth)) r
-        visit-more l d =
+        visit-more {path′} {plan′} {r} l d =
             let some-left : stepLimit limits - depth ≡ suc (stepLimit limits - suc depth) = omega arith in
             let all-rules : ruleCount limits ≡ ruleCount limits - 0 = omega arith in
             let next = visitWithin words moves weights table limits (stepLimit limits - suc depth) in
-            record {
-              told =
-                  d .told
-                  ∙ sym
-                  (ap here some-left
-                  ∙ equations.visit-more _ _ _ _ _ _ _ _ _ _ (lt-ltb (tally .visits) (allowance limits) left) e
-                  ∙ ap₂ (λ (n u : ℕ). extend (systemAt words moves limits) (estimateAt weights table limits) (threshold limits) next (seen path depth)
-                  (getD path depth 0) cost n 0 u (figureOf (tally .least))) all-rules (sym (add-one (tally .visits))));
-              within = d .within;
-              path-kept = d .path-kept;
-              plan-kept = d .plan-kept;
-            }
+            subst (λ (x : Progress). Leaves plan path′ plan′ x r)
+            (sym
+            (ap here some-left
+            ∙ equations.visit-more _ _ _ _ _ _ _ _ _ _ (lt-ltb (tally .visits) (allowance limits) left) e
+            ∙ ap₂ (λ (n u : ℕ). extend (systemAt words moves limits) (estimateAt weights table limits) (threshold limits) next (seen path depth)
+            (getD path depth 0) cost n 0 u (figureOf (tally .least))) all-rules (sym (add-one (tally .visits)))))
+            d
 
   -- ---- extensions
 
@@ -189,13 +178,10 @@ module _
       pub extend-due :
           {plan path′ plan′ : List ℕ} {r : Visited} → Leaves plan path′ plan′ (fromRule (e .rule) (e .tally)) r
           → Leaves plan path′ plan′ (fromRule from tally) r
-      extend-due d =
-          record {
-            told = d .told ∙ sym (next-due .same (visitWithin words moves weights table limits (stepLimit limits - suc depth)));
-            within = d .within;
-            path-kept = d .path-kept;
-            plan-kept = d .plan-kept;
-          }
+      extend-due {plan} {path′} {plan′} {r} d =
+          subst (λ (x : Progress). Leaves plan path′ plan′ x r)
+          (sym (next-due .same (visitWithin words moves weights table limits (stepLimit limits - suc depth))))
+          d
 
   -- ---- an extension that is taken up
 
@@ -208,21 +194,14 @@ module _
     here-next l plan long =
         let made = step-made (e .rule) (ruleCount limits) (appliesWord words moves (e .rule) (getD path depth 0))
         (stepWord words moves (e .rule) (getD path depth 0)) (e .word) (n .made) in
-        let good : Good (k .block) (e .word) =
-        subst (λ (x : ℕ). Good (k .block) x) (made .2)
-        (good-step (k .ready .compiled) (e .rule) (getD path depth 0) (omega (arith, n .rule-high, k .rules-told)) (k .good)) in
+        let good : Good (k .given .block) (e .word) =
+        subst (λ (x : ℕ). Good (k .given .block) x) (made .2)
+        (good-step (k .given .ready .compiled) (e .rule) (getD path depth 0) (omega (arith, n .rule-high, k .given .rules-told)) (k .good)) in
         let next : Here words moves weights table (set path (suc depth) (e .word)) limits (suc depth) (e .cost) =
         record {
-          block = k .block;
-          ready = k .ready;
-          rules-told = k .rules-told;
-          goals-told = k .goals-told;
-          positions-told = k .positions-told;
-          threshold-low = k .threshold-low;
-          allowance-low = k .allowance-low;
-          steps-few = k .steps-few;
+          given = k .given;
           path-long = length-set path (suc depth) (e .word) ∙ k .path-long;
-          good = rw (seen-next path depth (e .word) (omega (arith, k .path-long, k .steps-few)) .0) good;
+          good = rw (seen-next path depth (e .word) (omega (arith, k .path-long, k .given .steps-few)) .0) good;
           depth-low = l;
           cost-low = n .cost-low;
         } in
@@ -250,7 +229,7 @@ module _
           next (e .word ∷ seen path depth) (e .word) (cost + costWord words (e .rule)) (e .tally .visits) (figureOf (e .tally .least))
           ≡ progressOf (suc depth) plan′ r
       left =
-          let s = seen-next path depth (e .word) (omega (arith, k .path-long, k .steps-few)) in
+          let s = seen-next path depth (e .word) (omega (arith, k .path-long, k .given .steps-few)) in
           ap (λ (g : ℕ). next (e .word ∷ seen path depth) (e .word) g (e .tally .visits) (figureOf (e .tally .least))) (sym (n .cost-told))
           ∙ ap₂ (λ (l : List ℕ) (w : ℕ). next l w (e .cost) (e .tally .visits) (figureOf (e .tally .least))) (sym (s .1)) (sym (s .0))
           ∙ sym (child .told)
@@ -268,13 +247,13 @@ module _
       path-over : Outside (suc depth) 65 path path′
       path-over =
           outside-then
-          (outside-set (suc depth) (e .word) (omega arith) (omega (arith, k .steps-few)) (outside-none (suc depth) 65 path))
+          (outside-set (suc depth) (e .word) (omega arith) (omega (arith, k .given .steps-few)) (outside-none (suc depth) 65 path))
           (outside-within (suc depth) 65 (omega arith) (omega arith) (child .path-kept))
 
       plan-over : Outside depth 64 plan plan′
       plan-over =
           outside-then
-          (outside-set depth (e .rule) (omega arith) (omega (arith, k .steps-few)) (outside-none depth 64 plan))
+          (outside-set depth (e .rule) (omega arith) (omega (arith, k .given .steps-few)) (outside-none depth 64 plan))
           (outside-within depth 64 (omega arith) (omega arith) (child .plan-kept))
 
       -- the list stands as before, and the rules behind are tried
@@ -326,8 +305,8 @@ module _
           let w : HitWithin (suc depth) (stepLimit limits) (threshold limits) (Hit steps total u) = rw is at (child .within) in
           let byte : getD plan′ depth 0 ≡ e .rule =
           child .plan-kept .before depth (omega arith)
-          ∙ getD-set-same plan depth (e .rule) 0 (omega (arith, k .steps-few)) in
-          let long : steps ≤ length plan′ = omega (arith, w, plan-over .len, k .steps-few) in
+          ∙ getD-set-same plan depth (e .rule) 0 (omega (arith, k .given .steps-few)) in
+          let long : steps ≤ length plan′ = omega (arith, w, plan-over .len, k .given .steps-few) in
           record {
             told =
                 ap (λ (p : List ℕ). hit u p total)

@@ -1,4 +1,4 @@
--- What the parts of the search ask (`Good`, `Ready`, `Here`) and leave: the extensions up to the next one that is due (`Scanned`), a visit, extensions and a round (`AfterVisit`, `AfterExtensions`,
+-- What the parts of the search ask (`Good`, `Ready`, `Given`, `Here`) and leave: the extensions up to the next one that is due (`Scanned`), a visit, extensions and a round (`AfterVisit`, `AfterExtensions`,
 -- `AfterRound`, by `Done`), and the search (`Answers`). `progressOf` and `answerOf` read the code's enums as the definitions of the search have them.
 -- The contracts of the search's functions are these.
 use mathlib.Core.Path.{_≡_}
@@ -40,8 +40,8 @@ pub record Ready (b words moves weights table : List ℕ) : Type 0 where
   pub compiled : Compiled b words moves weights
   pub entries : abstractStates b ≤ length table
 
--- a list of this cost that is due, its states in the path up to depth: the arrays and limits are those of some block, its last state is one of the block's, and its cost is at most the threshold
-pub record Here (words moves weights table path limits : List ℕ) (depth cost : ℕ) : Type 0 where
+-- the arrays and the limits are those of some block
+pub record Given (words moves weights table limits : List ℕ) : Type 0 where
   pub block : List ℕ
   pub ready : Ready block words moves weights table
   pub rules-told : ruleCount limits ≡ rules block
@@ -50,8 +50,12 @@ pub record Here (words moves weights table path limits : List ℕ) (depth cost :
   pub threshold-low : threshold limits ≤ 4294967295
   pub allowance-low : allowance limits ≤ 4294967295
   pub steps-few : stepLimit limits ≤ 64
+
+-- a list of this cost that is due, its states in the path up to depth: its last state is one of the block's, and its cost is at most the threshold
+pub record Here (words moves weights table path limits : List ℕ) (depth cost : ℕ) : Type 0 where
+  pub given : Given words moves weights table limits
   pub path-long : length path ≡ 65
-  pub good : Good block (getD path depth 0)
+  pub good : Good (given .block) (getD path depth 0)
   pub depth-low : depth ≤ stepLimit limits
   pub cost-low : cost ≤ threshold limits
 

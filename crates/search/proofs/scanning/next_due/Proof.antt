@@ -32,7 +32,7 @@ TriedAt s =
     (s .args .at .depth) (s .args .at .cost)
 
 cost-small : (s : tie.Start Inv-loop μ-loop) → s .args .at .cost ≤ 4294967295
-cost-small s = omega (arith, s .pre .0 .cost-low, s .pre .0 .threshold-low)
+cost-small s = omega (arith, s .pre .0 .cost-low, s .pre .0 .given .threshold-low)
 
 -- the rule at hand is below the number of rules
 rule-below : (c : tie.In-loop Inv-loop μ-loop) → c .before .loop .rule < ruleCount (now (c .before .before .before .before .before .before .args .limits))
@@ -127,7 +127,7 @@ returns c =
     let figured = c .before .before .before .before in
     let l = figured .before .before .before .before .before .before .before .loop in
     found-due _ _ _ _ _ _ _ _ (tried figured)
-    (omega (arith, c .before .before .if2 .left, c .before .before .before .threshold .ensures)) (start figured .pre .0 .threshold-low)
+    (omega (arith, c .before .before .if2 .left, c .before .before .before .threshold .ensures)) (start figured .pre .0 .given .threshold-low)
     (sym (c .before .on-path .ensures) ∙ not-true _ (c .if3 .taken))
     _ _ _ (l .inv .0) (l .inv .4)
 

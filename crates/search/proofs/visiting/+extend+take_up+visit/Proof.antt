@@ -188,7 +188,7 @@ visit-returns t c =
 visit-add-visits : (t : ℕ) → visit-lts.Need-add-visits (visit-claims t) (visit-at t) visit.Post
 visit-add-visits t c =
     let s = c .before .before .before .before .before in
-    omega (arith, c .before .if1 .left, c .before .before .before .allowance .ensures, s .pre .1 .0 .allowance-low)
+    omega (arith, c .before .if1 .left, c .before .before .before .allowance .ensures, s .pre .1 .0 .given .allowance-low)
 
 visit-goal-count-requires : (t : ℕ) → visit-lts.Need-goal-count-requires (visit-claims t) (visit-at t) visit.Post
 visit-goal-count-requires t c κs = search needs
