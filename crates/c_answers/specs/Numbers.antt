@@ -12,7 +12,7 @@ use Rattle.c_answers.specs.declared.entries.Entry.{Entry}
 use Rattle.c_answers.specs.declared.run_ends.RunEnd.{RunEnd}
 use Rattle.c_answers.specs.declared.plans.Plan.{Plan}
 
--- the refusal's number, or 0 for 'accepted' and for 'done'
+-- the refusal's number, or 0 for 'accepted' and for 'filled'
 abbrev pub refusalOf : Answer (Unit {0}) → ℕ
 refusalOf (refused number) = number
 refusalOf (told u) = 0

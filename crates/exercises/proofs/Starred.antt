@@ -3,7 +3,7 @@
 -- no list costs less than input E's table says from the certificate.
 use mathlib.Core.Path.{_≡_, refl, sym, ap}
 use mathlib.Core.Bool.{true, false}
-use mathlib.Core.List.{List, [], _∷_, flatMap}
+use mathlib.Core.List.{List, flatMap}
 use Prim.Native.Nat.{ℕ, _≤_, _<_}
 use native.Mathlib.Omega.{arith}
 use lib.Dec.{lit<, lit≤}
@@ -43,21 +43,22 @@ use Rattle.table_calls.specs.WholeTables.{tableConditions, fillTable, testTable
 use Rattle.search_calls.specs.Searching.{searchConditions, findPlan}
 use Rattle.frames.specs.Lines.{isDigit, digitValue, digitOf}
 use Rattle.frames.specs.Reading.{readConditions}
-use Rattle.par_lines.specs.Queries.{queryConditions, searchFor, answerLine}
-use Rattle.par_lines.specs.Output.{headReads, exerciseCount, openConditions, parOutput}
-use Rattle.exercises.specs.Starred.{Starred, exampleBlock, exampleState, exampleImage, pairBlock, inputE, tableE, characters, sessionE}
+use Rattle.queries.specs.Queries.{queryConditions, searchFor, answerLine}
+use Rattle.openings.specs.Openings.{headReads, exerciseCount, openConditions}
+use Rattle.outputs.specs.Output.{parOutput}
+use Rattle.exercises.specs.Starred.{Starred, exampleBlock, exampleState, exampleImage, roomExample, pairBlock, blockE, tableE, sessionE}
 
--- what the definitions are opened for
+-- the definitions that are opened to compute
 computing : Unit {0}
-unfolding exampleBlock exampleState exampleImage pairBlock inputE tableE headByte labelCount abstractCount abstractStates mapByte mapAt costOf relabelHead ruleWidth ruleAt leftAt rightAt goalAt blockLength sizesOk headOk lengthOk mapOk sideOk ruleTermsOk goalTermsOk termsOk ruleBound boundOk blockConditions labelled bound matches rewritten applies step leads stateConditions applyConditions applyRule stepBackConditions reversible reversibleConditions testReversible goalMet meets relabelSide relabelRule relabelGoal relabelBlock rank unrank stepRank passesAt passes certifies passesTest leastBy leastWithin leastCosts filled tableConditions fillTable testTable
+unfolding exampleBlock exampleState exampleImage pairBlock blockE tableE headByte labelCount abstractCount abstractStates mapByte mapAt costOf relabelHead ruleWidth ruleAt leftAt rightAt goalAt blockLength sizesOk headOk lengthOk mapOk sideOk ruleTermsOk goalTermsOk termsOk ruleBound boundOk blockConditions labelled bound matches rewritten applies step leads stateConditions applyConditions applyRule stepBackConditions stepBackFrom reversible reversibleConditions testReversible goalMet meets relabelSide relabelRule relabelGoal relabelBlock rank unrank stepRank passesAt passes certifies passesTest leastBy leastWithin leastCosts filled tableConditions fillTable testTable
 computing = tt
 
--- and what a search is opened for besides
+-- and those for a search
 searching : Unit {0}
 unfolding relabelState entry estimate lower andThen behind takeUp conclude capped begin arrive offer extend visit round rounds roundsFrom search visits searchFrom searchConditions findPlan
 searching = tt
 
--- and what `par` is opened for besides
+-- and those for what `par` prints
 printing : Unit {0}
 unfolding sessionE isDigit digitValue digitOf flatMap frameCount frameLength readConditions headReads exerciseCount openConditions queryConditions searchFor answerLine parOutput
 printing = tt
@@ -78,7 +79,7 @@ example-leads : leads exampleBlock 0 exampleState exampleImage ≡ true
 unfolding computing
 example-leads = refl
 
--- it is the only one
+-- no other state is taken to the image
 only : (u : List ℕ) → stateOk exampleBlock u ≡ true → leads exampleBlock 0 u exampleImage ≡ true → u ≡ exampleState
 only u ok h = one-predecessor exampleBlock 0 example-form exampleImage u exampleState ok example-state h example-leads
 
@@ -117,54 +118,32 @@ pair-labels : 2 ≤ labels pairBlock
 unfolding computing
 pair-labels = lit≤ tt
 
--- stepping back, as the call tells it
-step-back-found :
-    stepBackFrom exampleBlock 0 exampleImage from-first (9 ∷ 9 ∷ 9 ∷ 9 ∷ 9 ∷ 9 ∷ 9 ∷ [])
-    ≡ outcome (told true) (4 ∷ 4 ∷ 1 ∷ 7 ∷ 5 ∷ 6 ∷ 9 ∷ [])
-unfolding computing stepBackFrom
-step-back-found =
-    ap (λ (next : Predecessor). outcome (told (isFound next)) (writtenOut next (9 ∷ 9 ∷ 9 ∷ 9 ∷ 9 ∷ 9 ∷ 9 ∷ []))) example-found
-
-step-back-none :
-    stepBackFrom exampleBlock 0 exampleImage (after exampleState) (9 ∷ 9 ∷ 9 ∷ 9 ∷ 9 ∷ 9 ∷ 9 ∷ [])
-    ≡ outcome (told false) (9 ∷ 9 ∷ 9 ∷ 9 ∷ 9 ∷ 9 ∷ 9 ∷ [])
-unfolding computing stepBackFrom
-step-back-none =
-    ap (λ (next : Predecessor). outcome (told (isFound next)) (writtenOut next (9 ∷ 9 ∷ 9 ∷ 9 ∷ 9 ∷ 9 ∷ 9 ∷ []))) example-none
-
 -- the table of input E
-e-valid : Valid inputE
-e-valid = accepted-valid inputE (unfold computing in refl)
+e-valid : Valid blockE
+e-valid = accepted-valid blockE (unfold computing in refl)
 
-e-least : LeastTable (graphOf (relabelBlock inputE)) tableE
-e-least = certified (graphOf (relabelBlock inputE)) tableE (unfold computing in refl)
+e-least : LeastTable (graphOf (relabelBlock blockE)) tableE
+e-least = certified (graphOf (relabelBlock blockE)) tableE (unfold computing in refl)
 
-e-states : abstractStates inputE ≡ 8
+e-states : abstractStates blockE ≡ 8
 unfolding computing
 e-states = refl
 
-e-entry : (k : ℕ) → k < 8 → LeastCost (relabelBlock inputE) (unrank inputE k) (getD tableE k 0)
+e-entry : (k : ℕ) → k < 8 → LeastCost (relabelBlock blockE) (unrank blockE k) (getD tableE k 0)
 unfolding entry
 e-entry k l =
     let h = e-valid .sized .head in
-    rw (sym (ap (λ (i : ℕ). getD tableE i 0) (rank-unrank inputE h k (omega (arith, e-states)))))
-    (least-entry inputE e-valid tableE e-least (unrank inputE k) (unrank-state inputE h k))
-
--- what `par` prints
-e-printed :
-    parOutput sessionE
-    ≡ characters "0003000000050000000A020005\n02000000000000000009\n01000000000000000006\n0100000000000000000B\n00000000000000000001\n"
-unfolding computing searching printing
-e-printed = refl
+    rw (sym (ap (λ (i : ℕ). getD tableE i 0) (rank-unrank blockE h k (omega (arith, e-states)))))
+    (least-entry blockE e-valid tableE e-least (unrank blockE k) (unrank-state blockE h k))
 
 pub starred : Starred
-unfolding computing searching
+unfolding computing searching printing
 starred =
     record {
       example-step = refl;
       example-only = λ u ok h e. reversible-one exampleBlock 0 example-form u exampleState ok example-state h refl e;
-      example-first = step-back-found;
-      example-no-further = step-back-none;
+      example-first = ap (λ (next : Predecessor). outcome (told (isFound next)) (writtenOut next roomExample)) example-found;
+      example-no-further = ap (λ (next : Predecessor). outcome (told (isFound next)) (writtenOut next roomExample)) example-none;
       pair-reversible = refl;
       pair-one-to-one = reversible-one pairBlock 0 pair-form;
       pair-not-reversible = refl;
@@ -180,5 +159,5 @@ starred =
       search-step-limit = refl;
       search-zeros = refl;
       search-at-goal = refl;
-      par-prints = e-printed;
+      par-prints = refl;
     }

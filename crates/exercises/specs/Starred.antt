@@ -24,7 +24,7 @@ use Rattle.backward_calls.specs.Predecessors.{stepBackFrom}
 use Rattle.backward_calls.specs.Reversing.{testReversible}
 use Rattle.table_calls.specs.WholeTables.{fillTable, testTable}
 use Rattle.search_calls.specs.Searching.{searchAnswer, findPlan}
-use Rattle.par_lines.specs.Output.{parOutput}
+use Rattle.outputs.specs.Output.{parOutput}
 
 -- one rule, <A,A,1,-,B,C> to <2,-,-,-,C,B>, over eight labels; the map sends all labels to one, and every state is a goal
 unfoldable pub exampleBlock : List ℕ
@@ -41,6 +41,10 @@ exampleState = 4 ∷ 4 ∷ 1 ∷ 7 ∷ 5 ∷ 6 ∷ []
 unfoldable pub exampleImage : List ℕ
 exampleImage = 2 ∷ 4 ∷ 1 ∷ 7 ∷ 6 ∷ 5 ∷ []
 
+-- a state buffer of seven bytes
+abbrev pub roomExample : List ℕ
+roomExample = 9 ∷ 9 ∷ 9 ∷ 9 ∷ 9 ∷ 9 ∷ 9 ∷ []
+
 -- rule 0 is <A,A,-,-> to <-,2,-,->, rule 1 <A,A,-,-> to <-,-,A,->, over six labels; map and goal as before
 unfoldable pub pairBlock : List ℕ
 pairBlock =
@@ -51,8 +55,8 @@ pairBlock =
     255 ∷ 255 ∷ 255 ∷ 255 ∷ []
 
 -- input E's block, a line of the document's text a line, and its table
-unfoldable pub inputE : List ℕ
-inputE =
+unfoldable pub blockE : List ℕ
+blockE =
     3 ∷ 3 ∷ 2 ∷ 6 ∷ 1 ∷
     0 ∷ 1 ∷ 1 ∷
     1 ∷ 16 ∷ 0 ∷ 255 ∷ 0 ∷ 16 ∷ 255 ∷
@@ -83,18 +87,18 @@ sessionE =
 pub record Starred : Type 0 where
   -- the example rule takes <4,4,1,7,5,6> to <2,4,1,7,6,5>, written at the front of the buffer
   pub example-step :
-      applyRule exampleBlock 0 exampleState (9 ∷ 9 ∷ 9 ∷ 9 ∷ 9 ∷ 9 ∷ 9 ∷ [])
+      applyRule exampleBlock 0 exampleState roomExample
       ≡ outcome (told done) (2 ∷ 4 ∷ 1 ∷ 7 ∷ 6 ∷ 5 ∷ 9 ∷ [])
   -- which has just that predecessor: no other state is taken there, and stepping back finds it first, and then none further
   pub example-only :
       (u : List ℕ) → stateOk exampleBlock u ≡ true → applies exampleBlock 0 u ≡ true
       → step exampleBlock 0 u ≡ exampleImage → u ≡ exampleState
   pub example-first :
-      stepBackFrom exampleBlock 0 exampleImage from-first (9 ∷ 9 ∷ 9 ∷ 9 ∷ 9 ∷ 9 ∷ 9 ∷ [])
+      stepBackFrom exampleBlock 0 exampleImage from-first roomExample
       ≡ outcome (told true) (4 ∷ 4 ∷ 1 ∷ 7 ∷ 5 ∷ 6 ∷ 9 ∷ [])
   pub example-no-further :
-      stepBackFrom exampleBlock 0 exampleImage (after exampleState) (9 ∷ 9 ∷ 9 ∷ 9 ∷ 9 ∷ 9 ∷ 9 ∷ [])
-      ≡ outcome (told false) (9 ∷ 9 ∷ 9 ∷ 9 ∷ 9 ∷ 9 ∷ 9 ∷ [])
+      stepBackFrom exampleBlock 0 exampleImage (after exampleState) roomExample
+      ≡ outcome (told false) roomExample
   -- <A,A,-,-> to <-,2,-,-> is reversible, by form and as a map of states
   pub pair-reversible : testReversible pairBlock 0 ≡ told true
   pub pair-one-to-one : OneToOne pairBlock 0
@@ -103,30 +107,30 @@ pub record Starred : Type 0 where
   pub pair-not-one-to-one : OneToOne pairBlock 1 → ⊥
   -- the table of input E: filling writes it, and leaves what stands behind it
   pub table-filled :
-      fillTable inputE (7 ∷ 7 ∷ 7 ∷ 7 ∷ 7 ∷ 7 ∷ 7 ∷ 7 ∷ 7 ∷ 8 ∷ [])
+      fillTable blockE (7 ∷ 7 ∷ 7 ∷ 7 ∷ 7 ∷ 7 ∷ 7 ∷ 7 ∷ 7 ∷ 8 ∷ [])
       ≡ outcome (told tt) (mark ∷ mark ∷ mark ∷ 2 ∷ mark ∷ 1 ∷ 0 ∷ mark ∷ 7 ∷ 8 ∷ [])
   -- each entry is the least total cost of a list of relabelled rules from its state to a relabelled goal, or the mark and there is none
-  pub table-least : (k : ℕ) → k < 8 → LeastCost (relabelBlock inputE) (unrank inputE k) (getD tableE k 0)
-  pub table-passes : testTable inputE tableE ≡ told true
+  pub table-least : (k : ℕ) → k < 8 → LeastCost (relabelBlock blockE) (unrank blockE k) (getD tableE k 0)
+  pub table-passes : testTable blockE tableE ≡ told true
   -- the table of zeros passes, of input E and of every exercise
-  pub zeros-pass : testTable inputE (0 ∷ 0 ∷ 0 ∷ 0 ∷ 0 ∷ 0 ∷ 0 ∷ 0 ∷ []) ≡ told true
+  pub zeros-pass : testTable blockE (0 ∷ 0 ∷ 0 ∷ 0 ∷ 0 ∷ 0 ∷ 0 ∷ 0 ∷ []) ≡ told true
   pub zeros-always-pass :
       (b : List ℕ) → Valid b → (t : List ℕ) → ((k : ℕ) → k < abstractStates b → getD t k 0 ≡ 0) → passesTest b t ≡ true
   -- the search of input E from <1,2,0> with its table, step limit 8, cost limit 100 and allowance 100: found, 3 steps, cost 5, 10 visits, plan 2, 0, 5
   pub search-found :
-      findPlan inputE (1 ∷ 2 ∷ 0 ∷ []) 8 100 100 tableE roomE
+      findPlan blockE (1 ∷ 2 ∷ 0 ∷ []) 8 100 100 tableE roomE
       ≡ outcome (told (searchAnswer 0 3 5 10)) (2 ∷ 0 ∷ 5 ∷ 9 ∷ 9 ∷ 9 ∷ 9 ∷ 9 ∷ [])
   -- an allowance of 9 is spent
-  pub search-spent : findPlan inputE (1 ∷ 2 ∷ 0 ∷ []) 8 100 9 tableE roomE ≡ outcome (told (searchAnswer 2 0 0 9)) roomE
+  pub search-spent : findPlan blockE (1 ∷ 2 ∷ 0 ∷ []) 8 100 9 tableE roomE ≡ outcome (told (searchAnswer 2 0 0 9)) roomE
   -- with cost limit 4, or with step limit 2, there is no plan
-  pub search-cost-limit : findPlan inputE (1 ∷ 2 ∷ 0 ∷ []) 8 4 100 tableE roomE ≡ outcome (told (searchAnswer 1 0 0 6)) roomE
-  pub search-step-limit : findPlan inputE (1 ∷ 2 ∷ 0 ∷ []) 2 100 100 tableE roomE ≡ outcome (told (searchAnswer 1 0 0 11)) roomE
+  pub search-cost-limit : findPlan blockE (1 ∷ 2 ∷ 0 ∷ []) 8 4 100 tableE roomE ≡ outcome (told (searchAnswer 1 0 0 6)) roomE
+  pub search-step-limit : findPlan blockE (1 ∷ 2 ∷ 0 ∷ []) 2 100 100 tableE roomE ≡ outcome (told (searchAnswer 1 0 0 11)) roomE
   -- the table of zeros gives the same plan, after 19 visits
   pub search-zeros :
-      findPlan inputE (1 ∷ 2 ∷ 0 ∷ []) 8 100 100 (0 ∷ 0 ∷ 0 ∷ 0 ∷ 0 ∷ 0 ∷ 0 ∷ 0 ∷ []) roomE
+      findPlan blockE (1 ∷ 2 ∷ 0 ∷ []) 8 100 100 (0 ∷ 0 ∷ 0 ∷ 0 ∷ 0 ∷ 0 ∷ 0 ∷ 0 ∷ []) roomE
       ≡ outcome (told (searchAnswer 0 3 5 19)) (2 ∷ 0 ∷ 5 ∷ 9 ∷ 9 ∷ 9 ∷ 9 ∷ 9 ∷ [])
   -- from the goal itself the plan has no steps, after one visit
-  pub search-at-goal : findPlan inputE (2 ∷ 1 ∷ 0 ∷ []) 8 100 100 tableE roomE ≡ outcome (told (searchAnswer 0 0 0 1)) roomE
+  pub search-at-goal : findPlan blockE (2 ∷ 1 ∷ 0 ∷ []) 8 100 100 tableE roomE ≡ outcome (told (searchAnswer 0 0 0 1)) roomE
   -- what `par` prints for these queries: found with 3 steps, cost 5, 10 visits and plan 2, 0, 5; spent after 9 visits; no plan after 6, and after 11; found with no steps after 1
   pub par-prints :
       parOutput sessionE

@@ -1,3 +1,3 @@
 -- What the proofs of the calls share.
--- Each carries an answer with its buffer over from the outcome that `engine` ensures.
+-- Those of calls with a buffer carry the answer and the buffer over from the outcome that `engine` ensures.
 pub mod Carried

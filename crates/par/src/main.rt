@@ -2,7 +2,7 @@
 use libc::STDIN_FILENO;
 
 fn main() {
-    // one byte more than a session may have, so that a longer one is seen
+    // one byte more than an input may have, so that a longer one is seen
     let mut input = [0u8; 32769];
     let count = io::read_full(STDIN_FILENO, &mut input);
     sessions::print_session(&input[..count]);

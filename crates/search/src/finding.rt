@@ -16,6 +16,9 @@ use blocks::layout;
 use words::compiling::compile;
 use words::packing::pack;
 
+// The largest step limit.
+pub const LONGEST_PLAN: usize = 64;
+
 // Searches from a start: `steps` is the step limit, `cost` the cost limit and `visits` the visit allowance. The block is compiled once. A plan found is written at the front of
 // `buffer`, and only then is anything written there.
 pub fn find_plan(

@@ -13,9 +13,10 @@ use Rattle.blocks.specs.Layout.{abstractStates}
 use Rattle.blocks.specs.Validity.{Valid}
 use Rattle.blocks.specs.States.{stateOk}
 use Rattle.tables.specs.Tables.{passesTest}
+use Rattle.search.specs.Exercises.{longestPlan}
 use Rattle.psvn_calls.specs.Checking.{stateConditions}
 use Rattle.psvn_calls.proofs.Conditions.{state-accepted}
-use Rattle.search_calls.specs.Searching.{longestPlan, searchConditions}
+use Rattle.search_calls.specs.Searching.{searchConditions}
 
 module _ (b s : List ℕ) (D room : ℕ) (t : List ℕ) where
   pub record SearchAccepted : Type 0 where

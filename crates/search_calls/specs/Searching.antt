@@ -10,7 +10,7 @@ use Rattle.refusals.specs.Refusals.{refusalNumber}
 use Rattle.blocks.specs.Layout.{abstractStates}
 use Rattle.tables.specs.Tables.{passesTest}
 use Rattle.rounds.specs.Rounds as rounds
-use Rattle.search.specs.Exercises.{searchFrom}
+use Rattle.search.specs.Exercises.{searchFrom, longestPlan, statusOf}
 use Rattle.search.specs.Promises.{Kept}
 use Rattle.psvn_calls.specs.Checking.{stateConditions}
 use Rattle.search_calls.specs.declared.searching.Search.{Search}
@@ -34,17 +34,8 @@ searchOf (Spent visits) = told (searchAnswer 2 0 0 visits)
 searchOf (Refused refusal) = refused (refusalNumber refusal)
 
 -- the same of an answer of the rounds
-abbrev pub statusOf : rounds.Answer → ℕ
-statusOf (rounds.found u p c) = 0
-statusOf (rounds.noPlan u) = 1
-statusOf (rounds.spent u) = 2
-
 abbrev pub reported : rounds.Answer → SearchAnswer
 reported a = searchAnswer (statusOf a) (rounds.steps a) (rounds.planCost a) (rounds.visits a)
-
--- the largest step limit
-abbrev pub longestPlan : ℕ
-longestPlan = 64
 
 -- 3 to 8, then 10 to 13; D is the step limit, and `room` the length of the plan buffer
 unfoldable pub searchConditions : List ℕ → List ℕ → ℕ → ℕ → List ℕ → List Condition

@@ -7,9 +7,7 @@ use psvn_calls::check_state;
 use refusals::Refusal;
 use refusals::Verdict;
 use search::Ending;
-
-// The largest step limit.
-const LONGEST_PLAN: usize = 64;
+use search::LONGEST_PLAN;
 
 // What a search answers: a plan was found, of so many steps, at this cost and after so many visits; or there is no plan, or the allowance is spent, after so many visits.
 pub enum Search {

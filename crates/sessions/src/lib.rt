@@ -2,25 +2,28 @@
 ghost use mathlib.Core.Path.{_≡_};
 ghost use Rattle.blocks.specs.Validity.{Valid};
 ghost use Rattle.filling.specs.FilledTables.{filled};
+use blocks::layout::BLOCK_ROOM;
+use blocks::validity::MOST_STATES;
 use libc::STDOUT_FILENO;
-use par_lines::Opening;
+use openings::Opening;
+use queries::LINE_ROOM;
 use refusals::Refusal;
 
 // Prints the line of a refusal.
 fn print_refusal(refusal: Refusal) {
-    let mut line = [0u8; 149];
-    let length = par_lines::refuse(refusal, &mut line);
+    let mut line = [0u8; LINE_ROOM];
+    let length = queries::refuse(refusal, &mut line);
     io::write_all(STDOUT_FILENO, &line[..length]);
 }
 
-// Prints the answer lines of the query lines from `queries` on.
-fn print_answers(input: &[u8], queries: usize, block: &[u8], table: &[u32])
+// Prints the answer lines of the query lines from `queries_at` on.
+fn print_answers(input: &[u8], queries_at: usize, block: &[u8], table: &[u32])
     requires { ⌜ Valid (now block) × (now table ≡ filled (now block)) ⌝ }
 {
-    let mut line = [0u8; 149];
-    let mut at = queries;
+    let mut line = [0u8; LINE_ROOM];
+    let mut at = queries_at;
     while at < input.len() {
-        let answered = par_lines::answer(input, at, block, table, &mut line);
+        let answered = queries::answer(input, at, block, table, &mut line);
         let length = answered.length;
         io::write_all(STDOUT_FILENO, &line[..length]);
         at = answered.next;
@@ -29,15 +32,15 @@ fn print_answers(input: &[u8], queries: usize, block: &[u8], table: &[u32])
 
 // Prints what `par` prints for an input.
 pub fn print_session(input: &[u8]) {
-    let mut block = [0u8; 2304];
-    let mut table = [0u32; 16384];
-    let opening = par_lines::open(input, &mut block, &mut table);
+    let mut block = [0u8; BLOCK_ROOM];
+    let mut table = [0u32; MOST_STATES];
+    let opening = openings::open(input, &mut block, &mut table);
     match opening {
         Opening::Refused(refusal) => print_refusal(refusal),
         Opening::Opened {
             length,
             states,
-            queries,
-        } => print_answers(input, queries, &block[..length], &table[..states]),
+            queries_at,
+        } => print_answers(input, queries_at, &block[..length], &table[..states]),
     }
 }

@@ -8,15 +8,15 @@ use lib.Seq.{length-take-le}
 use denote.Ref.{now}
 use borrow.Author.Needs.{needs}
 use Rattle.frames.proofs.LineLaws.{line-some}
-use Rattle.par_lines.proofs.PrintedLengths.{written-fits}
+use Rattle.queries.proofs.PrintedLengths.{written-fits}
 use Rattle.sessions.proofs.print_answers.Statement.{statement}
 use Rattle.sessions.proofs.print_answers.Tie as tie
 
 abbrev Inv-loop : tie.InvT-loop
-Inv-loop input queries block table line₀ at₀ line at = Unit {0}
+Inv-loop input queriesAt block table line₀ at₀ line at = Unit {0}
 
 abbrev μ-loop : tie.MeasureT-loop
-μ-loop input queries block table line₀ at₀ line at = length input - at
+μ-loop input queriesAt block table line₀ at₀ line at = length input - at
 
 loop-holds : tie.Need-loop-holds Inv-loop μ-loop
 loop-holds c = tt

@@ -3,7 +3,7 @@
 use mathlib.Core.Path.{sym}
 use lib.Seq.{length-take-le}
 use borrow.Author.Needs.{needs}
-use Rattle.par_lines.proofs.PrintedLengths.{written-fits}
+use Rattle.queries.proofs.PrintedLengths.{written-fits}
 use Rattle.sessions.proofs.print_refusal.Statement.{statement}
 use Rattle.sessions.proofs.print_refusal.Tie as tie
 

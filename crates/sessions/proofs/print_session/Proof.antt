@@ -4,9 +4,9 @@ use mathlib.Core.Path.{sym, ap, _∙_}
 use lib.Seq.{length-take-le}
 use denote.Ref.{now}
 use borrow.Author.Needs.{needs}
-use Rattle.par_lines.specs.Output.{openingOf, openOutcome}
-use Rattle.par_lines.specs.declared.opening.Opening.{Opening}
-use Rattle.par_lines.proofs.OpenedWell.{OpenedWell, opened-well}
+use Rattle.openings.specs.Openings.{openingOf, openOutcome}
+use Rattle.openings.specs.declared.opening.Opening.{Opening}
+use Rattle.openings.proofs.OpenedWell.{OpenedWell, opened-well}
 use Rattle.sessions.proofs.print_session.Statement.{statement}
 use Rattle.sessions.proofs.print_session.Tie as tie
 

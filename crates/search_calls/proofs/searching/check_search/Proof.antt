@@ -13,8 +13,9 @@ use Rattle.refusals.specs.Refusals.{verdictOf}
 use Rattle.refusals.proofs.Verdicts.{verdict-before}
 use Rattle.blocks.specs.Layout.{abstractStates}
 use Rattle.tables.specs.Tables.{passesTest}
+use Rattle.search.specs.Exercises.{longestPlan}
 use Rattle.psvn_calls.specs.Checking.{stateConditions}
-use Rattle.search_calls.specs.Searching.{longestPlan, searchConditions}
+use Rattle.search_calls.specs.Searching.{searchConditions}
 use Rattle.psvn_calls.proofs.Conditions.{StateAccepted, state-accepted}
 use Rattle.search_calls.proofs.Conditions.{search-decided}
 use Rattle.search_calls.proofs.searching.check_search.Statement.{statement}

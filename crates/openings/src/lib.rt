@@ -1,0 +1,5 @@
+// Opening the exercise at the front of an input: its block and its filled table.
+mod opening;
+
+pub use opening::Opening;
+pub use opening::open;
