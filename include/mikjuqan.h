@@ -32,7 +32,7 @@ extern "C" {
 #define MIKJUQAN_NO_PATH UINT32_C(4294967295)
 
 /* ---- refusals ----
- * The lowest number wins, but in mikjuqan_read_exercise, whose order is 1, 2 (head line), 3, 2 (others), 11, 5, 6, 7. */
+ * The lowest number wins, except in mikjuqan_read_exercise, whose order is 1, 2 (head line), 3, 2 (others), 11, 5, 6, 7. */
 
 enum {
   MIKJUQAN_ACCEPTED = 0,
@@ -79,7 +79,7 @@ typedef struct {
   uint32_t stuck;
   size_t index;
   uint32_t cost;
-} mikjuqan_replay;
+} mikjuqan_run_end;
 
 enum { MIKJUQAN_FOUND = 0, MIKJUQAN_NO_PLAN = 1, MIKJUQAN_SPENT = 2 };
 
@@ -93,8 +93,11 @@ typedef struct {
 } mikjuqan_plan;
 
 /* ---- the exercise ----
- * A block is n (positions, 1 to 16), L (labels, 1 to 16), K (abstract labels, 1 to L), R (rules, 0 to 64), G (goals, 1 to 8),
- * with K to the power n at most 16,384; then L map bytes, R rules (cost, n left terms, n right terms), G goals (n terms).
+ * A block begins with five bytes, its head: n, L, K, R, G. A state has n positions and there are L labels, at least one of
+ * each and no more than 16. They have K abstract labels, at least one and no more than L, and a table of
+ * MIKJUQAN_TABLE_LENGTH entries holds all abstract states, of which there are K to the power n. There are R rules, none up
+ * to 64, and G goals, one up to 8. Behind the head stand the map (a byte for each label), the rules (a cost, then n terms of
+ * the left side and n of the right) and the goals (n terms each).
  * A term is 0x00 to 0x0F for a label, 0x10 to 0x1F for a variable, 0xFF for a dash. A state is n labels. */
 
 /* Reads an exercise from its lines of hexadecimal digits and writes the block. Refused with 1, 2, 3, 11, 5, 6, 7. */
@@ -129,12 +132,12 @@ mikjuqan_decision mikjuqan_next_predecessor(const uint8_t *block, size_t block_l
 mikjuqan_decision mikjuqan_test_reversible(const uint8_t *block, size_t block_length, size_t rule);
 
 /* Replays a list of rule numbers, one a byte, and writes the state where it ends. Refused with 3 to 7, 8, 9, 10, 11. */
-mikjuqan_replay mikjuqan_replay_run(const uint8_t *block, size_t block_length, const uint8_t *start, size_t start_length,
-                                    const uint8_t *list, size_t list_length, uint8_t *out, size_t out_length);
+mikjuqan_run_end mikjuqan_replay_run(const uint8_t *block, size_t block_length, const uint8_t *start, size_t start_length,
+                                     const uint8_t *list, size_t list_length, uint8_t *out, size_t out_length);
 
 /* ---- tables: K to the power n entries, one for each rank; those behind do not count and are not written ---- */
 
-/* Fills the table with the least costs: 0, or refused with 3 to 7, 12. Needs 256 KB of stack. */
+/* Fills the table with the least costs: 0, or refused with 3 to 7, 12. Needs at most 288 KiB of stack. */
 uint32_t mikjuqan_fill_table(const uint8_t *block, size_t block_length, uint32_t *table, size_t table_length);
 
 /* Yes where the table passes the lower-bound test. Refused with 3 to 7, 12. */
@@ -149,8 +152,8 @@ mikjuqan_entry mikjuqan_look_up_estimate(const uint8_t *block, size_t block_leng
 
 /* Finds a cheapest plan from a start, of at most `steps` rules and within the cost limit, with at most so many visits, by
  * any table that passes the test. A plan that is found is written, one rule number a byte; `plan` has room for `steps`
- * bytes, also where the plan is shorter. Refused with 3 to 7, 8, 10, 11, 12, 13. Needs at most 1.5 MB of stack, and that
- * only where 64 rules are due at each of 64 steps; otherwise some tens of KB. */
+ * bytes, also where the plan is shorter. Refused with 3 to 7, 8, 10, 11, 12, 13. Needs at most 1,500 KiB of stack, where 64
+ * rules are due at each of 64 steps: some 270 bytes for each extension due on the way, so some tens of KiB where few are. */
 mikjuqan_plan mikjuqan_find_plan(const uint8_t *block, size_t block_length, const uint8_t *start, size_t start_length,
                                  size_t steps, uint32_t cost, uint32_t visits, const uint32_t *table, size_t table_length,
                                  uint8_t *plan, size_t plan_length);

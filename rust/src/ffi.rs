@@ -23,7 +23,7 @@ pub struct Entry {
 }
 
 #[repr(C)]
-pub struct Replay {
+pub struct RunEnd {
     pub refusal: u32,
     pub stuck: u32,
     pub index: usize,
@@ -40,7 +40,7 @@ pub struct Plan {
 }
 
 mod c {
-    use super::{Decision, Entry, Length, Plan, Replay};
+    use super::{Decision, Entry, Length, Plan, RunEnd};
 
     extern "C" {
         pub fn mikjuqan_read_exercise(text: *const u8, text_length: usize, out: *mut u8, out_length: usize) -> Length;
@@ -100,7 +100,7 @@ mod c {
             list_length: usize,
             out: *mut u8,
             out_length: usize,
-        ) -> Replay;
+        ) -> RunEnd;
 
         pub fn mikjuqan_fill_table(block: *const u8, block_length: usize, table: *mut u32, table_length: usize) -> u32;
 
@@ -200,7 +200,7 @@ pub fn test_reversible(block: &[u8], rule: usize) -> Decision {
     unsafe { c::mikjuqan_test_reversible(block.as_ptr(), block.len(), rule) }
 }
 
-pub fn replay_run(block: &[u8], start: &[u8], list: &[u8], out: &mut [u8]) -> Replay {
+pub fn replay_run(block: &[u8], start: &[u8], list: &[u8], out: &mut [u8]) -> RunEnd {
     unsafe {
         c::mikjuqan_replay_run(
             block.as_ptr(),

@@ -1,9 +1,10 @@
 //! Safe calls of Mikjuqan, a planner for exercises written as PSVN rules.
 //!
 //! An exercise is a block of bytes: a head of five (positions, labels, abstract labels, rules, goals), a map that gives
-//! each label its abstract label, rules with their costs, and goals. Every call is handed the block, checks all that it is
-//! handed, and refuses what is wrong. A refused call writes nowhere; an accepted call writes at the front of its buffer,
-//! and what stands behind that keeps its contents. Nothing is allocated, and nothing is kept between calls.
+//! each label its abstract label, rules with their costs, and goals. [`read_exercise`] is handed text, and writes the block;
+//! every other call is handed the block. All of them check what they are handed, and refuse what is wrong. A refused call
+//! writes nowhere; an accepted call writes at the front of its buffer, and what stands behind that keeps its contents.
+//! Nothing is allocated, and nothing is kept between calls.
 //!
 //! Here an exercise is read from text, its table is filled, and a cheapest plan is found:
 //!
@@ -195,7 +196,7 @@ pub fn test_reversible(block: &[u8], rule: usize) -> Result<bool, Refusal> {
 ///
 /// Refused with 3 to 7, 8, 9, 10, 11; with 9 also for a number behind a rule that is stuck.
 pub fn replay_run(block: &[u8], start: &[u8], list: &[u8], out: &mut [u8]) -> Result<Replay, Refusal> {
-    let ffi::Replay { refusal, stuck, index, cost } = ffi::replay_run(block, start, list, out);
+    let ffi::RunEnd { refusal, stuck, index, cost } = ffi::replay_run(block, start, list, out);
     debug_assert!(refusal == 0 || (stuck, cost) == (0, 0));
     debug_assert!((refusal, stuck) == (0, 1) || index == 0);
     accepted(refusal)?;
@@ -208,7 +209,7 @@ pub fn replay_run(block: &[u8], start: &[u8], list: &[u8], out: &mut [u8]) -> Re
 
 /// Fills the front of a table: for each abstract state the least cost from it to a goal, or [`NO_PATH`].
 ///
-/// Refused with 3 to 7, 12. Needs 256 KB of stack.
+/// Refused with 3 to 7, 12. Needs at most 288 KiB of stack.
 pub fn fill_table(block: &[u8], table: &mut [u32]) -> Result<(), Refusal> {
     accepted(ffi::fill_table(block, table))
 }
@@ -233,7 +234,7 @@ pub fn look_up_estimate(block: &[u8], state: &[u8], table: &[u32]) -> Result<Opt
 /// Finds a cheapest plan from a start within the limits, and writes it, one rule number a byte.
 ///
 /// Any table that passes the lower-bound test gives the same plan; how many visits it takes depends on the table.
-/// Refused with 3 to 7, 8, 10, 11, 12, 13. Needs at most 1.5 MB of stack.
+/// Refused with 3 to 7, 8, 10, 11, 12, 13. Needs at most 1,500 KiB of stack.
 pub fn find_plan(
     block: &[u8],
     start: &[u8],

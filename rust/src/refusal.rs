@@ -3,7 +3,7 @@
 use core::error::Error;
 use core::fmt;
 
-/// Why a call was refused. Each case has a number; the lowest wins, but in [`read_exercise`](crate::read_exercise).
+/// Why a call was refused. Each case has a number; the lowest wins, except in [`read_exercise`](crate::read_exercise).
 #[derive(Clone, Copy, Debug, PartialEq, Eq, PartialOrd, Ord, Hash)]
 pub enum Refusal {
     /// 1: a text holds another character than 0 to 9, A to F and line feed, a line with an odd number of digits, or a last

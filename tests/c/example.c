@@ -112,7 +112,7 @@ static void step_back(const uint8_t *block, size_t block_length) {
 static void replay(const uint8_t *block, size_t block_length) {
   static const uint8_t list[] = {2, 0, 5, 5};
   uint8_t out[POSITIONS] = {9, 9, 9};
-  mikjuqan_replay run = mikjuqan_replay_run(block, block_length, start, POSITIONS, list, 3, out, POSITIONS);
+  mikjuqan_run_end run = mikjuqan_replay_run(block, block_length, start, POSITIONS, list, 3, out, POSITIONS);
   expect(run.refusal == MIKJUQAN_ACCEPTED && !run.stuck && run.cost == 5 && same(out, 2, 1, 0),
          "rules 2, 0, 5 lead to <2,1,0> at cost 5");
   run = mikjuqan_replay_run(block, block_length, start, POSITIONS, list, 4, out, POSITIONS);
