@@ -94,10 +94,10 @@ typedef struct {
 
 /* ---- the exercise ----
  * A block begins with five bytes, its head: n, L, K, R, G. A state has n positions and there are L labels, at least one of
- * each and no more than 16. They have K abstract labels, at least one and no more than L, and a table of
- * MIKJUQAN_TABLE_LENGTH entries holds all abstract states, of which there are K to the power n. There are R rules, none up
- * to 64, and G goals, one up to 8. Behind the head stand the map (a byte for each label), the rules (a cost, then n terms of
- * the left side and n of the right) and the goals (n terms each).
+ * each and no more than 16. There are K abstract labels, at least one and no more than L, and so few that a table of
+ * MIKJUQAN_TABLE_LENGTH entries holds all abstract states, of which there are K to the power n. The number of rules, R, is
+ * at most 64, and may be 0; that of goals, G, is at most 8, and at least 1. Behind the head stand the map (a byte for each
+ * label), the rules (a cost, then n terms of the left side and n of the right) and the goals (n terms each).
  * A term is 0x00 to 0x0F for a label, 0x10 to 0x1F for a variable, 0xFF for a dash. A state is n labels. */
 
 /* Reads an exercise from its lines of hexadecimal digits and writes the block. Refused with 1, 2, 3, 11, 5, 6, 7. */
