@@ -13,42 +13,40 @@ use Rattle.basics.proofs.Order.{Before}
 use Rattle.blocks.specs.Layout.{positions, rules, labelCount, leftAt, rightAt, leftOf, rightOf, sideAt}
 use Rattle.blocks.specs.States.{stateOk}
 use Rattle.blocks.specs.Validity.{Valid}
-use Rattle.blocks.proofs.StateLaws.{labelled-at, labelled-intro}
+use Rattle.blocks.proofs.StateLaws.{labelled-intro, state-length, state-label}
 use Rattle.psvn.specs.Rules.{leads}
 use Rattle.psvn.specs.Ranks.{stateRank}
 use Rattle.psvn.proofs.RankLaws.{before-rank, rank-before}
-use Rattle.backward.specs.Choices.{choice, leastOf, turnsAt, Completed, Raised}
+use Rattle.backward.specs.Choices.{choice, choicesAt, leastOf, raisableAt, Completed, Raised}
 use Rattle.backward.specs.declared.choices.Choice.{Choice}
 use Rattle.backward.specs.Predecessors.{Earlier, from-first, after, fromRank, found, none-further, stepBack, settled}
 use Rattle.backward.proofs.Leading.{leads-by}
 use Rattle.backward.proofs.ChoiceCases.{choice-local}
-use Rattle.backward.proofs.Keeping.{Keeps, Proper, valid-proper, leads-keeps, keeps-leads, choice-below}
+use Rattle.backward.proofs.Choosing.{Keeps, Near}
+use Rattle.backward.proofs.Keeping.{Proper, valid-proper, leads-keeps, keeps-leads, choice-below}
 use Rattle.backward.proofs.NextState.{next-found, none-found}
 use Rattle.backward.proofs.Succession.{completed-keeps, completed-below, completed-least, none-after, raised-above, raised-keeps, raised-below, raised-least}
 
 module _ (b : List ℕ) (va : Valid b) (r : ℕ) (lr : r < rules b) (s : List ℕ) (so : stateOk b s ≡ true) where
   -- the choices of a predecessor of s
-  abbrev pub choices : List ℕ → ℕ → Choice
+  abbrev choices : List ℕ → ℕ → Choice
   choices = choice (positions b) (leftOf b r) (rightOf b r) s
-
-  abbrev KeepsTo : List ℕ → Type 0
-  KeepsTo u = Keeps (positions b) (leftOf b r) (rightOf b r) s u
 
   proper : Proper (positions b) (labelCount b) (leftOf b r) (rightOf b r)
   proper = valid-proper b va r lr
 
   pub record Candidate (earlier : Earlier) (u : List ℕ) : Type 0 where
     pub state : stateOk b u ≡ true
-    pub keeps : KeepsTo u
+    pub keeps : Keeps (positions b) choices u
     pub above : fromRank b earlier ≤ stateRank b u
     pub least :
-        (v : List ℕ) → stateOk b v ≡ true → KeepsTo v → fromRank b earlier ≤ stateRank b v → stateRank b u ≤ stateRank b v
+        (v : List ℕ) → stateOk b v ≡ true → Keeps (positions b) choices v → fromRank b earlier ≤ stateRank b v → stateRank b u ≤ stateRank b v
 
   pub candidate-settles :
       (earlier : Earlier) (u : List ℕ) → Candidate earlier u → stepBack b r s earlier ≡ settled b r s u
   candidate-settles earlier u c = go (leads b r u s) refl
     where
-      keeping : (v : List ℕ) → leads b r v s ≡ true → KeepsTo v
+      keeping : (v : List ℕ) → leads b r v s ≡ true → Keeps (positions b) choices v
       keeping v h = leads-keeps (positions b) (leftOf b r) (rightOf b r) s v (sym (leads-by b r v s) ∙ h)
 
       go : (t : Bool) → leads b r u s ≡ t → stepBack b r s earlier ≡ cond (leads b r u s) (found u) none-further
@@ -66,14 +64,14 @@ module _ (b : List ℕ) (va : Valid b) (r : ℕ) (lr : r < rules b) (s : List �
           (none-found b (va .sized .head) r s earlier (λ v ok h a.
           true-false (leads-by b r u s ∙ keeps-leads (positions b) (leftOf b r) (rightOf b r) s v (sym (leads-by b r v s) ∙ h) u (c .keeps) (labelCount b) proper) e))
 
-  near : (u v : List ℕ) (i : ℕ) → ((k : ℕ) → k < i → getD u k 0 ≡ getD v k 0) → choices u i ≡ choices v i
+  near : Near choices
   near = choice-local (positions b) (leftOf b r) (rightOf b r) s
 
   small :
       (u : List ℕ) (i : ℕ) → i < positions b → ((k : ℕ) → k < i → getD u k 0 < labelCount b k)
       → leastOf (choices u i) < labelCount b i
   small u =
-      choice-below (positions b) (labelCount b) (leftOf b r) (rightOf b r) proper s u (labelled-at (positions b) (labelCount b) s so)
+      choice-below (positions b) (labelCount b) (leftOf b r) (rightOf b r) proper s u (state-label b s so)
 
   -- a state that does not come before another one has no lower rank
   not-before :
@@ -97,11 +95,11 @@ module _ (b : List ℕ) (va : Valid b) (r : ℕ) (lr : r < rules b) (s : List �
 
   module _ (e : List ℕ) (eo : stateOk b e ≡ true) where
     pub raised-candidate :
-        (u : List ℕ) (i : ℕ) → length u ≡ positions b → last (positions b) (turnsAt (labelCount b) choices e) ≡ suc i
+        (u : List ℕ) (i : ℕ) → length u ≡ positions b → last (positions b) (raisableAt (labelCount b) choices e) ≡ suc i
         → Raised choices (positions b) i e u → Candidate (after e) u
     raised-candidate u i lu h t =
         let n = positions b in
-        let be = labelled-at n (labelCount b) e eo in
+        let be = state-label b e eo in
         let uo = labelled-intro n (labelCount b) u lu (raised-below n (labelCount b) choices near small e u i be h t) in
         record {
           state = uo;
@@ -109,42 +107,45 @@ module _ (b : List ℕ) (va : Valid b) (r : ℕ) (lr : r < rules b) (s : List �
           above = omega (arith, before-rank b e u eo uo (raised-above n (labelCount b) choices near small e u i be h t));
           least = λ v vo kv a.
               not-before u v uo vo
-              (raised-least n (labelCount b) choices near small e u i be h t v kv (labelled-at n (labelCount b) v vo) (rank-before b e v eo vo a));
+              (raised-least n (labelCount b) choices near small e u i be h t v kv (state-label b v vo) (rank-before b e v eo vo a));
         }
 
     pub no-candidate :
-        last (positions b) (turnsAt (labelCount b) choices e) ≡ 0 → stepBack b r s (after e) ≡ none-further
+        last (positions b) (raisableAt (labelCount b) choices e) ≡ 0 → stepBack b r s (after e) ≡ none-further
     no-candidate h =
         let n = positions b in
         none-found b (va .sized .head) r s (after e) (λ v vo k a.
-        none-after n (labelCount b) choices near small e v (leads-keeps n (leftOf b r) (rightOf b r) s v (sym (leads-by b r v s) ∙ k)) (labelled-at n (labelCount b) v vo) (rank-before b e v eo vo a) h)
+        none-after n (labelCount b) choices near small e v (leads-keeps n (leftOf b r) (rightOf b r) s v (sym (leads-by b r v s) ∙ k)) (state-label b v vo) (rank-before b e v eo vo a) h)
 
-  -- as the code finds the rule: its sides begin at `left` and `right`, and n is the length of the state
-  module _ (n left right : ℕ) (en : n ≡ positions b) (el : left ≡ leftAt b r) (er : right ≡ rightAt b r) where
+  -- as the code finds the rule: its sides begin at `left` and `right`, and it counts positions by the length of the state
+  module _ (left right : ℕ) (el : left ≡ leftAt b r) (er : right ≡ rightAt b r) where
     abbrev found-choices : List ℕ → ℕ → Choice
-    found-choices = choice n (sideAt b left) (sideAt b right) s
+    found-choices = choicesAt b left right s
+
+    long : length s ≡ positions b
+    long = state-length b s so
 
     same-choices : found-choices ≡ choices
     same-choices =
-        ap₂ (λ (n left : ℕ). choice n (sideAt b left) (sideAt b right) s) en el
+        ap₂ (λ (n left : ℕ). choice n (sideAt b left) (sideAt b right) s) long el
         ∙ ap (λ (right : ℕ). choice (positions b) (leftOf b r) (sideAt b right) s) er
 
     pub first-settles :
-        (e u : List ℕ) → length u ≡ n → Completed found-choices n 0 e u → stepBack b r s from-first ≡ settled b r s u
+        (e u : List ℕ) → length u ≡ length s → Completed found-choices (length s) 0 e u → stepBack b r s from-first ≡ settled b r s u
     first-settles e u lu f =
         candidate-settles from-first u
-        (completed-candidate e u (lu ∙ en) (subst (λ (n : ℕ). Completed choices n 0 e u) en (subst (λ (w : List ℕ → ℕ → Choice). Completed w n 0 e u) same-choices f)))
+        (completed-candidate e u (lu ∙ long) (subst (λ (n : ℕ). Completed choices n 0 e u) long (subst (λ (w : List ℕ → ℕ → Choice). Completed w (length s) 0 e u) same-choices f)))
 
     module _ (e : List ℕ) (eo : stateOk b e ≡ true) where
       pub next-settles :
-          (u : List ℕ) (i : ℕ) → length u ≡ n → last n (turnsAt (labelCount b) found-choices e) ≡ suc i
-          → Raised found-choices n i e u → stepBack b r s (after e) ≡ settled b r s u
+          (u : List ℕ) (i : ℕ) → length u ≡ length s → last (length s) (raisableAt (labelCount b) found-choices e) ≡ suc i
+          → Raised found-choices (length s) i e u → stepBack b r s (after e) ≡ settled b r s u
       next-settles u i lu h t =
           candidate-settles (after e) u
-          (raised-candidate e eo u i (lu ∙ en)
-          (sym (ap₂ (λ (w : List ℕ → ℕ → Choice) (n : ℕ). last n (turnsAt (labelCount b) w e)) same-choices en) ∙ h)
-          (subst (λ (n : ℕ). Raised choices n i e u) en (subst (λ (w : List ℕ → ℕ → Choice). Raised w n i e u) same-choices t)))
+          (raised-candidate e eo u i (lu ∙ long)
+          (sym (ap₂ (λ (w : List ℕ → ℕ → Choice) (n : ℕ). last n (raisableAt (labelCount b) w e)) same-choices long) ∙ h)
+          (subst (λ (n : ℕ). Raised choices n i e u) long (subst (λ (w : List ℕ → ℕ → Choice). Raised w (length s) i e u) same-choices t)))
 
-      pub next-none : last n (turnsAt (labelCount b) found-choices e) ≡ 0 → stepBack b r s (after e) ≡ none-further
+      pub next-none : last (length s) (raisableAt (labelCount b) found-choices e) ≡ 0 → stepBack b r s (after e) ≡ none-further
       next-none h =
-          no-candidate e eo (sym (ap₂ (λ (w : List ℕ → ℕ → Choice) (n : ℕ). last n (turnsAt (labelCount b) w e)) same-choices en) ∙ h)
+          no-candidate e eo (sym (ap₂ (λ (w : List ℕ → ℕ → Choice) (n : ℕ). last n (raisableAt (labelCount b) w e)) same-choices long) ∙ h)

@@ -1,5 +1,5 @@
 -- The cases of a position (`Case`, `case`), and what `choice` is in each: `choice-dash`, `choice-label`, `choice-shown`, `choice-again`, `choice-new`, `choice-other`. It reads of the
--- state begun only what stands before the position (`choice-local`). All that is said of predecessors and of one-to-one rules goes by these cases.
+-- state begun only what stands before the position (`choice-local`). `Keeping` and `OneToOne` go by these cases, the code of choices by `choice-kept`, `choice-term` and `variable-*`.
 use mathlib.Core.Path.{_≡_, refl, sym, ap, _∙_}
 use mathlib.Core.Bool.{Bool, true, false, cond}
 use mathlib.Core.List.{List}
@@ -15,6 +15,7 @@ use Rattle.blocks.proofs.TermCases.{View, label, variable, dash, refused, view,
 use Rattle.backward.specs.Reversible.{shows}
 use Rattle.backward.specs.Choices.{only, variableChoice, termChoice, choice}
 use Rattle.backward.specs.declared.choices.Choice.the-variants.{Any}
+use Rattle.backward.proofs.Choosing.{Near}
 
 -- position i: its right term is a dash; or its left term is a constant, a variable that the new state shows, one that it does not show but that stands further left already,
 -- one that is met here first, or no such term
@@ -112,9 +113,7 @@ module _ (n : ℕ) (left right : ℕ → ℕ) (s u : List ℕ) (i : ℕ) where
         go (dash e) = ap (termChoice n left right s u i) (is-dash (left i) e)
         go (refused b c) = ap (termChoice n left right s u i) (is-refused (left i) b c)
 
-pub choice-local :
-    (n : ℕ) (left right : ℕ → ℕ) (s u v : List ℕ) (i : ℕ) → ((k : ℕ) → k < i → getD u k 0 ≡ getD v k 0)
-    → choice n left right s u i ≡ choice n left right s v i
+pub choice-local : (n : ℕ) (left right : ℕ → ℕ) (s : List ℕ) → Near (choice n left right s)
 choice-local n left right s u v i h = go (case n left right i)
   where
     go : Case n left right i → choice n left right s u i ≡ choice n left right s v i

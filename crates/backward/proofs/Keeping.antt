@@ -24,12 +24,9 @@ use Rattle.backward.specs.Reversible.{shows}
 use Rattle.backward.specs.Choices.{only, choice, leastOf, keepsOf}
 use Rattle.backward.specs.declared.choices.Choice.{Choice}
 use Rattle.backward.specs.declared.choices.Choice.the-variants.{Any}
+use Rattle.backward.proofs.Choosing.{Keeps}
 use Rattle.backward.proofs.Leading.{leadsBy, leads-matches, made, making}
 use Rattle.backward.proofs.ChoiceCases.{Case, kept, constant, shown, again, new, other, case, choice-dash, choice-label, choice-shown, choice-again, choice-new, choice-other}
-
--- u keeps to the choices at each position
-abbrev pub Keeps : ℕ → (ℕ → ℕ) → (ℕ → ℕ) → List ℕ → List ℕ → Type 0
-Keeps n left right s u = (i : ℕ) → i < n → keepsOf (choice n left right s u i) (getD u i 0) ≡ true
 
 keeps-only : {w : Choice} (y x : ℕ) → w ≡ only y → x ≡ y → keepsOf w x ≡ true
 keeps-only y x e h = rw e (eq-eqb x y h)
@@ -97,7 +94,7 @@ module _ (n : ℕ) (left right : ℕ → ℕ) (s u : List ℕ) (h : leadsBy n le
       (λ e. fits .same i j l (f .0) a b (e .0) ∙ sym (w .other-at j (f .0) (omega (arith, e .1))))
       (shows-cases left right (left i) j (f .1))
 
-  pub leads-keeps : Keeps n left right s u
+  pub leads-keeps : Keeps n (choice n left right s) u
   leads-keeps i l = go (case n left right i)
     where
       go : Case n left right i → keepsOf (choice n left right s u i) (getD u i 0) ≡ true
@@ -122,10 +119,19 @@ pub record Proper (n : ℕ) (count : ℕ → ℕ) (left right : ℕ → ℕ) : T
   pub right-bound :
       (i : ℕ) → i < n → 16 ≤ right i → right i < 32 → some n (λ j. eqb (left j) (right i)) ≡ true
 
--- where there is a state w that the rule takes to s, each state u that keeps to its choices is alike where s tells the label, and is one too
+-- a variable on the right: its first position on the left
+module _ (n : ℕ) (count left right : ℕ → ℕ) (proper : Proper n count left right) where
+  pub bound-stands :
+      (i : ℕ) → i < n → 16 ≤ right i → right i < 32
+      → (first n (λ j. eqb (left j) (right i)) < n) × (left (first n (λ j. eqb (left j) (right i))) ≡ right i)
+  bound-stands i l a b =
+      let g = first-holds (λ j. eqb (left j) (right i)) n (proper .right-bound i l a b) in
+      (g .0, eqb-true _ _ (g .1))
+
+-- where there is a state w that the rule takes to s, each state u that keeps to its choices agrees with w where s tells the label, and the rule takes it to s too
 module _
     (n : ℕ) (left right : ℕ → ℕ) (s w : List ℕ) (h : leadsBy n left right w s ≡ true) (u : List ℕ)
-    (keeps : Keeps n left right s u) where
+    (keeps : Keeps n (choice n left right s) u) where
   alike-only :
       (i y : ℕ) → i < n → choice n left right s u i ≡ only y → choice n left right s w i ≡ only y → getD u i 0 ≡ getD w i 0
   alike-only i y l a b =
@@ -194,8 +200,8 @@ module _
         (i : ℕ) → i < n → 16 ≤ right i → right i < 32 → getD s i 0 ≡ getD u (first n (λ j. eqb (left j) (right i))) 0
     variable-label i l a b =
         let f = first n (λ j. eqb (left j) (right i)) in
-        let g = first-holds (λ j. eqb (left j) (right i)) n (proper .right-bound i l a b) in
-        let e : left f ≡ right i = eqb-true (left f) (right i) (g .1) in
+        let g = bound-stands n count left right proper i l a b in
+        let e : left f ≡ right i = g .1 in
         let d : some n (shows left right (left f)) ≡ true = some-intro (shows left right (left f)) n i l (shows-right left right (left f) i (sym e)) in
         made n left right w s h .variable-at i l a b ∙ sym (at-shown f (g .0) (omega arith) (omega arith) d)
 

@@ -41,13 +41,13 @@ module _ (n : ℕ) (left right : ℕ → ℕ) (u s : List ℕ) where
   unfolding leadsBy
   leads-matches h = and-true (matches n left u) _ h .0
 
-  pub leads-image :
+  leads-image :
       leadsBy n left right u s ≡ true → (i : ℕ) → i < n → getD (rewritten n left right u) i 0 ≡ getD s i 0
   unfolding leadsBy
   leads-image h i l =
       eqb-true _ _ (all-at (λ i. eqb (getD (rewritten n left right u) i 0) (getD s i 0)) n (and-true (matches n left u) _ h .1) i l)
 
-  pub leading :
+  leading :
       matches n left u ≡ true → ((i : ℕ) → i < n → getD (rewritten n left right u) i 0 ≡ getD s i 0)
       → leadsBy n left right u s ≡ true
   unfolding leadsBy

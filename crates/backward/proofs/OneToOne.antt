@@ -1,6 +1,6 @@
 -- A rule that is reversible by form takes no two states to one (`reversible-one`, `one-predecessor`); with two labels or more, any other rule does (`not-reversible`), so that the form
 -- tells exactly which rules are one to one (`reversible-exactly`). With one label there is one state only, and every rule is one to one (`one-label`).
--- The public call for reversible rules rests on this.
+-- The starred exercises on reversible rules rest on this; the code's test goes by `form-kept` and `form-term`.
 use mathlib.Core.Path.{_≡_, refl, sym, ap, _∙_}
 use mathlib.Core.Logic.{_↔_}
 use mathlib.Core.Bool.{Bool, true, false, cond, _||_}
@@ -9,46 +9,52 @@ use Prim.Native.Nat.{ℕ, _≤_, _<_}
 use native.Mathlib.Omega.{arith}
 use lib.Dec.{eqb, ltb}
 use lib.ListN.{getD}
-use borrow.Author.Tests.{eqb-true, ltb-true, ltb-false, lt-ltb, le-ltb, eq-eqb, ne-eqb}
+use borrow.Author.Tests.{ltb-true, ltb-false, lt-ltb, le-ltb, eq-eqb, ne-eqb}
 use Rattle.basics.specs.Bounded.{all, some, first}
 use Rattle.basics.specs.Lists.{tabulate}
 use Rattle.basics.proofs.Truth.{true-false}
-use Rattle.basics.proofs.Bounded.{all-at, all-fails, some-false, first-holds}
+use Rattle.basics.proofs.Bounded.{all-at, all-fails, some-false}
 use Rattle.basics.proofs.Lists.{length-tabulate, getD-tabulate, tabulate-ext}
 use Rattle.basics.proofs.Order.{same-list}
-use Rattle.blocks.specs.Terms.{termOf}
+use Rattle.blocks.specs.Terms.{termOf, isDash}
 use Rattle.blocks.specs.Layout.{positions, labels, rules, labelCount, leftOf, rightOf}
 use Rattle.blocks.specs.States.{labelled, stateOk}
 use Rattle.blocks.specs.Validity.{Valid}
 use Rattle.blocks.proofs.TermCases.{View, label, variable, dash, refused, view, is-label, is-variable, is-dash, is-refused, dash-byte}
-use Rattle.blocks.proofs.StateLaws.{labelled-length, labelled-at, labelled-intro}
+use Rattle.blocks.proofs.StateLaws.{labelled-intro, state-length, state-label}
 use Rattle.psvn.specs.Rules.{bound, given, rewritten, applies, step, leads}
 use Rattle.psvn.proofs.Matching.{Matched, matching}
 use Rattle.psvn.proofs.RunLaws.{step-length}
-use Rattle.backward.specs.Reversible.{shows, kept as keptTerm, formAt, reversible, OneToOne}
+use Rattle.backward.specs.Reversible.{shows, keptTerm, formAt, reversible, OneToOne}
+use Rattle.backward.specs.Choices.{choice}
+use Rattle.backward.proofs.Choosing.{Keeps}
 use Rattle.backward.proofs.Leading.{leadsBy, leads-by, leads-exactly}
 use Rattle.backward.proofs.ChoiceCases.{Case, kept, constant, shown, again, new, other, case}
-use Rattle.backward.proofs.Keeping.{Keeps, shows-right, shows-left, leads-keeps, at-kept, at-constant, at-shown, Proper, valid-proper}
+use Rattle.backward.proofs.Keeping.{shows-right, shows-left, leads-keeps, at-kept, at-constant, at-shown, Proper, bound-stands, valid-proper}
 
 -- the form at one position, by its terms
 module _ (n : ℕ) (left right : ℕ → ℕ) (i : ℕ) where
+  pub form-kept : isDash (termOf (right i)) ≡ true → formAt n left right i ≡ true
+  form-kept e = ap (λ (t : Bool). t || keptTerm n left right (termOf (left i))) e
+
+  pub form-term : isDash (termOf (right i)) ≡ false → formAt n left right i ≡ keptTerm n left right (termOf (left i))
+  form-term e = ap (λ (t : Bool). t || keptTerm n left right (termOf (left i))) e
+
   form-dash : right i ≡ 255 → formAt n left right i ≡ true
-  form-dash h =
-      ap (λ (t : Bool). t || keptTerm n left right (termOf (left i))) (dash-byte (right i) ∙ eq-eqb (right i) 255 h)
+  form-dash h = form-kept (dash-byte (right i) ∙ eq-eqb (right i) 255 h)
 
   module _ (h : right i ≡ 255 → ⊥) where
-    form-term : formAt n left right i ≡ keptTerm n left right (termOf (left i))
-    form-term =
-        ap (λ (t : Bool). t || keptTerm n left right (termOf (left i))) (dash-byte (right i) ∙ ne-eqb (right i) 255 h)
+    no-dash : formAt n left right i ≡ keptTerm n left right (termOf (left i))
+    no-dash = form-term (dash-byte (right i) ∙ ne-eqb (right i) 255 h)
 
     form-label : left i < 16 → formAt n left right i ≡ true
-    form-label a = form-term ∙ ap (keptTerm n left right) (is-label (left i) a)
+    form-label a = no-dash ∙ ap (keptTerm n left right) (is-label (left i) a)
 
     form-variable : 16 ≤ left i → left i < 32 → formAt n left right i ≡ some n (shows left right (left i))
-    form-variable a b = form-term ∙ ap (keptTerm n left right) (is-variable (left i) a b)
+    form-variable a b = no-dash ∙ ap (keptTerm n left right) (is-variable (left i) a b)
 
     form-other : 32 ≤ left i → formAt n left right i ≡ false
-    form-other a = form-term ∙ go (view (left i))
+    form-other a = no-dash ∙ go (view (left i))
       where
         go : View (left i) → keptTerm n left right (termOf (left i)) ≡ false
         go (label x) = absurd (omega arith)
@@ -60,7 +66,7 @@ module _ (n : ℕ) (left right : ℕ → ℕ) (i : ℕ) where
 module _
     (n : ℕ) (left right : ℕ → ℕ) (form : all n (formAt n left right) ≡ true) (s u v : List ℕ)
     (hu : leadsBy n left right u s ≡ true) (hv : leadsBy n left right v s ≡ true) where
-  keeps : Keeps n left right s u
+  keeps : Keeps n (choice n left right s) u
   keeps = leads-keeps n left right s u hu
 
   form-tells : (i : ℕ) → i < n → getD u i 0 ≡ getD v i 0
@@ -151,7 +157,7 @@ module _
           let nj : j ≡ i → ⊥ = λ z. (let y = ap left z in omega arith) in
           simp (d, e, ne-eqb k i nk, ne-eqb j i nj)
 
-  -- they have the same image: they agree at each position that does not move, and the new state shows no other one
+  -- they have the same image: they agree at each position that does not move, and the new state shows only such positions
   still :
       (k : ℕ) → k < n → (left i < 32 → left k ≡ left i → ⊥) → (32 ≤ left i → k ≡ i → ⊥)
       → getD (twin n left i 0) k 0 ≡ getD (twin n left i 1) k 0
@@ -175,8 +181,8 @@ module _
       go (label a) = rw (is-label (right k) a)
       go (variable a b) =
           let f = first n (λ j. eqb (left j) (right k)) in
-          let h = first-holds (λ j. eqb (left j) (right k)) n (proper .right-bound k l a b) in
-          let e : left f ≡ right k = eqb-true (left f) (right k) (h .1) in
+          let h = bound-stands n count left right proper k l a b in
+          let e : left f ≡ right k = h .1 in
           rw (is-variable (right k) a b)
           (still f (h .0) (λ c z. not-shown c k l (shows-right left right (left i) k (sym e ∙ z))) (λ c z. (let y = ap left z in omega arith)))
       go (dash e) = rw (is-dash (right k) e) (kept-at e)
@@ -208,7 +214,7 @@ module _ (b : List ℕ) (r : ℕ) where
       (u v : List ℕ) → stateOk b u ≡ true → stateOk b v ≡ true
       → ((k : ℕ) → k < positions b → getD u k 0 ≡ getD v k 0) → u ≡ v
   same-state u v uo vo =
-      same-list (positions b) u v (labelled-length (positions b) (labelCount b) u uo) (labelled-length (positions b) (labelCount b) v vo)
+      same-list (positions b) u v (state-length b u uo) (state-length b v vo)
 
   -- a reversible rule takes one state at most to s
   pub one-predecessor :
@@ -229,8 +235,8 @@ module _ (b : List ℕ) (r : ℕ) where
   unfolding labelCount
   one-label e u v uo vo au av s =
       same-state u v uo vo (λ k l.
-      let x = labelled-at (positions b) (labelCount b) u uo k l in
-      let y = labelled-at (positions b) (labelCount b) v vo k l in
+      let x = state-label b u uo k l in
+      let y = state-label b v vo k l in
       omega arith)
 
   module _ (va : Valid b) (lr : r < rules b) (two : 2 ≤ labels b) where

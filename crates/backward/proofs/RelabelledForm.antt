@@ -16,7 +16,7 @@ use Rattle.blocks.proofs.Accepted.{left-side, right-side, side-term}
 use Rattle.psvn.specs.Relabelling.{relabelTerm, relabelBlock}
 use Rattle.psvn.proofs.Relabelled.{positions-relabelled, left-relabelled, right-relabelled}
 use Rattle.psvn.proofs.Homomorphism.{relabel-label, relabel-other, same-variable, map-small, map-alike}
-use Rattle.backward.specs.Reversible.{shows, kept, formAt, reversible}
+use Rattle.backward.specs.Reversible.{shows, keptTerm, formAt, reversible}
 
 module _ (b : List ℕ) (v : Valid b) where
   -- a side and the relabelled side: each variable, and the dash, stand at the same positions of both
@@ -44,12 +44,12 @@ module _ (b : List ℕ) (v : Valid b) where
 
     kept-relabelled :
         (i : ℕ) → i < positions b
-        → kept (positions b) left′ right′ (termOf (relabelTerm (mapAt b i) (left i))) ≡ kept (positions b) left right (termOf (left i))
+        → keptTerm (positions b) left′ right′ (termOf (relabelTerm (mapAt b i) (left i))) ≡ keptTerm (positions b) left right (termOf (left i))
     kept-relabelled i l = go (view (left i))
       where
         go :
             View (left i)
-            → kept (positions b) left′ right′ (termOf (relabelTerm (mapAt b i) (left i))) ≡ kept (positions b) left right (termOf (left i))
+            → keptTerm (positions b) left′ right′ (termOf (relabelTerm (mapAt b i) (left i))) ≡ keptTerm (positions b) left right (termOf (left i))
         go (label a) =
             let k : left i < labelCount b i = ltb-true _ _ (rw (is-label (left i) a) at (side-term b left left-ok i l)) in
             rw (relabel-label (mapAt b i) (left i) a, is-label (mapAt b i (left i)) (map-small b v i (left i) l k), is-label (left i) a)
@@ -63,7 +63,7 @@ module _ (b : List ℕ) (v : Valid b) where
         (i : ℕ) → i < positions b → formAt (positions b) left′ right′ i ≡ formAt (positions b) left right i
     form-relabelled i l =
         ap₂ _||_ (dash-stands i l)
-        (ap (λ (t : ℕ). kept (positions b) left′ right′ (termOf t)) (left-image i l) ∙ kept-relabelled i l)
+        (ap (λ (t : ℕ). keptTerm (positions b) left′ right′ (termOf t)) (left-image i l) ∙ kept-relabelled i l)
 
   pub reversible-relabelled : (r : ℕ) → r < rules b → reversible (relabelBlock b) r ≡ reversible b r
   unfolding reversible

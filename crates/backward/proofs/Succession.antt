@@ -11,13 +11,14 @@ use native.Mathlib.Omega.{arith}
 use lib.Dec.{ltb}
 use lib.ListN.{getD}
 use borrow.Author.Tests.{eqb-true, ltb-true, ltb-false, lt-ltb, eq-eqb}
-use Rattle.basics.specs.Bounded.{all, last}
+use Rattle.basics.specs.Bounded.{last}
 use Rattle.basics.proofs.Truth.{and-true, and-intro}
 use Rattle.basics.proofs.Bounded.{all-at, all-intro, last-above, last-holds}
 use Rattle.basics.proofs.Order.{Before, trichotomy}
-use Rattle.backward.specs.Choices.{leastOf, raisedOf, risesOf, keepsOf, turnsAt, Completed, Raised}
+use Rattle.backward.specs.Choices.{leastOf, raisedOf, risesOf, keepsOf, keptTo, raisableAt, Completed, Raised}
 use Rattle.backward.specs.declared.choices.Choice.{Choice}
 use Rattle.backward.specs.declared.choices.Choice.the-variants.{Only, Any}
+use Rattle.backward.proofs.Choosing.{Keeps, Near}
 
 -- one choice
 least-keeps : (w : Choice) → keepsOf w (leastOf w) ≡ true
@@ -51,12 +52,9 @@ rises-to count Any x z h l b = lt-ltb (x + 1) count (omega arith)
 -- n positions with `count i` labels at position i, and a choice at each that goes by the labels before it
 module _
     (n : ℕ) (count : ℕ → ℕ) (choices : List ℕ → ℕ → Choice)
-    (near : (u v : List ℕ) (i : ℕ) → ((k : ℕ) → k < i → getD u k 0 ≡ getD v k 0) → choices u i ≡ choices v i)
+    (near : Near choices)
     (small :
     (u : List ℕ) (i : ℕ) → i < n → ((k : ℕ) → k < i → getD u k 0 < count k) → leastOf (choices u i) < count i) where
-  abbrev Kept : List ℕ → Type 0
-  Kept u = (i : ℕ) → i < n → keepsOf (choices u i) (getD u i 0) ≡ true
-
   abbrev Below : List ℕ → Type 0
   Below u = (k : ℕ) → k < n → getD u k 0 < count k
 
@@ -84,41 +82,41 @@ module _
 
   -- the first list of all
   module _ (e u : List ℕ) (f : Completed choices n 0 e u) where
-    pub completed-keeps : Kept u
+    pub completed-keeps : Keeps n choices u
     completed-keeps i l = least-kept u i (f .after i (omega arith) l)
 
     pub completed-below : Below u
     completed-below = least-below u 0 (λ k h l. absurd (not-suc-le-zero h)) (f .after) n (omega arith)
 
-    pub completed-least : (v : List ℕ) → Kept v → Before n v u → ⊥
+    pub completed-least : (v : List ℕ) → Keeps n choices v → Before n v u → ⊥
     completed-least v kv b =
         let x = least-lowest u v (b .place) (f .after (b .place) (omega arith) (b .within)) (kv (b .place) (b .within)) (b .agree) in
         omega (arith, b .lower)
 
-  -- a list v that keeps to the choices and comes after e can be raised to from e, where they part
-  module _ (e v : List ℕ) (kv : Kept v) (bv : Below v) (b : Before n e v) where
-    turns-there : turnsAt count choices e (b .place) ≡ true
-    turns-there =
+  -- where e and a later list v that keeps to the choices part, e can be raised
+  module _ (e v : List ℕ) (kv : Keeps n choices v) (bv : Below v) (b : Before n e v) where
+    raisable-there : raisableAt count choices e (b .place) ≡ true
+    raisable-there =
         and-intro _ _
         (all-intro (λ k. keepsOf (choices e k) (getD e k 0)) (b .place) (λ k l.
         rw (near e v k (λ j m. b .agree j (omega arith)), b .agree k l) (kv k (let x = b .within in omega arith))))
         (rises-to (count (b .place)) (choices e (b .place)) (getD e (b .place) 0) (getD v (b .place) 0) (rw (near e v (b .place) (b .agree)) (kv (b .place) (b .within))) (b .lower) (bv (b .place) (b .within)))
 
-    pub none-after : last n (turnsAt count choices e) ≡ 0 → ⊥
+    pub none-after : last n (raisableAt count choices e) ≡ 0 → ⊥
     none-after h =
-        let x = last-above (turnsAt count choices e) n (b .place) (b .within) turns-there in
+        let x = last-above (raisableAt count choices e) n (b .place) (b .within) raisable-there in
         omega arith
 
   -- e raised at the last position where that can be done
   module _
-      (e u : List ℕ) (i : ℕ) (be : Below e) (h : last n (turnsAt count choices e) ≡ suc i)
+      (e u : List ℕ) (i : ℕ) (be : Below e) (h : last n (raisableAt count choices e) ≡ suc i)
       (t : Raised choices n i e u) where
     within : i < n
-    within = last-holds (turnsAt count choices e) n i h .0
+    within = last-holds (raisableAt count choices e) n i h .0
 
-    turns : (all i (λ k. keepsOf (choices e k) (getD e k 0)) ≡ true) × (risesOf (count i) (choices e i) (getD e i 0) ≡ true)
-    turns =
-        and-true (all i (λ k. keepsOf (choices e k) (getD e k 0))) _ (last-holds (turnsAt count choices e) n i h .1)
+    raisable : (keptTo choices e i ≡ true) × (risesOf (count i) (choices e i) (getD e i 0) ≡ true)
+    raisable =
+        and-true (keptTo choices e i) _ (last-holds (raisableAt count choices e) n i h .1)
 
     pub raised-above : Before n e u
     raised-above =
@@ -126,10 +124,10 @@ module _
           place = i;
           within = within;
           agree = λ k l. sym (t .before k l);
-          lower = rw (t .here) (raised-higher (count i) (choices e i) (getD e i 0) (turns .1));
+          lower = rw (t .here) (raised-higher (count i) (choices e i) (getD e i 0) (raisable .1));
         }
 
-    pub raised-keeps : Kept u
+    pub raised-keeps : Keeps n choices u
     raised-keeps k l = go (trichotomy k i)
       where
         here : keepsOf (choices u i) (getD u i 0) ≡ true
@@ -138,7 +136,7 @@ module _
         go : (k < i) ⊎ ((k ≡ i) ⊎ (i < k)) → keepsOf (choices u k) (getD u k 0) ≡ true
         go (inl a) =
             rw (near u e k (λ j m. t .before j (omega arith)), t .before k a)
-            (all-at (λ k. keepsOf (choices e k) (getD e k 0)) i (turns .0) k a)
+            (all-at (λ k. keepsOf (choices e k) (getD e k 0)) i (raisable .0) k a)
         go (inr (inl q)) = subst (λ (j : ℕ). keepsOf (choices u j) (getD u j 0) ≡ true) (sym q) here
         go (inr (inr a)) = least-kept u k (t .after k a l)
 
@@ -148,7 +146,7 @@ module _
         here : getD u i 0 < count i
         here =
             rw (t .here)
-            (raised-small (count i) (choices e i) (getD e i 0) (turns .1) (small e i within (λ j m. be j (let x = within in omega arith))))
+            (raised-small (count i) (choices e i) (getD e i 0) (raisable .1) (small e i within (λ j m. be j (let x = within in omega arith))))
 
         front : (k : ℕ) → k < suc i → k < n → getD u k 0 < count k
         front k a l =
@@ -156,11 +154,11 @@ module _
             (eq-or-lt-of-le (le-of-suc-le-suc a))
 
     -- no list v that keeps to the choices lies between e and u: b says where e and v part, c where v and u do
-    module _ (v : List ℕ) (kv : Kept v) (bv : Below v) (b : Before n e v) (c : Before n v u) where
+    module _ (v : List ℕ) (kv : Keeps n choices v) (bv : Below v) (b : Before n e v) (c : Before n v u) where
       reach : b .place < suc i
       reach =
           subst (λ (m : ℕ). b .place < m) h
-          (last-above (turnsAt count choices e) n (b .place) (b .within) (turns-there e v kv bv b))
+          (last-above (raisableAt count choices e) n (b .place) (b .within) (raisable-there e v kv bv b))
 
       -- e and v part before position i
       early : b .place < i → (c .place < b .place) ⊎ ((c .place ≡ b .place) ⊎ (b .place < c .place)) → ⊥

@@ -5,9 +5,10 @@ use Prim.Native.Nat.{ℕ, suc, _+_, _≤_, _<_}
 use mathlib.Core.Bool.{Bool, true, cond, _&&_}
 use mathlib.Core.List.{List}
 use lib.Dec.{ltb, eqb}
-use lib.ListN.{getD}
+use lib.ListN.{length, getD}
 use Rattle.basics.specs.Bounded.{all, first}
 use Rattle.blocks.specs.Terms.{termOf, isDash}
+use Rattle.blocks.specs.Layout.{sideAt}
 use Rattle.blocks.specs.declared.terms.Term.{Term}
 use Rattle.blocks.specs.declared.terms.Term.the-variants.{Label, Variable, Dash, Refused}
 use Rattle.backward.specs.Reversible.{shows}
@@ -35,6 +36,10 @@ unfoldable pub choice : ℕ → (ℕ → ℕ) → (ℕ → ℕ) → List ℕ →
 choice n left right s u i =
     cond (isDash (termOf (right i))) (only (getD s i 0)) (termChoice n left right s u i (termOf (left i)))
 
+-- the choices of a predecessor of s, where the sides of the rule begin at `left` and `right` in the block
+abbrev pub choicesAt : List ℕ → ℕ → ℕ → List ℕ → List ℕ → ℕ → Choice
+choicesAt b left right s = choice (length s) (sideAt b left) (sideAt b right) s
+
 -- the least label that may stand there; the least above x; whether there is one above x, below the count; whether x may stand there
 abbrev pub leastOf : Choice → ℕ
 leastOf (Only label) = label .0
@@ -52,10 +57,13 @@ abbrev pub keepsOf : Choice → ℕ → Bool
 keepsOf (Only label) x = eqb x (label .0)
 keepsOf Any x = true
 
--- the labels of e before position i may stand where they do, and the one at i can be raised
-abbrev pub turnsAt : (ℕ → ℕ) → (List ℕ → ℕ → Choice) → List ℕ → ℕ → Bool
-turnsAt count choices e i =
-    all i (λ k. keepsOf (choices e k) (getD e k 0)) && risesOf (count i) (choices e i) (getD e i 0)
+-- the labels of e before position m may stand where they do
+abbrev pub keptTo : (List ℕ → ℕ → Choice) → List ℕ → ℕ → Bool
+keptTo choices e m = all m (λ k. keepsOf (choices e k) (getD e k 0))
+
+-- they do before position i, and the label there can be raised
+abbrev pub raisableAt : (ℕ → ℕ) → (List ℕ → ℕ → Choice) → List ℕ → ℕ → Bool
+raisableAt count choices e i = keptTo choices e i && risesOf (count i) (choices e i) (getD e i 0)
 
 -- u begins as e does, and goes on from position `from` with the least labels
 pub record Completed (choices : List ℕ → ℕ → Choice) (n from : ℕ) (e u : List ℕ) : Type 0 where

@@ -1,4 +1,4 @@
--- Reversible by form (document 01): `reversible`; and what it is to tell of a rule, that no two states to which it applies have the same image: `OneToOne`.
+-- Reversible by form (document 01): `reversible`; and what this form shows of a rule: no two states to which it applies have the same image (`OneToOne`).
 -- The public call for it, and the theorem that the two are the same for two labels or more, are stated with these.
 use mathlib.Core.Path.{_≡_}
 use Prim.Native.Nat.{ℕ}
@@ -18,15 +18,15 @@ abbrev pub shows : (ℕ → ℕ) → (ℕ → ℕ) → ℕ → ℕ → Bool
 shows left right v j = eqb (right j) v || (eqb (left j) v && isDash (termOf (right j)))
 
 -- a left term whose label is not lost: a constant, or a variable that also stands on the right or at a left position whose right term is a dash
-abbrev pub kept : ℕ → (ℕ → ℕ) → (ℕ → ℕ) → Term → Bool
-kept n left right (Label label) = true
-kept n left right (Variable v) = some n (shows left right v)
-kept n left right Dash = false
-kept n left right Refused = false
+abbrev pub keptTerm : ℕ → (ℕ → ℕ) → (ℕ → ℕ) → Term → Bool
+keptTerm n left right (Label label) = true
+keptTerm n left right (Variable v) = some n (shows left right v)
+keptTerm n left right Dash = false
+keptTerm n left right Refused = false
 
 -- at position i the right term is a dash, or the left term's label is not lost
 abbrev pub formAt : ℕ → (ℕ → ℕ) → (ℕ → ℕ) → ℕ → Bool
-formAt n left right i = isDash (termOf (right i)) || kept n left right (termOf (left i))
+formAt n left right i = isDash (termOf (right i)) || keptTerm n left right (termOf (left i))
 
 unfoldable pub reversible : List ℕ → ℕ → Bool
 reversible b r = all (positions b) (formAt (positions b) (leftOf b r) (rightOf b r))

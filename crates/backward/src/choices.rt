@@ -5,7 +5,7 @@ ghost use lib.ListN.{length};
 ghost use Rattle.basics.specs.Bounded.{first};
 ghost use Rattle.blocks.specs.Layout.{sideAt};
 ghost use Rattle.backward.specs.Reversible.{shows};
-ghost use Rattle.backward.specs.Choices.{variableChoice, choice, leastOf, raisedOf, risesOf, keepsOf};
+ghost use Rattle.backward.specs.Choices.{variableChoice, choicesAt, leastOf, raisedOf, risesOf, keepsOf};
 use basics::and;
 use basics::wide;
 use blocks::labels::ConcreteLabel;
@@ -82,7 +82,7 @@ pub fn choice_at(
     i: usize,
 ) -> Choice
     requires { ⌜ (left + length (now state) ≤ length (now block)) × (right + length (now state) ≤ length (now block)) × (length (now begun) ≡ length (now state)) × (i < length (now state)) ⌝ }
-    ensures { λ r. ⌜ r ≡ choice (length (now (state .entry))) (sideAt (now (block .entry)) left) (sideAt (now (block .entry)) right) (now (state .entry)) (now (begun .entry)) i ⌝ }
+    ensures { λ r. ⌜ r ≡ choicesAt (now (block .entry)) left right (now (state .entry)) (now (begun .entry)) i ⌝ }
 {
     if is_dash(block[right + i]) {
         return Choice::Only(ConcreteLabel(state[i]));

@@ -4,11 +4,10 @@ ghost use mathlib.Core.Bool.{true};
 ghost use Prim.Native.Nat.{_+_, _≤_, _<_};
 ghost use lib.ListN.{length, getD};
 ghost use Rattle.basics.specs.Bounded.{last};
-ghost use Rattle.blocks.specs.Layout.{positions, rules, labelCount, sideAt};
+ghost use Rattle.blocks.specs.Layout.{positions, rules, labelCount};
 ghost use Rattle.blocks.specs.States.{stateOk};
 ghost use Rattle.blocks.specs.Validity.{Headed, Sized, Valid};
-ghost use Rattle.psvn.specs.Rules.{leads};
-ghost use Rattle.backward.specs.Choices.{choice, turnsAt, Completed, Raised};
+ghost use Rattle.backward.specs.Choices.{choicesAt, raisableAt, Completed, Raised};
 ghost use Rattle.backward.specs.Predecessors.{from-first, after, stepBack, settled, Answered};
 use super::choices::choice_at;
 use super::choices::keeps;
@@ -29,7 +28,7 @@ fn complete(
     from: usize,
 )
     requires { ⌜ (left + length (now state) ≤ length (now block)) × (right + length (now state) ≤ length (now block)) × (length (now candidate) ≡ length (now state)) × (from ≤ length (now state)) ⌝ }
-    ensures { λ _. ⌜ Completed (choice (length (now (state .entry))) (sideAt (now (block .entry)) left) (sideAt (now (block .entry)) right) (now (state .entry))) (length (now (state .entry))) from (now (candidate .entry)) (now (candidate .exit)) ⌝ }
+    ensures { λ _. ⌜ Completed (choicesAt (now (block .entry)) left right (now (state .entry))) (length (now (state .entry))) from (now (candidate .entry)) (now (candidate .exit)) ⌝ }
 {
     let n = state.len();
     let mut i = from;
@@ -43,7 +42,7 @@ fn complete(
 // One more than the last position that can be raised, with the labels of `earlier` before it kept; or 0.
 fn pivot(block: &[u8], left: usize, right: usize, state: &[u8], earlier: &[u8]) -> usize
     requires { ⌜ Headed (now block) × (length (now state) ≡ positions (now block)) × (left + length (now state) ≤ length (now block)) × (right + length (now state) ≤ length (now block)) × (length (now earlier) ≡ length (now state)) ⌝ }
-    ensures { λ r. ⌜ r ≡ last (length (now (state .entry))) (turnsAt (labelCount (now (block .entry))) (choice (length (now (state .entry))) (sideAt (now (block .entry)) left) (sideAt (now (block .entry)) right) (now (state .entry))) (now (earlier .entry))) ⌝ }
+    ensures { λ r. ⌜ r ≡ last (length (now (state .entry))) (raisableAt (labelCount (now (block .entry))) (choicesAt (now (block .entry)) left right (now (state .entry))) (now (earlier .entry))) ⌝ }
 {
     let n = state.len();
     let mut best = 0;
@@ -73,7 +72,7 @@ fn raise(
     i: usize,
 )
     requires { ⌜ (left + length (now state) ≤ length (now block)) × (right + length (now state) ≤ length (now block)) × (length (now earlier) ≡ length (now state)) × (length (now candidate) ≡ length (now state)) × (i < length (now state)) × (getD (now earlier) i 0 < 255) ⌝ }
-    ensures { λ _. ⌜ Raised (choice (length (now (state .entry))) (sideAt (now (block .entry)) left) (sideAt (now (block .entry)) right) (now (state .entry))) (length (now (state .entry))) i (now (earlier .entry)) (now (candidate .exit)) ⌝ }
+    ensures { λ _. ⌜ Raised (choicesAt (now (block .entry)) left right (now (state .entry))) (length (now (state .entry))) i (now (earlier .entry)) (now (candidate .exit)) ⌝ }
 {
     copy(earlier, i, candidate);
     let choice = choice_at(block, left, right, state, earlier, i);

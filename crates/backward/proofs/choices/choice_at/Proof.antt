@@ -1,14 +1,23 @@
 -- `backward::choices::choice_at` meets its contract.
 -- By whether the right term is a dash, then by the left term decoded.
-use mathlib.Core.Path.{sym, ap, _∙_}
+use mathlib.Core.Path.{_≡_, sym, ap, _∙_}
+use Prim.Native.Nat.{ℕ}
 use lib.ListN.{length}
 use denote.Ref.{now}
 use borrow.Author.Needs.{needs}
 use Rattle.blocks.specs.Layout.{sideAt}
-use Rattle.backward.specs.Choices.{termChoice}
+use Rattle.blocks.specs.declared.terms.Term.{Term}
+use Rattle.backward.specs.Choices.{termChoice, choicesAt}
 use Rattle.backward.proofs.ChoiceCases.{choice-kept, choice-term}
 use Rattle.backward.proofs.choices.choice_at.Statement.{statement}
 use Rattle.backward.proofs.choices.choice_at.Tie as tie
+
+-- the sides of the rule
+abbrev left-of : tie.Start → ℕ → ℕ
+left-of s = sideAt (now (s .args .block)) (s .args .left)
+
+abbrev right-of : tie.Start → ℕ → ℕ
+right-of s = sideAt (now (s .args .block)) (s .args .right)
 
 add-is-dash : tie.Need-add-is-dash
 add-is-dash c = search needs
@@ -24,8 +33,9 @@ shared-slice-read-t15 c = search needs
 
 returns : tie.Need-returns
 returns c =
-    let a = c .before .before .before .before .before .before .before .args in
-    sym (choice-kept (length (now (a .state))) (sideAt (now (a .block)) (a .left)) (sideAt (now (a .block)) (a .right)) (now (a .state)) (now (a .begun)) (a .i) (sym (c .before .before .is-dash .ensures) ∙ c .before .if1 .taken))
+    let s = c .before .before .before .before .before .before .before in
+    let a = s .args in
+    sym (choice-kept (length (now (a .state))) (left-of s) (right-of s) (now (a .state)) (now (a .begun)) (a .i) (sym (c .before .before .is-dash .ensures) ∙ c .before .if1 .taken))
 
 add-decode : tie.Need-add-decode
 add-decode c = search needs
@@ -35,6 +45,16 @@ shared-slice-read-decode c = search needs
 
 decode-requires : tie.Need-decode-requires
 decode-requires c κs = search needs
+
+-- where the right term is no dash, the left term decides
+left-term :
+    (c : tie.After-decode) {term : Term} → c .decode .result ≡ term
+    → termChoice (length (now (c .before .before .before .before .before .before .before .before .args .state))) (left-of (c .before .before .before .before .before .before .before .before)) (right-of (c .before .before .before .before .before .before .before .before)) (now (c .before .before .before .before .before .before .before .before .args .state)) (now (c .before .before .before .before .before .before .before .before .args .begun)) (c .before .before .before .before .before .before .before .before .args .i) term ≡ choicesAt (now (c .before .before .before .before .before .before .before .before .args .block)) (c .before .before .before .before .before .before .before .before .args .left) (c .before .before .before .before .before .before .before .before .args .right) (now (c .before .before .before .before .before .before .before .before .args .state)) (now (c .before .before .before .before .before .before .before .before .args .begun)) (c .before .before .before .before .before .before .before .before .args .i)
+left-term c e =
+    let s = c .before .before .before .before .before .before .before .before in
+    let a = s .args in
+    ap (termChoice (length (now (a .state))) (left-of s) (right-of s) (now (a .state)) (now (a .begun)) (a .i)) (sym e ∙ c .decode .ensures)
+    ∙ sym (choice-term (length (now (a .state))) (left-of s) (right-of s) (now (a .state)) (now (a .begun)) (a .i) (sym (c .before .before .before .is-dash .ensures) ∙ c .before .before .if1 .left))
 
 enum-known-term : tie.Need-enum-known-term
 enum-known-term c = search needs
@@ -52,28 +72,16 @@ enum-told-2 : tie.Need-enum-told-2
 enum-told-2 c = search needs
 
 returns-2 : tie.Need-returns-2
-returns-2 c =
-    let a = c .before .before .before .before .before .before .before .before .before .before .before .args in
-    ap (termChoice (length (now (a .state))) (sideAt (now (a .block)) (a .left)) (sideAt (now (a .block)) (a .right)) (now (a .state)) (now (a .begun)) (a .i)) (sym (c .before .term .given .1) ∙ c .before .before .before .decode .ensures)
-    ∙ sym (choice-term (length (now (a .state))) (sideAt (now (a .block)) (a .left)) (sideAt (now (a .block)) (a .right)) (now (a .state)) (now (a .begun)) (a .i) (sym (c .before .before .before .before .before .before .is-dash .ensures) ∙ c .before .before .before .before .before .if1 .left))
+returns-2 c = left-term (c .before .before .before) (c .before .term .given .1)
 
 returns-3 : tie.Need-returns-3
-returns-3 c =
-    let a = c .before .before .before .before .before .before .before .before .before .before .before .before .args in
-    c .variable-choice .ensures ∙ ap (termChoice (length (now (a .state))) (sideAt (now (a .block)) (a .left)) (sideAt (now (a .block)) (a .right)) (now (a .state)) (now (a .begun)) (a .i)) (sym (c .before .before .term2 .given .1) ∙ c .before .before .before .before .decode .ensures)
-    ∙ sym (choice-term (length (now (a .state))) (sideAt (now (a .block)) (a .left)) (sideAt (now (a .block)) (a .right)) (now (a .state)) (now (a .begun)) (a .i) (sym (c .before .before .before .before .before .before .before .is-dash .ensures) ∙ c .before .before .before .before .before .before .if1 .left))
+returns-3 c = c .variable-choice .ensures ∙ left-term (c .before .before .before .before) (c .before .before .term2 .given .1)
 
 returns-4 : tie.Need-returns-4
-returns-4 c =
-    let a = c .before .before .before .before .before .before .before .before .before .before .args in
-    ap (termChoice (length (now (a .state))) (sideAt (now (a .block)) (a .left)) (sideAt (now (a .block)) (a .right)) (now (a .state)) (now (a .begun)) (a .i)) (sym (c .enum-told .given .1) ∙ c .before .before .decode .ensures)
-    ∙ sym (choice-term (length (now (a .state))) (sideAt (now (a .block)) (a .left)) (sideAt (now (a .block)) (a .right)) (now (a .state)) (now (a .begun)) (a .i) (sym (c .before .before .before .before .before .is-dash .ensures) ∙ c .before .before .before .before .if1 .left))
+returns-4 c = left-term (c .before .before) (c .enum-told .given .1)
 
 returns-5 : tie.Need-returns-5
-returns-5 c =
-    let a = c .before .before .before .before .before .before .before .before .before .before .args in
-    ap (termChoice (length (now (a .state))) (sideAt (now (a .block)) (a .left)) (sideAt (now (a .block)) (a .right)) (now (a .state)) (now (a .begun)) (a .i)) (sym (c .enum-told2 .given .1) ∙ c .before .before .decode .ensures)
-    ∙ sym (choice-term (length (now (a .state))) (sideAt (now (a .block)) (a .left)) (sideAt (now (a .block)) (a .right)) (now (a .state)) (now (a .begun)) (a .i) (sym (c .before .before .before .before .before .is-dash .ensures) ∙ c .before .before .before .before .if1 .left))
+returns-5 c = left-term (c .before .before) (c .enum-told2 .given .1)
 
 pub choice-at-spec : {M : Type 1} → statement M
 choice-at-spec =

@@ -1,16 +1,13 @@
 -- `backward::predecessors::complete` meets its contract.
 -- The loop's invariant: the positions from `from` on that were passed hold the least labels, the others what they held.
 use mathlib.Core.Path.{_≡_, refl, ap, _∙_}
-use mathlib.Core.List.{List}
 use Prim.Native.Nat.{ℕ, _≤_, _<_, _-_}
 use native.Mathlib.Omega.{arith}
 use lib.ListN.{length, getD, length-set}
 use denote.Ref.{now}
 use borrow.Author.Needs.{needs}
 use Rattle.blocks.specs.Layout.{sideAt}
-use Rattle.backward.specs.Choices.{choice, leastOf}
-use Rattle.backward.specs.Predecessors.{after}
-use Rattle.backward.specs.declared.choices.Choice.{Choice}
+use Rattle.backward.specs.Choices.{choicesAt, leastOf}
 use Rattle.backward.proofs.ChoiceCases.{choice-local}
 use Rattle.backward.proofs.Completing.{complete-before, complete-after}
 use Rattle.backward.proofs.predecessors.complete.Statement.{statement}
@@ -20,16 +17,10 @@ abbrev Inv-loop : tie.InvT-loop
 Inv-loop block left right state candidate₀ from n i₀ candidate i =
     (n ≡ length state) × (from ≤ i) × (i ≤ n) × (length candidate ≡ length candidate₀)
     × ((k : ℕ) → k < from → getD candidate k 0 ≡ getD candidate₀ k 0)
-    × ((k : ℕ) → from ≤ k → k < i → getD candidate k 0 ≡ leastOf (choice (length state) (sideAt block left) (sideAt block right) state candidate k))
+    × ((k : ℕ) → from ≤ k → k < i → getD candidate k 0 ≡ leastOf (choicesAt block left right state candidate k))
 
 abbrev μ-loop : tie.MeasureT-loop
 μ-loop block left right state candidate₀ from n i₀ candidate i = n - i
-
--- the choices of a predecessor
-abbrev choices-of : tie.Start Inv-loop μ-loop → List ℕ → ℕ → Choice
-choices-of s =
-    let a = s .args in
-    choice (length (now (a .state))) (sideAt (now (a .block)) (a .left)) (sideAt (now (a .block)) (a .right)) (now (a .state))
 
 loop-holds : tie.Need-loop-holds Inv-loop μ-loop
 loop-holds c = (search needs, search needs, search needs, refl, λ k l. refl, λ k a l. absurd (omega arith))
@@ -54,11 +45,11 @@ loop-again c =
     let a = c .before .before .before .before .before .before .before .before .args in
     let i = c .before .before .before .before .loop .i in
     let u = c .before .before .before .before .loop .candidate in
-    let w = choices-of (c .before .before .before .before .before .before .before .before) in
+    let w = choicesAt (now (a .block)) (a .left) (a .right) (now (a .state)) in
     let near = choice-local (length (now (a .state))) (sideAt (now (a .block)) (a .left)) (sideAt (now (a .block)) (a .right)) (now (a .state)) in
     let inv = c .before .before .before .before .loop .inv in
     let l : c .before .before .before .before .loop .i < length (c .before .before .before .before .loop .candidate) = omega arith in
-    let e : c .least .result ≡ leastOf (choices-of (c .before .before .before .before .before .before .before .before) (c .before .before .before .before .loop .candidate) (c .before .before .before .before .loop .i)) = c .least .ensures ∙ ap leastOf (c .before .choice-at .ensures) in (
+    let e : c .least .result ≡ leastOf (w u i) = c .least .ensures ∙ ap leastOf (c .before .choice-at .ensures) in (
       search needs,
       omega arith,
       omega arith,
@@ -72,7 +63,6 @@ same-length c = search needs
 
 returns : tie.Need-returns Inv-loop μ-loop
 returns c =
-    let a = c .before .before .before .before .before .args in
     let e : c .before .loop .i ≡ length (now (c .before .before .before .before .before .args .state)) = omega arith in
     record { before = c .before .loop .inv .4; after = rw e at (c .before .loop .inv .5) }
 

@@ -5,18 +5,17 @@ use native.Mathlib.Omega.{arith}
 use lib.ListN.{length}
 use denote.Ref.{now}
 use borrow.Author.Needs.{needs}
-use Rattle.basics.specs.Bounded.{last}
-use Rattle.blocks.specs.Layout.{positions, labelCount}
+use Rattle.blocks.specs.Layout.{positions}
 use Rattle.blocks.proofs.Offsets.{left-inside, right-inside}
-use Rattle.blocks.proofs.StateLaws.{labelled-length}
+use Rattle.blocks.proofs.StateLaws.{state-length}
 use Rattle.backward.specs.Predecessors.{Predecessor, Answered}
 use Rattle.backward.proofs.Candidates.{first-settles}
 use Rattle.backward.proofs.predecessors.first_in.Statement.{statement}
 use Rattle.backward.proofs.predecessors.first_in.Tie as tie
 
--- block, rule and state are accepted, and the state has n labels
+-- the state has n labels
 long : (s : tie.Start) → length (now (s .args .state)) ≡ positions (now (s .args .block))
-long s = labelled-length (positions (now (s .args .block))) (labelCount (now (s .args .block))) (now (s .args .state)) (s .pre .2)
+long s = state-length (now (s .args .block)) (now (s .args .state)) (s .pre .2)
 
 left-at-requires : tie.Need-left-at-requires
 left-at-requires c κs = search needs
@@ -51,7 +50,7 @@ returns c =
     let a = c .before .before .before .before .before .before .before .before .before .before .before .before .before .before .before .args in
     let h = c .before .before .before .before .before .before .before .before .before .before .before .before .before .before .before .pre in
     let u = c .before .before .before .before .before .before .before .complete .last .1 .1 .1 .1 .0 in
-    let settles = first-settles (now (a .block)) (h .0) (a .r) (h .1) (now (a .state)) (h .2) (length (now (a .state))) _ _ (long (c .before .before .before .before .before .before .before .before .before .before .before .before .before .before .before)) (c .before .before .before .before .before .before .before .before .before .before .left-at .ensures .0) (c .before .before .before .before .before .before .before .before .before .right-at .ensures .0) (now (a .candidate)) u (c .before .before .before .before .before .before .before .complete .kept .1 .1 .1 .1 .0 ∙ h .3 ∙ sym (long (c .before .before .before .before .before .before .before .before .before .before .before .before .before .before .before))) (c .before .before .before .before .before .before .before .complete .ensures) in
+    let settles = first-settles (now (a .block)) (h .0) (a .r) (h .1) (now (a .state)) (h .2) _ _ (c .before .before .before .before .before .before .before .before .before .before .left-at .ensures .0) (c .before .before .before .before .before .before .before .before .before .right-at .ensures .0) (now (a .candidate)) u (c .before .before .before .before .before .before .before .complete .kept .1 .1 .1 .1 .0 ∙ h .3 ∙ sym (long (c .before .before .before .before .before .before .before .before .before .before .before .before .before .before .before))) (c .before .before .before .before .before .before .before .complete .ensures) in
     subst (λ (next : Predecessor). Answered next (c .before .before .settle .result) (now (a .out)) (c .before .before .settle .last .1 .1 .1 .1 .0)) (sym settles) (c .before .before .settle .ensures)
 
 pub first-in-spec : {M : Type 1} → statement M

@@ -8,21 +8,21 @@ use denote.Ref.{now}
 use borrow.Author.Needs.{needs}
 use Rattle.basics.specs.Bounded.{last}
 use Rattle.basics.proofs.Bounded.{last-holds}
-use Rattle.blocks.specs.Layout.{positions, labelCount, sideAt}
+use Rattle.blocks.specs.Layout.{positions, labelCount}
 use Rattle.blocks.proofs.Offsets.{left-inside, right-inside}
-use Rattle.blocks.proofs.StateLaws.{labelled-length, label-below}
-use Rattle.backward.specs.Choices.{choice, turnsAt}
+use Rattle.blocks.proofs.StateLaws.{state-length, label-below}
+use Rattle.backward.specs.Choices.{choicesAt, raisableAt}
 use Rattle.backward.specs.Predecessors.{Predecessor, Answered}
 use Rattle.backward.proofs.Candidates.{next-settles, next-none}
 use Rattle.backward.proofs.predecessors.next_in.Statement.{statement}
 use Rattle.backward.proofs.predecessors.next_in.Tie as tie
 
--- block, rule and state are accepted, and the state has n labels
+-- the state has n labels
 long : (s : tie.Start) → length (now (s .args .state)) ≡ positions (now (s .args .block))
-long s = labelled-length (positions (now (s .args .block))) (labelCount (now (s .args .block))) (now (s .args .state)) (s .pre .2)
+long s = state-length (now (s .args .block)) (now (s .args .state)) (s .pre .2)
 
 earlier-long : (s : tie.Start) → length (now (s .args .earlier)) ≡ positions (now (s .args .block))
-earlier-long s = labelled-length (positions (now (s .args .block))) (labelCount (now (s .args .block))) (now (s .args .earlier)) (s .pre .3)
+earlier-long s = state-length (now (s .args .block)) (now (s .args .earlier)) (s .pre .3)
 
 left-at-requires : tie.Need-left-at-requires
 left-at-requires c κs = search needs
@@ -43,14 +43,14 @@ pivot-requires c κs =
     )
 
 -- the last position that can be raised
-last-turn : (c : tie.After-raise-arg) → last (length (now (c .before .before .before .before .before .before .before .before .before .before .args .state))) (turnsAt (labelCount (now (c .before .before .before .before .before .before .before .before .before .before .args .block))) (choice (length (now (c .before .before .before .before .before .before .before .before .before .before .args .state))) (sideAt (now (c .before .before .before .before .before .before .before .before .before .before .args .block)) (c .before .before .before .before .left-at .result)) (sideAt (now (c .before .before .before .before .before .before .before .before .before .before .args .block)) (c .before .before .before .right-at .result)) (now (c .before .before .before .before .before .before .before .before .before .before .args .state))) (now (c .before .before .before .before .before .before .before .before .before .before .args .earlier))) ≡ suc (c .before .before .pivot .result - 1)
-last-turn c = sym (c .before .before .pivot .ensures) ∙ omega (arith, c .before .if1 .left)
+last-raisable : (c : tie.After-raise-arg) → last (length (now (c .before .before .before .before .before .before .before .before .before .before .args .state))) (raisableAt (labelCount (now (c .before .before .before .before .before .before .before .before .before .before .args .block))) (choicesAt (now (c .before .before .before .before .before .before .before .before .before .before .args .block)) (c .before .before .before .before .left-at .result) (c .before .before .before .right-at .result) (now (c .before .before .before .before .before .before .before .before .before .before .args .state))) (now (c .before .before .before .before .before .before .before .before .before .before .args .earlier))) ≡ suc (c .before .before .pivot .result - 1)
+last-raisable c = sym (c .before .before .pivot .ensures) ∙ omega (arith, c .before .if1 .left)
 
 returns : tie.Need-returns
 returns c =
     let a = c .before .before .before .before .before .before .before .before .before .args in
     let h = c .before .before .before .before .before .before .before .before .before .pre in
-    let none = next-none (now (a .block)) (h .0) (a .r) (h .1) (now (a .state)) (h .2) (length (now (a .state))) _ _ (long (c .before .before .before .before .before .before .before .before .before)) (c .before .before .before .left-at .ensures .0) (c .before .before .right-at .ensures .0) (now (a .earlier)) (h .3) (sym (c .before .pivot .ensures) ∙ c .if1 .taken) in
+    let none = next-none (now (a .block)) (h .0) (a .r) (h .1) (now (a .state)) (h .2) _ _ (c .before .before .before .left-at .ensures .0) (c .before .before .right-at .ensures .0) (now (a .earlier)) (h .3) (sym (c .before .pivot .ensures) ∙ c .if1 .taken) in
     rw none (refl, refl)
 
 sub-raise : tie.Need-sub-raise
@@ -62,7 +62,7 @@ raise-requires c κs =
     let h = c .before .before .before .before .before .before .before .before .before .before .pre in
     let e = long (c .before .before .before .before .before .before .before .before .before .before) in
     let b = now (a .block) in
-    let l = last-holds _ (length (now (a .state))) (c .before .before .pivot .result - 1) (last-turn c) .0 in
+    let l = last-holds _ (length (now (a .state))) (c .before .before .pivot .result - 1) (last-raisable c) .0 in
     let x = label-below b (h .0 .sized .head) (now (a .earlier)) (h .3) (c .before .before .pivot .result - 1) (omega arith) in (
       omega (arith, left-inside b (h .0 .sized) (a .r) (h .1), c .before .before .before .before .left-at .ensures .0),
       omega (arith, right-inside b (h .0 .sized) (a .r) (h .1), c .before .before .before .right-at .ensures .0),
@@ -88,7 +88,7 @@ returns-2 c =
     let a = c .before .before .before .before .before .before .before .before .before .before .before .before .before .before .before .before .before .before .args in
     let h = c .before .before .before .before .before .before .before .before .before .before .before .before .before .before .before .before .before .before .pre in
     let u = c .before .before .before .before .before .before .before .raise .last .1 .1 .1 .1 .1 .0 in
-    let settles = next-settles (now (a .block)) (h .0) (a .r) (h .1) (now (a .state)) (h .2) (length (now (a .state))) _ _ (long (c .before .before .before .before .before .before .before .before .before .before .before .before .before .before .before .before .before .before)) (c .before .before .before .before .before .before .before .before .before .before .before .before .left-at .ensures .0) (c .before .before .before .before .before .before .before .before .before .before .before .right-at .ensures .0) (now (a .earlier)) (h .3) u _ (c .before .before .before .before .before .before .before .raise .kept .1 .1 .1 .1 .1 .0 ∙ h .4 ∙ sym (long (c .before .before .before .before .before .before .before .before .before .before .before .before .before .before .before .before .before .before))) (last-turn (c .before .before .before .before .before .before .before .before)) (c .before .before .before .before .before .before .before .raise .ensures) in
+    let settles = next-settles (now (a .block)) (h .0) (a .r) (h .1) (now (a .state)) (h .2) _ _ (c .before .before .before .before .before .before .before .before .before .before .before .before .left-at .ensures .0) (c .before .before .before .before .before .before .before .before .before .before .before .right-at .ensures .0) (now (a .earlier)) (h .3) u _ (c .before .before .before .before .before .before .before .raise .kept .1 .1 .1 .1 .1 .0 ∙ h .4 ∙ sym (long (c .before .before .before .before .before .before .before .before .before .before .before .before .before .before .before .before .before .before))) (last-raisable (c .before .before .before .before .before .before .before .before)) (c .before .before .before .before .before .before .before .raise .ensures) in
     subst (λ (next : Predecessor). Answered next (c .before .before .settle .result) (now (a .out)) (c .before .before .settle .last .1 .1 .1 .1 .0)) (sym settles) (c .before .before .settle .ensures)
 
 pub next-in-spec : {M : Type 1} → statement M

@@ -7,14 +7,14 @@ use lib.ListN.{length}
 use lib.Seq.{length-take-le}
 use denote.Ref.{now}
 use borrow.Author.Needs.{needs}
-use Rattle.blocks.specs.Layout.{positions, labelCount}
-use Rattle.blocks.proofs.StateLaws.{labelled-length}
+use Rattle.blocks.specs.Layout.{positions}
+use Rattle.blocks.proofs.StateLaws.{state-length}
 use Rattle.backward.proofs.predecessors.next_predecessor.Statement.{statement}
 use Rattle.backward.proofs.predecessors.next_predecessor.Tie as tie
 
--- block, rule and state are accepted, and the state has n labels
+-- the state has n labels
 long : (s : tie.Start) → length (now (s .args .state)) ≡ positions (now (s .args .block))
-long s = labelled-length (positions (now (s .args .block))) (labelCount (now (s .args .block))) (now (s .args .state)) (s .pre .2)
+long s = state-length (now (s .args .block)) (now (s .args .state)) (s .pre .2)
 
 -- which the array has room for
 fits : (s : tie.Start) → length (now (s .args .state)) ≤ 16

@@ -10,9 +10,9 @@ use denote.Ref.{now}
 use borrow.Author.Tests.{not-true, not-false}
 use borrow.Author.Needs.{needs}
 use mathlib.Core.Logic.{⊎-elim}
-use Rattle.basics.specs.Bounded.{all, last}
-use Rattle.blocks.specs.Layout.{labelCount, sideAt}
-use Rattle.backward.specs.Choices.{choice, risesOf, keepsOf, turnsAt}
+use Rattle.basics.specs.Bounded.{last}
+use Rattle.blocks.specs.Layout.{labelCount}
+use Rattle.backward.specs.Choices.{choicesAt, risesOf, keepsOf, keptTo, raisableAt}
 use Rattle.backward.specs.declared.choices.Choice.{Choice}
 use Rattle.backward.proofs.Completing.{rises-last, stays-last, keeps-more, stop-last}
 use Rattle.backward.proofs.predecessors.pivot.Statement.{statement}
@@ -21,8 +21,8 @@ use Rattle.backward.proofs.predecessors.pivot.Tie as tie
 abbrev Inv-loop : tie.InvT-loop
 Inv-loop block left right state earlier n best₀ i₀ best i =
     (n ≡ length state) × (i ≤ n)
-    × (all i (λ k. keepsOf (choice (length state) (sideAt block left) (sideAt block right) state earlier k) (getD earlier k 0)) ≡ true)
-    × (best ≡ last i (turnsAt (labelCount block) (choice (length state) (sideAt block left) (sideAt block right) state) earlier))
+    × (keptTo (choicesAt block left right state) earlier i ≡ true)
+    × (best ≡ last i (raisableAt (labelCount block) (choicesAt block left right state) earlier))
 
 abbrev μ-loop : tie.MeasureT-loop
 μ-loop block left right state earlier n best₀ i₀ best i = n - i
@@ -31,7 +31,7 @@ abbrev μ-loop : tie.MeasureT-loop
 abbrev choices-of : tie.Start Inv-loop μ-loop → List ℕ → ℕ → Choice
 choices-of s =
     let a = s .args in
-    choice (length (now (a .state))) (sideAt (now (a .block)) (a .left)) (sideAt (now (a .block)) (a .right)) (now (a .state))
+    choicesAt (now (a .block)) (a .left) (a .right) (now (a .state))
 
 -- whether position i rises, as the code finds it
 abbrev rises-at : tie.Start Inv-loop μ-loop → ℕ → Bool
@@ -44,7 +44,7 @@ rises-as c =
     ∙ ap₂ (λ (count : ℕ) (choice : Choice). risesOf count choice x) (c .before .before .label-count .ensures .0) (c .before .before .before .before .choice-at .ensures)
 
 -- where the arms of the first test meet, `best` tells the last position up to this one
-best-last : (c : tie.Joined1 Inv-loop μ-loop) → c .if1 .best ≡ last (c .before .before .before .before .before .before .loop .i + 1) (turnsAt (labelCount (now (c .before .before .before .before .before .before .before .before .before .before .args .block))) (choices-of (c .before .before .before .before .before .before .before .before .before .before)) (now (c .before .before .before .before .before .before .before .before .before .before .args .earlier)))
+best-last : (c : tie.Joined1 Inv-loop μ-loop) → c .if1 .best ≡ last (c .before .before .before .before .before .before .loop .i + 1) (raisableAt (labelCount (now (c .before .before .before .before .before .before .before .before .before .before .args .block))) (choices-of (c .before .before .before .before .before .before .before .before .before .before)) (now (c .before .before .before .before .before .before .before .before .before .before .args .earlier)))
 best-last c =
     let a = c .before .before .before .before .before .before .before .before .before .before .args in
     let count = labelCount (now (a .block)) in
@@ -104,7 +104,7 @@ returns-2 : tie.Need-returns-2 Inv-loop μ-loop
 returns-2 c =
     let a = c .before .before .before .before .before .args in
     let e : c .before .loop .i ≡ length (now (c .before .before .before .before .before .args .state)) = omega arith in
-    c .before .loop .inv .3 ∙ ap (λ (m : ℕ). last m (turnsAt (labelCount (now (a .block))) (choices-of (c .before .before .before .before .before)) (now (a .earlier)))) e
+    c .before .loop .inv .3 ∙ ap (λ (m : ℕ). last m (raisableAt (labelCount (now (a .block))) (choices-of (c .before .before .before .before .before)) (now (a .earlier)))) e
 
 pub pivot-spec : {M : Type 1} → statement M
 pivot-spec =

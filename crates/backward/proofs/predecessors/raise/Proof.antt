@@ -1,25 +1,15 @@
 -- `backward::predecessors::raise` meets its contract.
 -- The earlier state's front, its label at i raised, and on with the least labels.
 use mathlib.Core.Path.{ap, _∙_}
-use mathlib.Core.List.{List}
-use Prim.Native.Nat.{ℕ}
 use native.Mathlib.Omega.{arith}
 use lib.ListN.{length, getD, length-set}
 use denote.Ref.{now}
 use borrow.Author.Needs.{needs}
-use Rattle.basics.specs.Bounded.{last}
-use Rattle.blocks.specs.Layout.{sideAt}
-use Rattle.backward.specs.Choices.{choice, raisedOf}
+use Rattle.backward.specs.Choices.{choicesAt, raisedOf}
 use Rattle.backward.specs.declared.choices.Choice.{Choice}
 use Rattle.backward.proofs.Completing.{raise-made}
 use Rattle.backward.proofs.predecessors.raise.Statement.{statement}
 use Rattle.backward.proofs.predecessors.raise.Tie as tie
-
--- the choices of a predecessor
-abbrev choices-of : tie.Start → List ℕ → ℕ → Choice
-choices-of s =
-    let a = s .args in
-    choice (length (now (a .state))) (sideAt (now (a .block)) (a .left)) (sideAt (now (a .block)) (a .right)) (now (a .state))
 
 copy-requires : tie.Need-copy-requires
 copy-requires c κs = search needs
@@ -41,7 +31,6 @@ add-complete c = search needs
 
 complete-requires : tie.Need-complete-requires
 complete-requires c κs =
-    let a = c .before .before .before .before .before .before .before .before .before .before .before .before .args in
     (search needs, search needs, simp length-set (omega (arith, c .before .before .before .before .before .before .copy .kept .1 .1 .0, c .before .before .before .before .before .before .before .before .before .before .before .before .pre)), search needs)
 
 same-length : tie.Need-same-length
@@ -51,7 +40,7 @@ returns : tie.Need-returns
 returns c =
     let a = c .before .before .before .before .before .before .before .before .before .before .before .before .before .before .before .args in
     let front = c .before .before .before .before .before .before .before .before .before .copy .last .1 .1 .0 in
-    raise-made (choices-of (c .before .before .before .before .before .before .before .before .before .before .before .before .before .before .before)) (length (now (a .state))) (a .i) (now (a .earlier)) (now (a .candidate)) (c .before .before .complete .last .1 .1 .1 .1 .0) (c .before .before .before .before .raised .result)
+    raise-made (choicesAt (now (a .block)) (a .left) (a .right) (now (a .state))) (length (now (a .state))) (a .i) (now (a .earlier)) (now (a .candidate)) (c .before .before .complete .last .1 .1 .1 .1 .0) (c .before .before .before .before .raised .result)
     (omega (arith, c .before .before .before .before .before .before .before .before .before .before .before .before .before .before .before .pre)) front (c .before .before .before .before .before .before .before .before .before .copy .ensures) (omega (arith, c .before .before .before .before .before .before .before .before .before .copy .kept .1 .1 .0, c .before .before .before .before .before .before .before .before .before .before .before .before .before .before .before .pre))
     (c .before .before .before .before .raised .ensures ∙ ap (λ (choice : Choice). raisedOf choice (getD (now (a .earlier)) (a .i) 0)) (c .before .before .before .before .before .before .choice-at .ensures)) (c .before .before .complete .ensures)
 

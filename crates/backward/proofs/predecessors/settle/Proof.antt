@@ -4,7 +4,6 @@ use mathlib.Core.Path.{refl, sym, _∙_}
 use denote.Ref.{now}
 use borrow.Author.Needs.{needs}
 use Rattle.basics.proofs.Lists.{copied-whole}
-use Rattle.psvn.specs.Rules.{leads}
 use Rattle.backward.proofs.predecessors.settle.Statement.{statement}
 use Rattle.backward.proofs.predecessors.settle.Tie as tie
 

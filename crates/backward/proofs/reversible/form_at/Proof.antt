@@ -1,23 +1,24 @@
 -- `backward::reversible::form_at` meets its contract.
 -- By whether the right term is a dash, then by the left term decoded.
 use mathlib.Core.Path.{_≡_, sym, ap, _∙_}
-use mathlib.Core.Bool.{Bool, false, _||_}
 use Prim.Native.Nat.{ℕ}
 use lib.Dec.{ltb}
 use denote.Ref.{now}
 use borrow.Author.Needs.{needs}
 use Rattle.basics.proofs.Bounded.{first-some}
-use Rattle.blocks.specs.Terms.{termOf, isDash}
 use Rattle.blocks.specs.Layout.{sideAt}
-use Rattle.backward.specs.Reversible.{shows, kept, formAt}
+use Rattle.blocks.specs.declared.terms.Term.{Term}
+use Rattle.backward.specs.Reversible.{shows, keptTerm, formAt}
+use Rattle.backward.proofs.OneToOne.{form-kept, form-term}
 use Rattle.backward.proofs.reversible.form_at.Statement.{statement}
 use Rattle.backward.proofs.reversible.form_at.Tie as tie
 
--- where the right term is no dash, the left term decides
-lost :
-    (n : ℕ) (left right : ℕ → ℕ) (i : ℕ) → isDash (termOf (right i)) ≡ false
-    → kept n left right (termOf (left i)) ≡ formAt n left right i
-lost n left right i e = sym (ap (λ (t : Bool). t || kept n left right (termOf (left i))) e)
+-- the sides of the rule
+abbrev left-of : tie.Start → ℕ → ℕ
+left-of s = sideAt (now (s .args .block)) (s .args .left)
+
+abbrev right-of : tie.Start → ℕ → ℕ
+right-of s = sideAt (now (s .args .block)) (s .args .right)
 
 add-is-dash : tie.Need-add-is-dash
 add-is-dash c = search needs
@@ -30,8 +31,8 @@ is-dash-requires c κs = search needs
 
 returns : tie.Need-returns
 returns c =
-    let a = c .before .before .before .before .args in
-    sym (ap (λ (t : Bool). t || kept (a .n) (sideAt (now (a .block)) (a .left)) (sideAt (now (a .block)) (a .right)) (termOf (sideAt (now (a .block)) (a .left) (a .i)))) (sym (c .before .is-dash .ensures) ∙ c .if1 .taken))
+    let s = c .before .before .before .before in
+    sym (form-kept (s .args .n) (left-of s) (right-of s) (s .args .i) (sym (c .before .is-dash .ensures) ∙ c .if1 .taken))
 
 add-decode : tie.Need-add-decode
 add-decode c = search needs
@@ -41,6 +42,15 @@ shared-slice-read-decode c = search needs
 
 decode-requires : tie.Need-decode-requires
 decode-requires c κs = search needs
+
+-- where the right term is no dash, the left term decides
+left-term :
+    (c : tie.After-decode) {term : Term} → c .decode .result ≡ term
+    → keptTerm (c .before .before .before .before .before .before .args .n) (left-of (c .before .before .before .before .before .before)) (right-of (c .before .before .before .before .before .before)) term ≡ formAt (c .before .before .before .before .before .before .args .n) (left-of (c .before .before .before .before .before .before)) (right-of (c .before .before .before .before .before .before)) (c .before .before .before .before .before .before .args .i)
+left-term c e =
+    let s = c .before .before .before .before .before .before in
+    ap (keptTerm (s .args .n) (left-of s) (right-of s)) (sym e ∙ c .decode .ensures)
+    ∙ sym (form-term (s .args .n) (left-of s) (right-of s) (s .args .i) (sym (c .before .before .before .is-dash .ensures) ∙ c .before .before .if1 .left))
 
 enum-told : tie.Need-enum-told
 enum-told c = search needs
@@ -58,29 +68,19 @@ enum-told-3 : tie.Need-enum-told-3
 enum-told-3 c = search needs
 
 returns-2 : tie.Need-returns-2
-returns-2 c =
-    let a = c .before .before .before .before .before .before .before .before .args in
-    ap (kept (a .n) (sideAt (now (a .block)) (a .left)) (sideAt (now (a .block)) (a .right))) (sym (c .enum-told .given .1) ∙ c .before .before .decode .ensures)
-    ∙ lost (a .n) (sideAt (now (a .block)) (a .left)) (sideAt (now (a .block)) (a .right)) (a .i) (sym (c .before .before .before .before .before .is-dash .ensures) ∙ c .before .before .before .before .if1 .left)
+returns-2 c = left-term (c .before .before) (c .enum-told .given .1)
 
 returns-3 : tie.Need-returns-3
 returns-3 c =
-    let a = c .before .before .before .before .before .before .before .before .before .before .args in
-    ap (λ (j : ℕ). ltb j (a .n)) (c .first-shown .ensures) ∙ first-some (shows (sideAt (now (a .block)) (a .left)) (sideAt (now (a .block)) (a .right)) _) (a .n)
-    ∙ ap (kept (a .n) (sideAt (now (a .block)) (a .left)) (sideAt (now (a .block)) (a .right))) (sym (c .before .before .term .given .1) ∙ c .before .before .before .before .decode .ensures)
-    ∙ lost (a .n) (sideAt (now (a .block)) (a .left)) (sideAt (now (a .block)) (a .right)) (a .i) (sym (c .before .before .before .before .before .before .before .is-dash .ensures) ∙ c .before .before .before .before .before .before .if1 .left)
+    let s = c .before .before .before .before .before .before .before .before .before .before in
+    ap (λ (j : ℕ). ltb j (s .args .n)) (c .first-shown .ensures) ∙ first-some (shows (left-of s) (right-of s) _) (s .args .n)
+    ∙ left-term (c .before .before .before .before) (c .before .before .term .given .1)
 
 returns-4 : tie.Need-returns-4
-returns-4 c =
-    let a = c .before .before .before .before .before .before .before .before .args in
-    ap (kept (a .n) (sideAt (now (a .block)) (a .left)) (sideAt (now (a .block)) (a .right))) (sym (c .enum-told2 .given .1) ∙ c .before .before .decode .ensures)
-    ∙ lost (a .n) (sideAt (now (a .block)) (a .left)) (sideAt (now (a .block)) (a .right)) (a .i) (sym (c .before .before .before .before .before .is-dash .ensures) ∙ c .before .before .before .before .if1 .left)
+returns-4 c = left-term (c .before .before) (c .enum-told2 .given .1)
 
 returns-5 : tie.Need-returns-5
-returns-5 c =
-    let a = c .before .before .before .before .before .before .before .before .args in
-    ap (kept (a .n) (sideAt (now (a .block)) (a .left)) (sideAt (now (a .block)) (a .right))) (sym (c .enum-told3 .given .1) ∙ c .before .before .decode .ensures)
-    ∙ lost (a .n) (sideAt (now (a .block)) (a .left)) (sideAt (now (a .block)) (a .right)) (a .i) (sym (c .before .before .before .before .before .is-dash .ensures) ∙ c .before .before .before .before .if1 .left)
+returns-5 c = left-term (c .before .before) (c .enum-told3 .given .1)
 
 pub form-at-spec : {M : Type 1} → statement M
 form-at-spec =
