@@ -1,5 +1,5 @@
 -- What a replay tells. It is done exactly where the rules apply in turn, with their cost and the last state (`replay-done`, `done-in-turn`); it is stuck at an
--- index exactly where the rules before it apply in turn and its rule does not apply then (`replay-stuck`, `stuck-where`); no rules change nothing
+-- index exactly where the rules before it apply in turn and its rule does not apply then (`replay-stuck`, `stuck-at`); no rules change nothing
 -- (`replay-empty`, `replay-empty-state`); and it ends in a valid state (`replay-state-ok`). The code's proof and readers of the public call rest on these.
 use mathlib.Core.Path.{_≡_, refl, sym, ap, _∙_}
 use mathlib.Core.Bool.{Bool, true, false, not, cond}
@@ -78,11 +78,11 @@ module _ (b s rs : List ℕ) where
         state-at n e ∙ rw take-length,
       )
 
-  pub stuck-where :
+  pub replay-stuck :
       (i : ℕ) → i < length rs → applyInTurn b s (take i rs) ≡ true → applies b (getD rs i 0) (run b s (take i rs)) ≡ false
       → (replayEnding b s rs ≡ stuck i (totalCost b (take i rs))) × (replayState b s rs ≡ run b s (take i rs))
   unfolding appliedCount
-  stuck-where i l h f =
+  replay-stuck i l h f =
       let e = first-at (fails b s rs) (length rs) i l (ap not f) (before-at i h (omega arith)) in
       (ending-at i e ∙ rw (lt-ltb i (length rs) l), state-at i e)
 
@@ -122,9 +122,9 @@ module _ (b s rs : List ℕ) where
       go true e = absurd (let z : _≡_ {A = ℕ} 0 1 = cc (e, h) in omega arith)
       go false e = let q : totalCost b (applied b s rs) ≡ c = cc (e, h) in rw q at (finished e)
 
-  pub replay-stuck : (i c : ℕ) → replayEnding b s rs ≡ stuck i c → StuckAt b s rs i c
+  pub stuck-at : (i c : ℕ) → replayEnding b s rs ≡ stuck i c → StuckAt b s rs i c
   unfolding replayEnding
-  replay-stuck i c h = go (ltb (appliedCount b s rs) (length rs)) refl
+  stuck-at i c h = go (ltb (appliedCount b s rs) (length rs)) refl
     where
       go : (t : Bool) → ltb (appliedCount b s rs) (length rs) ≡ t → StuckAt b s rs i c
       go true e =

@@ -21,8 +21,8 @@ use Rattle.backward_calls.proofs.predecessors.check_step_back.Statement
 use Rattle.backward_calls.proofs.predecessors.check_step_back.Tie as tie
 
 -- what stands against the call
-abbrev told-of : tie.Start → Answer (Unit {0})
-told-of s =
+abbrev verdict-of : tie.Start → Answer (Unit {0})
+verdict-of s =
     let a = s .args in
     verdict (stepBackConditions (now (a .block)) (a .rule) (now (a .state)) (after (now (a .earlier))) (a .room))
 
@@ -50,7 +50,7 @@ accepted c = sym (c .before .before .check-state .ensures) ∙ ap verdictOf (c .
 decided :
     (c : tie.After-enum-told) (earlier rule room : Bool) → stateOk (now (c .before .before .before .before .before .before .args .block)) (now (c .before .before .before .before .before .before .args .earlier)) ≡ earlier
     → ltb (c .before .before .before .before .before .before .args .rule) (rules (now (c .before .before .before .before .before .before .args .block))) ≡ rule → leb (positions (now (c .before .before .before .before .before .before .args .block))) (c .before .before .before .before .before .before .args .room) ≡ room
-    → told-of (c .before .before .before .before .before .before) ≡ verdict (8 unless earlier ∷ 9 unless rule ∷ 11 unless room ∷ [])
+    → verdict-of (c .before .before .before .before .before .before) ≡ verdict (8 unless earlier ∷ 9 unless rule ∷ 11 unless room ∷ [])
 unfolding stepBackConditions
 decided c earlier rule room p q o =
     let a = c .before .before .before .before .before .before .args in

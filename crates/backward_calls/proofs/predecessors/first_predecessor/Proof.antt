@@ -16,13 +16,13 @@ use Rattle.backward_calls.proofs.predecessors.first_predecessor.Stateme
 use Rattle.backward_calls.proofs.predecessors.first_predecessor.Tie as tie
 
 -- what stands against the call, and the outcome by that
-abbrev told-of : tie.Start → Answer (Unit {0})
-told-of s =
+abbrev verdict-of : tie.Start → Answer (Unit {0})
+verdict-of s =
     let a = s .args in
     verdict (stepBackConditions (now (a .block)) (a .rule) (now (a .state)) from-first (length (now (a .out))))
 
-abbrev settled : tie.Start → Answer (Unit {0}) → Outcome Bool
-settled s verdict =
+abbrev outcome-by : tie.Start → Answer (Unit {0}) → Outcome Bool
+outcome-by s verdict =
     let a = s .args in
     let next = stepBack (now (a .block)) (a .rule) (now (a .state)) from-first in
     guarded verdict (now (a .out)) (outcome (told (isFound next)) (writtenOut next (now (a .out))))
@@ -37,21 +37,21 @@ returns : tie.Need-returns
 unfolding stepBackFrom
 returns c =
     let against = first-conditions (now (c .before .before .before .before .before .before .before .args .block)) (now (c .before .before .before .before .before .before .before .args .state)) (c .before .before .before .before .before .before .before .args .rule) (length (now (c .before .before .before .before .before .before .before .args .out))) ∙ sym (c .before .before .before .check-application .ensures) ∙ ap verdictOf (c .before .checked .given .1) in
-    sym (ap (settled (c .before .before .before .before .before .before .before)) against)
+    sym (ap (outcome-by (c .before .before .before .before .before .before .before)) against)
 
 enum-told : tie.Need-enum-told
 enum-told c = search needs
 
 -- the call is accepted
-accepted : (c : tie.After-enum-told) → told-of (c .before .before .before .before .before .before) ≡ told tt
+accepted : (c : tie.After-enum-told) → verdict-of (c .before .before .before .before .before .before) ≡ told tt
 accepted c = first-conditions (now (c .before .before .before .before .before .before .args .block)) (now (c .before .before .before .before .before .before .args .state)) (c .before .before .before .before .before .before .args .rule) (length (now (c .before .before .before .before .before .before .args .out))) ∙ sym (c .before .before .check-application .ensures) ∙ ap verdictOf (c .enum-told .given .1)
 
 -- what is told and written then
 told-by :
     (c : tie.After-enum-told) (answer : Bool) (out : List ℕ) → answer ≡ isFound (stepBack (now (c .before .before .before .before .before .before .args .block)) (c .before .before .before .before .before .before .args .rule) (now (c .before .before .before .before .before .before .args .state)) from-first)
     → out ≡ writtenOut (stepBack (now (c .before .before .before .before .before .before .args .block)) (c .before .before .before .before .before .before .args .rule) (now (c .before .before .before .before .before .before .args .state)) from-first) (now (c .before .before .before .before .before .before .args .out))
-    → outcome (told answer) out ≡ settled (c .before .before .before .before .before .before) (told-of (c .before .before .before .before .before .before))
-told-by c answer out p q = ap₂ (λ (t : Bool) (l : List ℕ). outcome (told t) l) p q ∙ sym (ap (settled (c .before .before .before .before .before .before)) (accepted c))
+    → outcome (told answer) out ≡ outcome-by (c .before .before .before .before .before .before) (verdict-of (c .before .before .before .before .before .before))
+told-by c answer out p q = ap₂ (λ (t : Bool) (l : List ℕ). outcome (told t) l) p q ∙ sym (ap (outcome-by (c .before .before .before .before .before .before)) (accepted c))
 
 first-predecessor-requires : tie.Need-first-predecessor-requires
 first-predecessor-requires c κs =

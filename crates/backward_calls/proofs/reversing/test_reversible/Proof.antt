@@ -20,8 +20,8 @@ use Rattle.backward_calls.proofs.reversing.test_reversible.Statement.{s
 use Rattle.backward_calls.proofs.reversing.test_reversible.Tie as tie
 
 -- what stands against the call
-abbrev told-of : tie.Start → Answer (Unit {0})
-told-of s = verdict (reversibleConditions (now (s .args .block)) (s .args .rule))
+abbrev verdict-of : tie.Start → Answer (Unit {0})
+verdict-of s = verdict (reversibleConditions (now (s .args .block)) (s .args .rule))
 
 check-requires : tie.Need-check-requires
 check-requires c κs = search needs
@@ -46,7 +46,7 @@ accepted c = sym (c .before .before .check .ensures) ∙ ap verdictOf (c .enum-t
 valid : (c : tie.After-enum-told) → Valid (now (c .before .before .before .before .args .block))
 valid c = accepted-valid (now (c .before .before .before .before .args .block)) (accepted c)
 
-decided : (c : tie.After-enum-told) (rule : Bool) → ltb (c .before .before .before .before .args .rule) (rules (now (c .before .before .before .before .args .block))) ≡ rule → told-of (c .before .before .before .before) ≡ verdict (9 unless rule ∷ [])
+decided : (c : tie.After-enum-told) (rule : Bool) → ltb (c .before .before .before .before .args .rule) (rules (now (c .before .before .before .before .args .block))) ≡ rule → verdict-of (c .before .before .before .before) ≡ verdict (9 unless rule ∷ [])
 unfolding reversibleConditions
 decided c rule p =
     verdict-behind (blockConditions (now (c .before .before .before .before .args .block))) _ (accepted c) ∙ ap (λ (t : Bool). verdict (9 unless t ∷ [])) p

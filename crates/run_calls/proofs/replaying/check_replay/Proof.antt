@@ -21,8 +21,8 @@ use Rattle.run_calls.proofs.replaying.check_replay.Statement.{statement
 use Rattle.run_calls.proofs.replaying.check_replay.Tie as tie
 
 -- what stands against the call
-abbrev told-of : tie.Start → Answer (Unit {0})
-told-of s =
+abbrev verdict-of : tie.Start → Answer (Unit {0})
+verdict-of s =
     let a = s .args in
     verdict (replayConditions (now (a .block)) (now (a .start)) (now (a .list)) (a .room))
 
@@ -50,7 +50,7 @@ accepted c = sym (c .before .before .check-state .ensures) ∙ ap verdictOf (c .
 decided :
     (c : tie.After-enum-told) (numbers short room : Bool) → numbersOk (now (c .before .before .before .before .before .before .args .block)) (now (c .before .before .before .before .before .before .args .list)) ≡ numbers
     → leb (length (now (c .before .before .before .before .before .before .args .list))) longestList ≡ short → leb (positions (now (c .before .before .before .before .before .before .args .block))) (c .before .before .before .before .before .before .args .room) ≡ room
-    → told-of (c .before .before .before .before .before .before) ≡ verdict (9 unless numbers ∷ 10 unless short ∷ 11 unless room ∷ [])
+    → verdict-of (c .before .before .before .before .before .before) ≡ verdict (9 unless numbers ∷ 10 unless short ∷ 11 unless room ∷ [])
 unfolding replayConditions
 decided c numbers short room p q o =
     let a = c .before .before .before .before .before .before .args in

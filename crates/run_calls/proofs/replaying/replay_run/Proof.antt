@@ -9,8 +9,7 @@ use borrow.Author.Needs.{needs}
 use Rattle.basics.specs.Lists.{atFront}
 use Rattle.refusals.specs.Answers.{Answer, told, verdict, Outcome, outcome, guarded}
 use Rattle.refusals.specs.Refusals.{verdictOf}
-use Rattle.blocks.specs.Layout.{positions, labelCount}
-use Rattle.blocks.proofs.StateLaws.{labelled-length}
+use Rattle.blocks.proofs.StateLaws.{state-length}
 use Rattle.runs.specs.Replay.{Ending, endingOf, replayEnding, replayState}
 use Rattle.runs.proofs.ReplayLaws.{rule-numbers}
 use Rattle.run_calls.specs.Replaying.{replayConditions, replayRun}
@@ -19,13 +18,13 @@ use Rattle.run_calls.proofs.replaying.replay_run.Statement.{statement}
 use Rattle.run_calls.proofs.replaying.replay_run.Tie as tie
 
 -- what stands against the call, and the outcome by that
-abbrev told-of : tie.Start → Answer (Unit {0})
-told-of s =
+abbrev verdict-of : tie.Start → Answer (Unit {0})
+verdict-of s =
     let a = s .args in
     verdict (replayConditions (now (a .block)) (now (a .start)) (now (a .list)) (length (now (a .out))))
 
-abbrev settled : tie.Start → Answer (Unit {0}) → Outcome Ending
-settled s verdict =
+abbrev outcome-by : tie.Start → Answer (Unit {0}) → Outcome Ending
+outcome-by s verdict =
     let a = s .args in
     let b = now (a .block) in
     guarded verdict (now (a .out))
@@ -41,28 +40,28 @@ returns : tie.Need-returns
 unfolding replayRun
 returns c =
     let against = sym (c .before .before .before .check-replay .ensures) ∙ ap verdictOf (c .before .checked .given .1) in
-    sym (ap (settled (c .before .before .before .before .before .before .before .before)) against)
+    sym (ap (outcome-by (c .before .before .before .before .before .before .before .before)) against)
 
 enum-told : tie.Need-enum-told
 enum-told c = search needs
 
 -- the call is accepted
-accepted : (c : tie.After-enum-told) → told-of (c .before .before .before .before .before .before .before) ≡ told tt
+accepted : (c : tie.After-enum-told) → verdict-of (c .before .before .before .before .before .before .before) ≡ told tt
 accepted c = sym (c .before .before .check-replay .ensures) ∙ ap verdictOf (c .enum-told .given .1)
 
 -- what is told and written then
 told-by :
     (c : tie.After-enum-told) (ending : Ending) (out : List ℕ) → ending ≡ replayEnding (now (c .before .before .before .before .before .before .before .args .block)) (now (c .before .before .before .before .before .before .before .args .start)) (now (c .before .before .before .before .before .before .before .args .list))
     → out ≡ atFront (replayState (now (c .before .before .before .before .before .before .before .args .block)) (now (c .before .before .before .before .before .before .before .args .start)) (now (c .before .before .before .before .before .before .before .args .list))) (now (c .before .before .before .before .before .before .before .args .out))
-    → outcome (told ending) out ≡ settled (c .before .before .before .before .before .before .before) (told-of (c .before .before .before .before .before .before .before))
-told-by c ending out p q = ap₂ (λ (t : Ending) (l : List ℕ). outcome (told t) l) p q ∙ sym (ap (settled (c .before .before .before .before .before .before .before)) (accepted c))
+    → outcome (told ending) out ≡ outcome-by (c .before .before .before .before .before .before .before) (verdict-of (c .before .before .before .before .before .before .before))
+told-by c ending out p q = ap₂ (λ (t : Ending) (l : List ℕ). outcome (told t) l) p q ∙ sym (ap (outcome-by (c .before .before .before .before .before .before .before)) (accepted c))
 
 replay-requires : tie.Need-replay-requires
 replay-requires c κs =
     let a = c .before .before .before .before .before .before .before .before .args in
     let b = now (a .block) in
     let h = replay-accepted b (now (a .start)) (now (a .list)) (length (now (a .out))) (accepted (c .before)) in
-    (h .valid .sized, rule-numbers b (now (a .list)) (h .numbers), h .short, labelled-length (positions b) (labelCount b) (now (a .start)) (h .state), h .room-left)
+    (h .valid .sized, rule-numbers b (now (a .list)) (h .numbers), h .short, state-length b (now (a .start)) (h .state), h .room-left)
 
 enum-known-replayed : tie.Need-enum-known-replayed
 enum-known-replayed c = search needs

@@ -18,7 +18,7 @@ use Rattle.runs.specs.Replay.{numbersOk}
 use Rattle.runs.proofs.replay.numbers_ok.Statement.{statement}
 use Rattle.runs.proofs.replay.numbers_ok.Tie as tie
 
--- what the number at index k is asked, by the count of rules as the code finds it
+-- the test over the whole list, with the count of rules as the code finds it
 decided : (b rs : List ℕ) (count : ℕ) {t : Bool} → count ≡ rules b → all (length rs) (λ i. ltb (getD rs i 0) count) ≡ t → t ≡ numbersOk b rs
 unfolding numbersOk
 decided b rs count e h = sym h ∙ ap (λ (n : ℕ). all (length rs) (λ i. ltb (getD rs i 0) n)) e

@@ -17,7 +17,7 @@ use Rattle.runs.proofs.replay.replay.Tie as tie
 copy-requires : tie.Need-copy-requires
 copy-requires c κs = search needs
 
--- the start stands at the front of the buffer: what the part holds that is lent
+-- the start stands at the front of the buffer, so the part that is lent holds it
 abbrev start : tie.After-copy → List ℕ
 start c = now (c .before .before .before .before .before .before .args .start)
 

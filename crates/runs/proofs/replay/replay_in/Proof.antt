@@ -17,7 +17,7 @@ use Rattle.psvn.specs.Rules.{applies, step}
 use Rattle.psvn.specs.Runs.{applyInTurn, run, totalCost}
 use Rattle.psvn.proofs.RunLaws.{run-more, cost-more, in-turn-more, run-length}
 use Rattle.runs.specs.Replay.{done, stuck}
-use Rattle.runs.proofs.ReplayLaws.{replay-done, stuck-where}
+use Rattle.runs.proofs.ReplayLaws.{replay-done, replay-stuck}
 use Rattle.runs.proofs.replay.replay_in.Statement.{statement}
 use Rattle.runs.proofs.replay.replay_in.Tie as tie
 
@@ -91,7 +91,7 @@ returns c =
     let a = c .before .before .before .before .before .before .before .before .before .before .args in
     let inv = c .before .before .before .before .before .before .loop .inv in
     let f = sym (answered (c .before)) ∙ not-true _ (c .if1 .taken) in
-    let q = stuck-where (now (a .block)) (now (a .state)) (now (a .list)) (c .before .before .before .before .before .before .loop .i) (omega arith) (inv .4) f in
+    let q = replay-stuck (now (a .block)) (now (a .state)) (now (a .list)) (c .before .before .before .before .before .before .loop .i) (omega arith) (inv .4) f in
     (ap (stuck (c .before .before .before .before .before .before .loop .i)) (inv .2) ∙ sym (q .0), inv .3 ∙ sym (q .1))
 
 advance-requires : tie.Need-advance-requires Inv-loop μ-loop
