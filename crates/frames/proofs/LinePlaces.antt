@@ -29,14 +29,14 @@ module _ (c : ℕ) (x : List ℕ) where
   joined-front false (l ∷ ls) h = ap (λ (y : List ℕ). c ∷ y) h
 
   take-front :
-      (t : Bool) → eqb c lineFeed ≡ t → (ls : List (List ℕ)) → linesOf x ≡ ls
+      (t : Bool) → eqb c lineFeed ≡ t → (ls : List (List ℕ))
       → ((j : ℕ) → linesOf (take (length (flatten (take j ls))) x) ≡ take j ls)
       → (k : ℕ) → linesOf (take (length (flatten (take k (inFront t c ls)))) (c ∷ x)) ≡ take k (inFront t c ls)
   unfolding flatten
-  take-front t e ls q ih zero = refl
-  take-front true e ls q ih (suc k) = rw e (ap (inFront true c) (ih k))
-  take-front false e [] q ih (suc k) = rw (take-nil k) (rw e)
-  take-front false e (l ∷ ls) q ih (suc k) = rw e (ap (inFront false c) (ih (suc k)))
+  take-front t e ls ih zero = refl
+  take-front true e ls ih (suc k) = rw e (ap (inFront true c) (ih k))
+  take-front false e [] ih (suc k) = rw (take-nil k) (rw e)
+  take-front false e (l ∷ ls) ih (suc k) = rw e (ap (inFront false c) (ih (suc k)))
 
   drop-front :
       (t : Bool) (ls : List (List ℕ)) → linesOf x ≡ ls
@@ -59,7 +59,7 @@ lines-joined (c ∷ x) = joined-front c x (eqb c lineFeed) (linesOf x) (lines-jo
 pub lines-take : (x : List ℕ) (k : ℕ) → linesOf (take (lengthTo k x) x) ≡ take k (linesOf x)
 unfolding flatten
 lines-take [] k = rw (take-nil k)
-lines-take (c ∷ x) k = take-front c x (eqb c lineFeed) refl (linesOf x) refl (lines-take x) k
+lines-take (c ∷ x) k = take-front c x (eqb c lineFeed) refl (linesOf x) (lines-take x) k
 
 -- and from there on
 pub lines-drop : (x : List ℕ) (k : ℕ) → linesOf (drop (lengthTo k x) x) ≡ drop k (linesOf x)

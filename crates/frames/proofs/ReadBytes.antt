@@ -1,5 +1,5 @@
 -- What is read from digits are bytes: of a line (`line-small`) and of an exercise's lines (`block-small`).
--- That the costs of an exercise read from text are bytes rests on it.
+-- That costs read from text are bytes, and that a query's limits fit four bytes, rest on it.
 use mathlib.Core.Logic.{⊎-elim}
 use mathlib.Core.List.{List, [], _∷_, flatMap}
 use Prim.Native.Nat.{ℕ, zero, suc, _≤_, _<_}

@@ -22,23 +22,23 @@ use denote.Slice.{sliceVal, ShrSlice}
 use denote.Struct.Declared.{Declared}
 use denote.Struct.Laws as LL
 use Rattle.frames.specs.declared.reader.Reader.{Reader}
-use Rattle.frames.proofs.reader.Reader as T
-use Rattle.frames.proofs.reader.Reader.Laws as T′
+use Rattle.frames.proofs.reader.Reader as reader-struct
+use Rattle.frames.proofs.reader.Reader.Laws as reader-laws
 
 abbrev pub readerRow : Lfts 1 → RattleType
-readerRow κs = T.the-row (namedLft 1 0 tt κs)
+readerRow κs = reader-struct.the-row (namedLft 1 0 tt κs)
 
 abbrev pub readerType : Lfts 1 → Declared
-readerType κs = T.the-type (namedLft 1 0 tt κs)
+readerType κs = reader-struct.the-type (namedLft 1 0 tt κs)
 
 abbrev pub readerLaws : (κs : Lfts 1) → LL.Laws (readerType κs)
-readerLaws κs = T′.the-laws (namedLft 1 0 tt κs)
+readerLaws κs = reader-laws.the-laws (namedLft 1 0 tt κs)
 
 abbrev pub readerCopy : (κs : Lfts 1) → LL.Copyables (readerType κs .parts)
-readerCopy κs = T′.the-copy (namedLft 1 0 tt κs)
+readerCopy κs = reader-laws.the-copy (namedLft 1 0 tt κs)
 
-pub reader-typed : {M : Type 1} (𝓤 : URA M) (H : Heap 𝓤) (A : Atoms 𝓤) → Given 𝓤 H A → (κs : Lfts 1) (d : Reader) → Is (readerRow κs) d (T′.lowered d ∷ []) → Holds (hasTy (T′.mir (named 0)) (T′.lowered d)) × WT (T′.lowered d)
-reader-typed 𝓤 H A W κs d is = LL.lawful (readerType κs) (readerLaws κs) 𝓤 H A W .typed d (T′.lowered d ∷ []) is .0
+pub reader-typed : {M : Type 1} (𝓤 : URA M) (H : Heap 𝓤) (A : Atoms 𝓤) → Given 𝓤 H A → (κs : Lfts 1) (d : Reader) → Is (readerRow κs) d (reader-laws.lowered d ∷ []) → Holds (hasTy (reader-laws.mir (named 0)) (reader-laws.lowered d)) × WT (reader-laws.lowered d)
+reader-typed 𝓤 H A W κs d is = LL.lawful (readerType κs) (readerLaws κs) 𝓤 H A W .typed d (reader-laws.lowered d ∷ []) is .0
 
 abbrev pub textVal : RefT (List ℕ) → Val
 textVal s = sliceVal (s .ptr) (length (s .now))

@@ -1,5 +1,5 @@
 -- Every valid block can be read from its text: `read-written`. Its frames make it up, their lines pass every condition of the reader, and so it stands in the buffer again.
--- It shows that the reader refuses no exercise.
+-- It shows that the reader refuses no valid block's text, given the room.
 use mathlib.Core.Path.{_≡_, refl, sym, ap, ap₂, _∙_, subst}
 use mathlib.Core.Bool.{true}
 use mathlib.Core.List.{List, [], _∷_, _++_, map, flatMap, flatten}

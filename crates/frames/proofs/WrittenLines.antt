@@ -42,7 +42,7 @@ no-feed c d = ne-eqb c lineFeed (λ e. true-false d (below c (omega arith) .is))
 joins : (c : ℕ) → isDigit c ≡ true → (x l : List ℕ) (ls : List (List ℕ)) → linesOf x ≡ l ∷ ls → linesOf (c ∷ x) ≡ (c ∷ l) ∷ ls
 joins c d x l ls e = ap₂ (λ (t : Bool) (k : List (List ℕ)). inFront t c k) (no-feed c d) e
 
-pub written-first : (bs : List ℕ) → Bytes bs → (x : List ℕ) → linesOf (lineOf bs ++ x) ≡ lineOf bs ∷ linesOf x
+written-first : (bs : List ℕ) → Bytes bs → (x : List ℕ) → linesOf (lineOf bs ++ x) ≡ lineOf bs ∷ linesOf x
 written-first [] small x = refl
 written-first (b ∷ bs) small x =
     let rest = written-first bs (λ i. small (suc i)) x in
@@ -51,7 +51,7 @@ written-first (b ∷ bs) small x =
     joins high (digit-back (b / 16) (high-small b (small 0)) .is) (low ∷ lineOf bs ++ x) (low ∷ lineOf bs) (linesOf x)
     (joins low (digit-back (b % 16) (low-small b (small 0)) .is) (lineOf bs ++ x) (lineOf bs) (linesOf x) rest)
 
--- all of a list of byte lists are
+-- each list of a list of lists holds bytes
 abbrev pub AllBytes : List (List ℕ) → Type 0
 AllBytes [] = Unit {0}
 AllBytes (f ∷ fs) = Bytes f × AllBytes fs

@@ -18,7 +18,7 @@ pub fn new<'a>(text: &'a [u8]) -> Reader<'a>
 }
 
 // The line at the reader's place.
-pub fn next<'a>(r: Reader<'a>) -> Line
+pub fn line<'a>(r: Reader<'a>) -> Line
     ensures { λ l. ⌜ l ≡ lineAt (now (r .entry .text)) (r .entry .at) ⌝ }
 {
     line_at(r.text, r.at)
@@ -31,9 +31,9 @@ pub fn moved<'a>(r: Reader<'a>, at: usize) -> Reader<'a>
     Reader { text: r.text, at }
 }
 
-// The line that a reader finds that has read a text up to `at`.
-pub fn line_from(text: &[u8], at: usize) -> Line
+// The line that a reader finds once it has read a text up to `at`.
+pub fn read_line(text: &[u8], at: usize) -> Line
     ensures { λ l. ⌜ l ≡ lineAt (now (text .entry)) at ⌝ }
 {
-    next(moved(new(text), at))
+    line(moved(new(text), at))
 }

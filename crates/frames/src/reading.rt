@@ -11,7 +11,7 @@ ghost use Rattle.frames.specs.Lines.{linesOf};
 ghost use Rattle.frames.specs.Reading.{readingOf, headOf, blockOf, linesOk, headLineOk, linesFit, frameConditions, readExercise};
 use super::lines::decode_line;
 use super::lines::line_end;
-use super::reader::line_from;
+use super::reader::read_line;
 use basics::copy;
 use blocks::layout;
 use refusals::Refusal;
@@ -29,7 +29,7 @@ fn lines_ok(text: &[u8]) -> bool
 {
     let mut at: usize = 0;
     while at < text.len() {
-        let line = line_from(text, at);
+        let line = read_line(text, at);
         if !line.ok {
             return false;
         }
@@ -47,7 +47,7 @@ fn lines_fit(head: &[u8], text: &[u8], from: usize) -> bool
     let mut at = from;
     let mut i: usize = 0;
     while at < text.len() {
-        let line = line_from(text, at);
+        let line = read_line(text, at);
         if count <= i {
             return false;
         }
@@ -64,7 +64,7 @@ fn lines_fit(head: &[u8], text: &[u8], from: usize) -> bool
 fn head_line_ok(text: &[u8]) -> bool
     ensures { λ r. ⌜ r ≡ headLineOk (linesOf (now (text .entry))) ⌝ }
 {
-    let line = line_from(text, 0);
+    let line = read_line(text, 0);
     line.bytes == layout::HEAD_LENGTH
 }
 
@@ -73,7 +73,7 @@ pub fn decode_head(text: &[u8]) -> [u8; 5]
     requires { ⌜ headLineOk (linesOf (now text)) ≡ true ⌝ }
     ensures { λ r. ⌜ r ≡ headOf (linesOf (now (text .entry))) ⌝ }
 {
-    let mut head = [0u8; 5];
+    let mut head = [0u8; layout::HEAD_LENGTH];
     let end = line_end(text, 0);
     decode_line(&text[..end], &mut head, 0);
     head
@@ -110,7 +110,7 @@ fn decode_lines(text: &[u8], out: &mut [u8]) -> usize
     let mut at: usize = 0;
     let mut to: usize = 0;
     while at < text.len() {
-        let line = line_from(text, at);
+        let line = read_line(text, at);
         let next = line.next;
         to = decode_line(&text[at..next], out, to);
         at = next;

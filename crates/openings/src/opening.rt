@@ -16,7 +16,7 @@ use blocks::validity::MOST_STATES;
 use frames::Reading;
 use frames::decode_head;
 use frames::lines::line_end;
-use frames::reader::line_from;
+use frames::reader::read_line;
 use refusals::Refusal;
 
 // The most bytes of input.
@@ -49,7 +49,7 @@ fn lines_end(input: &[u8], from: usize, count: usize) -> usize
 fn exercise_end(input: &[u8]) -> usize
     ensures { λ r. ⌜ r ≡ exerciseEnd (now (input .entry)) ⌝ }
 {
-    let first = line_from(input, 0);
+    let first = read_line(input, 0);
     let behind = first.next;
     if !and(first.ok, first.bytes == layout::HEAD_LENGTH) {
         return behind;

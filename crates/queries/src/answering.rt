@@ -20,7 +20,7 @@ use basics::wide;
 use blocks::layout;
 use frames::lines::decode_line;
 use frames::lines::encode_line;
-use frames::reader::line_from;
+use frames::reader::read_line;
 use refusals::Refusal;
 use search::Ending;
 use search::LONGEST_PLAN;
@@ -103,7 +103,7 @@ pub fn answer(
     requires { ⌜ Valid (now block) × (now table ≡ filled (now block)) ⌝ }
     ensures { λ r. ⌜ AnsweredAt (now (block .entry)) (now (input .entry)) at (now (line .entry)) r (now (line .exit)) ⌝ }
 {
-    let found = line_from(input, at);
+    let found = read_line(input, at);
     let next = found.next;
     if !found.ok {
         let length = refuse(Refusal::Character, line);

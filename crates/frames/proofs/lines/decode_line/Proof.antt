@@ -10,7 +10,7 @@ use lib.Seq.{sets}
 use denote.Ref.{now}
 use borrow.Author.Needs.{needs}
 use Rattle.frames.specs.Lines.{lineBytes}
-use Rattle.frames.proofs.LineLaws.{pair-bytes, no-bytes}
+use Rattle.frames.proofs.PairLaws.{pair-bytes, no-bytes}
 use Rattle.frames.proofs.lines.decode_line.Statement.{statement}
 use Rattle.frames.proofs.lines.decode_line.Tie as tie
 

@@ -11,7 +11,7 @@ use denote.Ref.{now}
 use borrow.Author.Needs.{needs}
 use Rattle.basics.proofs.Lists.{sets-front}
 use Rattle.frames.specs.Lines.{lineFeed, lineOf}
-use Rattle.frames.proofs.LineLaws.{line-apart}
+use Rattle.frames.proofs.PairLaws.{byte-apart}
 use Rattle.frames.proofs.lines.encode_line.Statement.{statement}
 use Rattle.frames.proofs.lines.encode_line.Tie as tie
 
@@ -36,7 +36,7 @@ digit-of-requires c κs = omega (arith, c .shared-slice-known2 .given (c .before
 slice-write-out : tie.Need-slice-write-out Inv-loop μ-loop
 slice-write-out c =
     let b = now (c .before .before .before .before .before .before .args .bytes) in
-    omega (arith, ap length (line-apart b (c .before .before .before .loop .i) (c .before .before .loop-test .taken)))
+    omega (arith, ap length (byte-apart b (c .before .before .before .loop .i) (c .before .before .loop-test .taken)))
 
 digit-of-requires-2 : tie.Need-digit-of-requires-2 Inv-loop μ-loop
 digit-of-requires-2 c κs = search needs
@@ -44,18 +44,18 @@ digit-of-requires-2 c κs = search needs
 add-out : tie.Need-add-out Inv-loop μ-loop
 add-out c =
     let b = now (c .before .before .before .before .before .before .before .args .bytes) in
-    omega (arith, ap length (line-apart b (c .before .before .before .before .loop .i) (c .before .before .before .loop-test .taken)))
+    omega (arith, ap length (byte-apart b (c .before .before .before .before .loop .i) (c .before .before .before .loop-test .taken)))
 
 slice-write-out-2 : tie.Need-slice-write-out-2 Inv-loop μ-loop
 slice-write-out-2 c =
     let b = now (c .before .before .before .before .before .before .before .args .bytes) in
     let loop = c .before .before .before .before .loop in
-    omega (arith, ap length (line-apart b (loop .i) (c .before .before .before .loop-test .taken)), length-set (loop .out) (loop .at) (c .before .digit-of .result))
+    omega (arith, ap length (byte-apart b (loop .i) (c .before .before .before .loop-test .taken)), length-set (loop .out) (loop .at) (c .before .digit-of .result))
 
 add-at : tie.Need-add-at Inv-loop μ-loop
 add-at c =
     let b = now (c .before .before .before .before .before .before .before .args .bytes) in
-    omega (arith, ap length (line-apart b (c .before .before .before .before .loop .i) (c .before .before .before .loop-test .taken)))
+    omega (arith, ap length (byte-apart b (c .before .before .before .before .loop .i) (c .before .before .before .loop-test .taken)))
 
 add-i : tie.Need-add-i Inv-loop μ-loop
 add-i c = search needs
@@ -69,7 +69,7 @@ loop-again c =
     let loop = c .before .before .before .before .loop in
     let x = c .before .digit-of .result in
     let y = c .digit-of2 .result in
-    let next = line-apart b (loop .i) (c .before .before .before .loop-test .taken) in
+    let next = byte-apart b (loop .i) (c .before .before .before .loop-test .taken) in
     let rest = lineOf (drop (loop .i + 1) b) in (
       search needs,
       length-set (set (loop .out) (loop .at) x) (loop .at + 1) y ∙ length-set (loop .out) (loop .at) x ∙ loop .inv .1,

@@ -11,7 +11,8 @@ use borrow.Author.Needs.{needs}
 use Rattle.frames.specs.Lines.{lineOk, lineBytes}
 use Rattle.frames.specs.Places.{lineFrom, lineAt}
 use Rattle.frames.specs.declared.lines.Line.{Line}
-use Rattle.frames.proofs.LineLaws.{half-length, line-none, line-part, line-inside}
+use Rattle.frames.proofs.PairLaws.{half-length}
+use Rattle.frames.proofs.LineLaws.{line-none, line-part, line-inside}
 use Rattle.frames.proofs.lines.line_at.Statement.{statement}
 use Rattle.frames.proofs.lines.line_at.Tie as tie
 

@@ -9,7 +9,7 @@ use denote.Ref.{now}
 use borrow.Author.Needs.{needs}
 use borrow.Author.Tests.{not-true, not-false}
 use Rattle.frames.specs.Lines.{lineOk}
-use Rattle.frames.proofs.LineLaws.{pair-ok, last-ok, none-ok}
+use Rattle.frames.proofs.PairLaws.{pair-ok, last-ok, none-ok}
 use Rattle.frames.proofs.lines.line_ok.Statement.{statement}
 use Rattle.frames.proofs.lines.line_ok.Tie as tie
 

@@ -9,12 +9,12 @@ use Rattle.frames.specs.declared.lines.Line.{Line}
 use Rattle.frames.proofs.reading.head_line_ok.Statement.{statement}
 use Rattle.frames.proofs.reading.head_line_ok.Tie as tie
 
-line-from-requires : tie.Need-line-from-requires
-line-from-requires c κs = search needs
+read-line-requires : tie.Need-read-line-requires
+read-line-requires c κs = search needs
 
 returns : tie.Need-returns
 unfolding lineFrom
-returns c = ap (λ (l : Line). eqb (l .bytes) headLength) (c .before .line-from .ensures)
+returns c = ap (λ (l : Line). eqb (l .bytes) headLength) (c .before .read-line .ensures)
 
 pub head-line-ok-spec : {M : Type 1} → statement M
-head-line-ok-spec = tie.close (tie.spec line-from-requires returns)
+head-line-ok-spec = tie.close (tie.spec read-line-requires returns)

@@ -35,10 +35,10 @@ frame-count-requires c κs = search needs
 loop-holds : tie.Need-loop-holds Inv-loop μ-loop
 loop-holds c = (search needs, refl)
 
-line-from-requires : tie.Need-line-from-requires Inv-loop μ-loop
-line-from-requires c κs = search needs
+read-line-requires : tie.Need-read-line-requires Inv-loop μ-loop
+read-line-requires c κs = search needs
 
-module _ (c : tie.After-line-from Inv-loop μ-loop) where
+module _ (c : tie.After-read-line Inv-loop μ-loop) where
   abbrev start : tie.Start Inv-loop μ-loop
   start = c .before .before .before .before .before .before
 
@@ -55,11 +55,11 @@ module _ (c : tie.After-line-from Inv-loop μ-loop) where
   i = c .before .before .loop .i
 
   -- where the next line begins, and how many bytes this one has
-  onward : c .line-from .result .next ≡ at + length (lineFrom x at)
-  onward = ap (λ (l : Line). l .next) (c .line-from .ensures)
+  onward : c .read-line .result .next ≡ at + length (lineFrom x at)
+  onward = ap (λ (l : Line). l .next) (c .read-line .ensures)
 
-  counted : c .line-from .result .bytes ≡ length (lineBytes (lineFrom x at))
-  counted = ap (λ (l : Line). l .bytes) (c .line-from .ensures)
+  counted : c .read-line .result .bytes ≡ length (lineBytes (lineFrom x at))
+  counted = ap (λ (l : Line). l .bytes) (c .read-line .ensures)
 
   -- the tests of this line
   abbrev tested : Bool → Bool → Bool
@@ -115,7 +115,7 @@ lines-fit-spec =
     μ-loop
     frame-count-requires
     loop-holds
-    line-from-requires
+    read-line-requires
     returns
     frame-length-requires
     returns-2

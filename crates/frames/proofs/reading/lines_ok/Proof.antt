@@ -26,31 +26,31 @@ abbrev μ-loop : tie.MeasureT-loop
 loop-holds : tie.Need-loop-holds Inv-loop μ-loop
 loop-holds c = refl
 
-line-from-requires : tie.Need-line-from-requires Inv-loop μ-loop
-line-from-requires c κs = search needs
+read-line-requires : tie.Need-read-line-requires Inv-loop μ-loop
+read-line-requires c κs = search needs
 
 -- where the next line begins
 onward :
-    (c : tie.After-line-from Inv-loop μ-loop)
-    → c .line-from .result .next ≡ c .before .before .loop .at + length (lineFrom (now (c .before .before .before .before .args .text)) (c .before .before .loop .at))
-onward c = ap (λ (l : Line). l .next) (c .line-from .ensures)
+    (c : tie.After-read-line Inv-loop μ-loop)
+    → c .read-line .result .next ≡ c .before .before .loop .at + length (lineFrom (now (c .before .before .before .before .args .text)) (c .before .before .loop .at))
+onward c = ap (λ (l : Line). l .next) (c .read-line .ensures)
 
 -- all lines are right exactly where this one and those behind it are
 turn :
-    (c : tie.After-line-from Inv-loop μ-loop)
+    (c : tie.After-read-line Inv-loop μ-loop)
     → linesOk (linesOf (now (c .before .before .before .before .args .text)))
-    ≡ (c .line-from .result .ok && linesOk (linesOf (drop (c .line-from .result .next) (now (c .before .before .before .before .args .text)))))
+    ≡ (c .read-line .result .ok && linesOk (linesOf (drop (c .read-line .result .next) (now (c .before .before .before .before .args .text)))))
 turn c =
     let x = now (c .before .before .before .before .args .text) in
     let at = c .before .before .loop .at in
     sym (c .before .before .loop .inv)
     ∙ ok-from x at (c .before .loop-test .taken)
-    ∙ ap₂ (λ (t : Bool) (k : ℕ). t && linesOk (linesOf (drop k x))) (sym (ap (λ (l : Line). l .ok) (c .line-from .ensures))) (sym (onward c))
+    ∙ ap₂ (λ (t : Bool) (k : ℕ). t && linesOk (linesOf (drop k x))) (sym (ap (λ (l : Line). l .ok) (c .read-line .ensures))) (sym (onward c))
 
 returns : tie.Need-returns Inv-loop μ-loop
 returns c =
     let x = now (c .before .before .before .before .before .before .args .text) in
-    let line = c .before .before .line-from .result in
+    let line = c .before .before .read-line .result in
     sym (turn (c .before .before) ∙ ap (λ (t : Bool). t && linesOk (linesOf (drop (line .next) x))) (not-true (line .ok) (c .if1 .taken)))
 
 loop-less : tie.Need-loop-less Inv-loop μ-loop
@@ -61,7 +61,7 @@ loop-less c =
 loop-again : tie.Need-loop-again Inv-loop μ-loop
 loop-again c =
     let x = now (c .before .before .before .before .before .before .args .text) in
-    let line = c .before .before .line-from .result in
+    let line = c .before .before .read-line .result in
     sym (turn (c .before .before) ∙ ap (λ (t : Bool). t && linesOk (linesOf (drop (line .next) x))) (not-false (line .ok) (c .if1 .left)))
 
 returns-2 : tie.Need-returns-2 Inv-loop μ-loop
@@ -76,7 +76,7 @@ lines-ok-spec =
     Inv-loop
     μ-loop
     loop-holds
-    line-from-requires
+    read-line-requires
     returns
     loop-less
     loop-again

@@ -26,16 +26,17 @@ use Rattle.openings.proofs.opening.exercise_end.Tie as tie
 abbrev input : tie.Start → List ℕ
 input s = now (s .args .input)
 
-line-from-requires : tie.Need-line-from-requires
-line-from-requires c κs = search needs
+read-line-requires : tie.Need-read-line-requires
+read-line-requires c κs = search needs
 
 and-requires : tie.Need-and-requires
 and-requires c κs = search needs
 
 -- where the first line ends
-first : (c : tie.After-line-from) → c .line-from .result .next ≡ length (lineFrom (input (c .before .before)) 0)
-first c = ap (λ (l : Line). l .next) (c .line-from .ensures) ∙ zero-add (length (lineFrom (input (c .before .before)) 0))
+first : (c : tie.After-read-line) → c .read-line .result .next ≡ length (lineFrom (input (c .before .before)) 0)
+first c = ap (λ (l : Line). l .next) (c .read-line .ensures) ∙ zero-add (length (lineFrom (input (c .before .before)) 0))
 
+<<<<<<< HEAD:crates/openings/proofs/opening/exercise_end/Proof.antt
 module _ (c : tie.After-and) where
   abbrev lines : List (List ℕ)
   lines = linesOf (input (c .before .before .before .before))
@@ -44,6 +45,12 @@ module _ (c : tie.After-and) where
   tested : c .and .result ≡ (lineOk (firstLine lines) && headLineOk lines)
   unfolding lineFrom
   tested = c .and .ensures ∙ ap (λ (l : Line). l .ok && eqb (l .bytes) headLength) (c .before .before .line-from .ensures)
+=======
+-- the tests on it
+tested : (c : tie.After-and) → c .and .result ≡ (lineOk (firstLine (linesOf (input (c .before .before .before .before)))) && headLineOk (linesOf (input (c .before .before .before .before))))
+unfolding lineFrom
+tested c = c .and .ensures ∙ ap (λ (l : Line). l .ok && eqb (l .bytes) headLength) (c .before .before .read-line .ensures)
+>>>>>>> 5d30a29 (frames: the reader's functions named after what they give, laws inside a line apart from those of lines):crates/par_lines/proofs/opening/exercise_end/Proof.antt
 
 returns : tie.Need-returns
 returns c =
@@ -103,7 +110,7 @@ pub exercise-end-spec : {M : Type 1} → statement M
 exercise-end-spec =
     tie.close
     (tie.spec
-    line-from-requires
+    read-line-requires
     and-requires
     returns
     decode-head-requires

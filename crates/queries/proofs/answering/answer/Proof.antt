@@ -45,22 +45,22 @@ gives s v n next new e o w =
       onward = o;
     }
 
-line-from-requires : tie.Need-line-from-requires
-line-from-requires c κs = search needs
+read-line-requires : tie.Need-read-line-requires
+read-line-requires c κs = search needs
 
-module _ (c : tie.After-line-from) where
+module _ (c : tie.After-read-line) where
   abbrev start : tie.Start
   start = c .before .before .before .before
 
   -- what is told of the line
-  right : c .line-from .result .ok ≡ lineOk (line start)
-  right = ap (λ (l : Line). l .ok) (c .line-from .ensures)
+  right : c .read-line .result .ok ≡ lineOk (line start)
+  right = ap (λ (l : Line). l .ok) (c .read-line .ensures)
 
-  counted : c .line-from .result .bytes ≡ length (lineBytes (line start))
-  counted = ap (λ (l : Line). l .bytes) (c .line-from .ensures)
+  counted : c .read-line .result .bytes ≡ length (lineBytes (line start))
+  counted = ap (λ (l : Line). l .bytes) (c .read-line .ensures)
 
-  onward : c .line-from .result .next ≡ start .args .at + length (line start)
-  onward = ap (λ (l : Line). l .next) (c .line-from .ensures)
+  onward : c .read-line .result .next ≡ start .args .at + length (line start)
+  onward = ap (λ (l : Line). l .next) (c .read-line .ensures)
 
 refuse-requires : tie.Need-refuse-requires
 refuse-requires c κs = search needs
@@ -70,7 +70,7 @@ unfolding queryConditions
 returns c =
     let d = c .before .before .before .before in
     let s = start d in
-    let wrong = sym (right d) ∙ not-true (d .line-from .result .ok) (c .before .before .if1 .taken) in
+    let wrong = sym (right d) ∙ not-true (d .read-line .result .ok) (c .before .before .if1 .taken) in
     let against = line-decided (block s) (line s) _ _ wrong refl in
     gives s _ _ _ _ (verdict-before (lineConditions (block s) (line s)) (contentConditions (block s) (lineBytes (line s))) _ against) (onward d) (c .refuse .ensures)
 
@@ -82,7 +82,7 @@ add-if2 c = search needs
 
 -- the line is right
 good : (c : tie.Else1) → lineOk (line (start (c .before .before))) ≡ true
-good c = sym (right (c .before .before)) ∙ not-false (c .before .before .line-from .result .ok) (c .if1 .left)
+good c = sym (right (c .before .before)) ∙ not-false (c .before .before .read-line .result .ok) (c .if1 .left)
 
 refuse-requires-2 : tie.Need-refuse-requires-2
 refuse-requires-2 c κs = search needs
@@ -98,7 +98,7 @@ returns-2 c =
     gives s _ _ _ _ (verdict-before (lineConditions (block s) (line s)) (contentConditions (block s) (lineBytes (line s))) _ against) (onward d) (c .refuse2 .ensures)
 
 module _ (c : tie.Else2) where
-  abbrev found : tie.After-line-from
+  abbrev found : tie.After-read-line
   found = c .before .before .before .before .before
 
   abbrev text : List ℕ
@@ -121,9 +121,9 @@ module _ (c : tie.Else2) where
   short = omega (arith, long, start found .pre .0 .sized .head .sizes .n-high)
 
   -- the part that is decoded is the line
-  part : lineBytes (take (found .line-from .result .next - at) (drop at text)) ≡ lineBytes (line (start found))
+  part : lineBytes (take (found .read-line .result .next - at) (drop at text)) ≡ lineBytes (line (start found))
   part =
-      let e : found .line-from .result .next - at ≡ length (line (start found)) = omega (arith, onward found) in
+      let e : found .read-line .result .next - at ≡ length (line (start found)) = omega (arith, onward found) in
       ap lineBytes (ap (λ (k : ℕ). take k (drop at text)) e ∙ line-part text at)
 
   -- it is answered by its bytes
@@ -187,7 +187,7 @@ pub answer-spec : {M : Type 1} → statement M
 answer-spec =
     tie.close
     (tie.spec
-    line-from-requires
+    read-line-requires
     refuse-requires
     returns
     positions-requires
