@@ -38,7 +38,7 @@ fn lines_ok(text: &[u8]) -> bool
     true
 }
 
-// Whether the lines from `from` on are as many as the head demands, each of its frame's length.
+// Whether the lines from `from` on are as many as the head demands, each of its frame's length. Digits are not tested again: two characters make a byte, whatever they are.
 fn lines_fit(head: &[u8], text: &[u8], from: usize) -> bool
     requires { ⌜ Headed (now head) ⌝ }
     ensures { λ r. ⌜ r ≡ linesFit (now (head .entry)) 0 (linesOf (drop from (now (text .entry)))) ⌝ }
@@ -47,14 +47,14 @@ fn lines_fit(head: &[u8], text: &[u8], from: usize) -> bool
     let mut at = from;
     let mut i: usize = 0;
     while at < text.len() {
-        let line = read_line(text, at);
+        let next = line_end(text, at);
         if count <= i {
             return false;
         }
-        if line.bytes != layout::frame_length(head, i) {
+        if (next - at) / 2 != layout::frame_length(head, i) {
             return false;
         }
-        at = line.next;
+        at = next;
         i += 1;
     }
     i == count
@@ -110,8 +110,7 @@ fn decode_lines(text: &[u8], out: &mut [u8]) -> usize
     let mut at: usize = 0;
     let mut to: usize = 0;
     while at < text.len() {
-        let line = read_line(text, at);
-        let next = line.next;
+        let next = line_end(text, at);
         to = decode_line(&text[at..next], out, to);
         at = next;
     }

@@ -12,7 +12,6 @@ use Rattle.basics.proofs.Lists.{sets-behind, sets-front}
 use Rattle.frames.specs.Lines.{linesOf, lineBytes}
 use Rattle.frames.specs.Places.{lineFrom}
 use Rattle.frames.specs.Reading.{blockOf}
-use Rattle.frames.specs.declared.lines.Line.{Line}
 use Rattle.frames.proofs.LineLaws.{line-some, line-part, line-inside}
 use Rattle.frames.proofs.ReadingLaws.{behind, block-from, block-end}
 use Rattle.frames.proofs.reading.decode_lines.Statement.{statement}
@@ -30,10 +29,10 @@ abbrev μ-loop : tie.MeasureT-loop
 loop-holds : tie.Need-loop-holds Inv-loop μ-loop
 loop-holds c = (refl, omega arith, refl)
 
-read-line-requires : tie.Need-read-line-requires Inv-loop μ-loop
-read-line-requires c κs = search needs
+line-end-requires : tie.Need-line-end-requires Inv-loop μ-loop
+line-end-requires c κs = search needs
 
-module _ (c : tie.After-read-line Inv-loop μ-loop) where
+module _ (c : tie.After-line-end Inv-loop μ-loop) where
   abbrev x : List ℕ
   x = now (c .before .before .before .before .before .args .text)
 
@@ -41,16 +40,16 @@ module _ (c : tie.After-read-line Inv-loop μ-loop) where
   at = c .before .before .loop .at
 
   -- where the next line begins
-  onward : c .read-line .result .next ≡ at + length (lineFrom x at)
-  onward = ap (λ (l : Line). l .next) (c .read-line .ensures)
+  onward : c .line-end .result ≡ at + length (lineFrom x at)
+  onward = c .line-end .ensures
 
   inside : at + length (lineFrom x at) ≤ length x
   inside = line-inside x at (let l = c .before .loop-test .taken in omega arith)
 
   -- the part that is decoded is this line
-  part : take (c .read-line .result .next - at) (drop at x) ≡ lineFrom x at
+  part : take (c .line-end .result - at) (drop at x) ≡ lineFrom x at
   part =
-      let e : c .read-line .result .next - at ≡ length (lineFrom x at) = omega (arith, onward) in
+      let e : c .line-end .result - at ≡ length (lineFrom x at) = omega (arith, onward) in
       ap (λ (k : ℕ). take k (drop at x)) e ∙ line-part x at
 
   -- its bytes, and those of the lines behind it
@@ -90,7 +89,7 @@ loop-again c =
     call .ensures .0 ∙ ap (λ (l : List ℕ). loop .to + length (lineBytes l)) (part d) in
     let written : call .last .1 .0 ≡ sets (loop .out) (loop .to) mine =
     call .ensures .1 ∙ ap (λ (l : List ℕ). sets (loop .out) (loop .to) (lineBytes l)) (part d) in
-    let left : blockOf (linesOf (drop (d .read-line .result .next) (x d))) ≡ rest =
+    let left : blockOf (linesOf (drop (d .line-end .result) (x d))) ≡ rest =
     ap (λ (k : ℕ). blockOf (linesOf (drop k (x d)))) (onward d) in (
       call .kept .1 .0 ∙ loop .inv .0,
       omega (arith, placed, bytes-length d, ap length left),
@@ -120,7 +119,7 @@ decode-lines-spec =
     Inv-loop
     μ-loop
     loop-holds
-    read-line-requires
+    line-end-requires
     sub-decode-line
     part-decode-line-start
     part-decode-line-end

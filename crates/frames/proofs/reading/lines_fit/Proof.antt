@@ -3,7 +3,7 @@
 use mathlib.Core.Path.{_≡_, refl, sym, ap, ap₂, _∙_}
 use mathlib.Core.Bool.{Bool, _&&_}
 use mathlib.Core.List.{List}
-use Prim.Native.Nat.{ℕ, suc, _+_, _-_, _≤_}
+use Prim.Native.Nat.{ℕ, suc, _+_, _-_, _/_, _≤_}
 use native.Mathlib.Omega.{arith}
 use native.Mathlib.Numerals.{add-one}
 use lib.Dec.{ltb, eqb}
@@ -16,7 +16,7 @@ use Rattle.blocks.specs.Layout.{frameCount, frameLength}
 use Rattle.frames.specs.Lines.{linesOf, lineBytes}
 use Rattle.frames.specs.Places.{lineFrom}
 use Rattle.frames.specs.Reading.{linesFit}
-use Rattle.frames.specs.declared.lines.Line.{Line}
+use Rattle.frames.proofs.PairLaws.{half-length}
 use Rattle.frames.proofs.LineLaws.{line-some}
 use Rattle.frames.proofs.ReadingLaws.{behind, fit-from, fit-end}
 use Rattle.frames.proofs.reading.lines_fit.Statement.{statement}
@@ -35,10 +35,10 @@ frame-count-requires c κs = search needs
 loop-holds : tie.Need-loop-holds Inv-loop μ-loop
 loop-holds c = (search needs, refl)
 
-read-line-requires : tie.Need-read-line-requires Inv-loop μ-loop
-read-line-requires c κs = search needs
+line-end-requires : tie.Need-line-end-requires Inv-loop μ-loop
+line-end-requires c κs = search needs
 
-module _ (c : tie.After-read-line Inv-loop μ-loop) where
+module _ (c : tie.After-line-end Inv-loop μ-loop) where
   abbrev start : tie.Start Inv-loop μ-loop
   start = c .before .before .before .before .before .before
 
@@ -55,11 +55,11 @@ module _ (c : tie.After-read-line Inv-loop μ-loop) where
   i = c .before .before .loop .i
 
   -- where the next line begins, and how many bytes this one has
-  onward : c .read-line .result .next ≡ at + length (lineFrom x at)
-  onward = ap (λ (l : Line). l .next) (c .read-line .ensures)
+  onward : c .line-end .result ≡ at + length (lineFrom x at)
+  onward = c .line-end .ensures
 
-  counted : c .read-line .result .bytes ≡ length (lineBytes (lineFrom x at))
-  counted = ap (λ (l : Line). l .bytes) (c .read-line .ensures)
+  counted : (c .line-end .result - at) / 2 ≡ length (lineBytes (lineFrom x at))
+  counted = omega (arith, onward, half-length (lineFrom x at))
 
   -- the tests of this line
   abbrev tested : Bool → Bool → Bool
@@ -76,13 +76,16 @@ returns c =
     let d = c .before in
     sym (turn d _ _ (le-ltb (i d) (frameCount (head d)) (omega arith)) refl)
 
+sub-if2 : tie.Need-sub-if2 Inv-loop μ-loop
+sub-if2 c = omega (arith, onward (c .before))
+
 frame-length-requires : tie.Need-frame-length-requires Inv-loop μ-loop
 frame-length-requires c κs = search needs
 
 returns-2 : tie.Need-returns-2 Inv-loop μ-loop
 returns-2 c =
-    let d = c .before .before .before .before in
-    sym (turn d _ _ refl (ne-eqb (length (lineBytes (lineFrom (x d) (at d)))) (frameLength (head d) (i d)) (λ e. c .if2 .taken (counted d ∙ e ∙ sym (c .before .before .frame-length .ensures))))
+    let d = c .before .before .before in
+    sym (turn d _ _ refl (ne-eqb (length (lineBytes (lineFrom (x d) (at d)))) (frameLength (head d) (i d)) (λ e. c .if2 .taken (counted d ∙ e ∙ sym (c .before .frame-length .ensures))))
     ∙ and-right-false (ltb (i d) (frameCount (head d))) _ refl)
 
 add-i : tie.Need-add-i Inv-loop μ-loop
@@ -90,14 +93,14 @@ add-i c = search needs
 
 loop-less : tie.Need-loop-less Inv-loop μ-loop
 loop-less c =
-    let d = c .before .before .before .before in
+    let d = c .before .before .before in
     omega (arith, onward d, line-some (x d) (at d) (d .before .loop-test .taken))
 
 loop-again : tie.Need-loop-again Inv-loop μ-loop
 loop-again c =
-    let d = c .before .before .before .before in
+    let d = c .before .before .before in
     let few = lt-ltb (i d) (frameCount (head d)) (omega arith) in
-    let fits = eq-eqb (length (lineBytes (lineFrom (x d) (at d)))) (frameLength (head d) (i d)) (sym (counted d) ∙ c .if2 .left ∙ c .before .before .frame-length .ensures) in
+    let fits = eq-eqb (length (lineBytes (lineFrom (x d) (at d)))) (frameLength (head d) (i d)) (sym (counted d) ∙ c .if2 .left ∙ c .before .frame-length .ensures) in
     (search needs, ap₂ (λ (j k : ℕ). linesFit (head d) j (linesOf (drop k (x d)))) (add-one (i d)) (onward d) ∙ sym (turn d _ _ few fits))
 
 returns-3 : tie.Need-returns-3 Inv-loop μ-loop
@@ -115,8 +118,9 @@ lines-fit-spec =
     μ-loop
     frame-count-requires
     loop-holds
-    read-line-requires
+    line-end-requires
     returns
+    sub-if2
     frame-length-requires
     returns-2
     add-i
