@@ -36,7 +36,6 @@ and-requires c κs = search needs
 first : (c : tie.After-read-line) → c .read-line .result .next ≡ length (lineFrom (input (c .before .before)) 0)
 first c = ap (λ (l : Line). l .next) (c .read-line .ensures) ∙ zero-add (length (lineFrom (input (c .before .before)) 0))
 
-<<<<<<< HEAD:crates/openings/proofs/opening/exercise_end/Proof.antt
 module _ (c : tie.After-and) where
   abbrev lines : List (List ℕ)
   lines = linesOf (input (c .before .before .before .before))
@@ -44,13 +43,7 @@ module _ (c : tie.After-and) where
   -- the tests on it
   tested : c .and .result ≡ (lineOk (firstLine lines) && headLineOk lines)
   unfolding lineFrom
-  tested = c .and .ensures ∙ ap (λ (l : Line). l .ok && eqb (l .bytes) headLength) (c .before .before .line-from .ensures)
-=======
--- the tests on it
-tested : (c : tie.After-and) → c .and .result ≡ (lineOk (firstLine (linesOf (input (c .before .before .before .before)))) && headLineOk (linesOf (input (c .before .before .before .before))))
-unfolding lineFrom
-tested c = c .and .ensures ∙ ap (λ (l : Line). l .ok && eqb (l .bytes) headLength) (c .before .before .read-line .ensures)
->>>>>>> 5d30a29 (frames: the reader's functions named after what they give, laws inside a line apart from those of lines):crates/par_lines/proofs/opening/exercise_end/Proof.antt
+  tested = c .and .ensures ∙ ap (λ (l : Line). l .ok && eqb (l .bytes) headLength) (c .before .before .read-line .ensures)
 
 returns : tie.Need-returns
 returns c =
