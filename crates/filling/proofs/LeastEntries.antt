@@ -1,7 +1,6 @@
--- Each entry of a table of least costs is the least cost from its state, in the terms of the language (`least-entry`), and so is each of the filled table
--- (`filled-least`), which has an entry for each abstract state (`filled-length`) and passes the lower-bound test (`filled-passes`), so that its estimates are lower bounds (`filled-low`,
--- `filled-small`). Costs are bytes where the block's elements are (`cost-bytes`).
--- They say what a fill is good for; fixed tables are shown exact by the first.
+-- What the entries of an exact table mean: each is the least cost from its state (`least-entry`), in the filled table too (`filled-least`), which has an entry for each
+-- abstract state (`filled-length`) and passes the test (`filled-passes`); so its estimates are lower bounds (`filled-low`, `filled-small`).
+-- Fixed tables are shown exact by the first; what `par` prints, and the exercises, rest on the others.
 use mathlib.Core.Path.{_≡_, sym, _∙_}
 use mathlib.Core.Bool.{true}
 use mathlib.Core.List.{List}
@@ -26,7 +25,7 @@ use Rattle.distances.proofs.LeastCostLaws.{least-costs, least-costs-pass}
 use Rattle.tables.specs.Abstraction.{graphOf}
 use Rattle.tables.specs.Tables.{entry, estimate, passesTest, LowerBound}
 use Rattle.tables.proofs.Promises.{lower-bound}
-use Rattle.tables.proofs.OverRanks.{rank-relabelled, rank-in, reaches-rank, cost-rank, relabelled-abstract}
+use Rattle.tables.proofs.OverRanks.{rank-relabelled, rank-in, reaches-rank, cost-rank, relabelled-block}
 use Rattle.filling.specs.FilledTables.{filled, CostBytes, LeastCost}
 
 module _ (b : List ℕ) (v : Valid b) where
@@ -36,11 +35,10 @@ module _ (b : List ℕ) (v : Valid b) where
       → Least (graphOf (relabelBlock b)) (rank (relabelBlock b) u) e → LeastCost (relabelBlock b) u e
   least-at-rank u ok e h =
       let a = relabelBlock b in
-      let v′ = relabelled-valid b v in
       let same : (rs : List ℕ) → reaches (graphOf a) (rank a u) rs ≡ runs.reaches a u rs =
-      λ rs. reaches-rank a v′ (relabelled-abstract b) u rs ok in
+      λ rs. reaches-rank a (relabelled-block b v) u rs ok in
       let costs : (rs : List ℕ) → totalCost (graphOf a) rs ≡ runs.totalCost a rs =
-      cost-rank a v′ (relabelled-abstract b) in
+      cost-rank a (relabelled-block b v) in
       ⊎-elim
       (λ n. inl (n .0, λ rs w. n .1 rs (same rs ∙ w)))
       (λ n.
@@ -59,10 +57,9 @@ module _ (b : List ℕ) (v : Valid b) where
   unfolding entry
   least-entry t h u ok =
       let a = relabelBlock b in
-      let v′ = relabelled-valid b v in
       let ok′ = abstract-states b u ∙ ok in
       rw (sym (rank-relabelled b u))
-      (least-at-rank u ok′ (getD t (rank a u) 0) (h .least (rank a u) (rank-in a v′ (relabelled-abstract b) u ok′)))
+      (least-at-rank u ok′ (getD t (rank a u) 0) (h .least (rank a u) (rank-in a (relabelled-block b v) u ok′)))
 
 -- a block of bytes
 pub cost-bytes : (b : List ℕ) → Bytes b → CostBytes b

@@ -2,15 +2,15 @@
 -- Every table that passes gives the same plan (`same-answer`); an answer stays within the allowance and the cost limit (`visits-within`, `cost-within`).
 -- The search call's promises rest on these.
 use mathlib.Core.Path.{_≡_, refl, sym, ap, ap₂, subst, _∙_}
-use mathlib.Core.Logic.{_⊎_, inl, inr}
-use mathlib.Core.Bool.{Bool, true, false, cond, not, _&&_, _||_, true≢false}
+use mathlib.Core.Logic.{_⊎_, inl, inr, _≢_}
+use mathlib.Core.Bool.{Bool, true, false, cond, _&&_, true≢false}
 use mathlib.Core.Option.{none, some, Option·none-ne-some, Option·some-injective}
 use mathlib.Core.List.{List, [], _∷_}
 use Prim.Native.Nat.{ℕ, _+_, _≤_, _<_}
 use native.Mathlib.Omega.{arith}
-use lib.Dec.{eqb, leb, ltb}
+use lib.Dec.{eqb, ltb}
 use lib.ListN.{length, getD}
-use borrow.Author.Tests.{eq-eqb, eqb-true, ne-eqb, eqb-false, leb-true, not-true}
+use borrow.Author.Tests.{eq-eqb, eqb-true}
 use Rattle.basics.proofs.Truth.{and-true, and-intro}
 use Rattle.basics.proofs.Order.{below?}
 use Rattle.blocks.specs.Layout.{rules, costOf}
@@ -59,18 +59,9 @@ exercise-lawful {b} v =
 
 -- ---- estimates
 
--- where the entry f after a rule is no mark, the one before it, e, is none and is bounded: entries are at most the mark
-bounded-number :
-    (e c f : ℕ) → f < 4294967295 → e ≤ 4294967295 → (eqb f 4294967295 || (not (eqb e 4294967295) && leb e (c + f))) ≡ true
-    → (e < 4294967295) × (e ≤ c + f)
-bounded-number e c f l h q =
-    let off : eqb f 4294967295 ≡ false = ne-eqb f 4294967295 (λ z. omega arith) in
-    let (a, m) = and-true (not (eqb e 4294967295)) (leb e (c + f)) (rw off at q) in
-    let unmarked : e ≡ 4294967295 → ⊥ = eqb-false e 4294967295 (not-true _ a) in
-    (strict e unmarked h, leb-true e (c + f) m)
-  where
-    strict : (x : ℕ) → (x ≡ 4294967295 → ⊥) → x ≤ 4294967295 → x < 4294967295
-    strict x n h = omega arith
+-- a number that is at most the mark and is not the mark
+below-mark : (x : ℕ) → x ≢ 4294967295 → x ≤ 4294967295 → x < 4294967295
+below-mark x n h = omega arith
 
 module _ (b t : List ℕ) (low : LowerBound b (estimate b t)) where
   -- where rule r leads from s to u, and u is not marked
@@ -79,7 +70,8 @@ module _ (b t : List ℕ) (low : LowerBound b (estimate b t)) where
       → estimate b t s ≤ 4294967295 → (estimate b t s < 4294967295) × (estimate b t s ≤ costOf b r + estimate b t u)
   after-rule r s u ok e n h =
       let (l, a, m) = step-made r (rules b) (applies b r s) (step b r s) u e in
-      bounded-number (estimate b t s) (costOf b r) (estimate b t u) n h (rw m at (low .rule s r ok l a))
+      let (q, k) = rw m at (low .rule s r ok l a) (λ z. omega arith) in
+      (below-mark (estimate b t s) q h, k)
 
   -- no estimate is above the mark: the lower-bound test looks for the mark alone, and would let a larger one pass
   pub exercise-passing :

@@ -30,13 +30,13 @@ module _ (b : List ℕ) where
       ap₂ (λ (k n : ℕ). valueTo (λ i. k) u n) (abstracts-relabelled b) (positions-relabelled b)
 
 -- a block whose states are its abstract states
-module _ (a : List ℕ) (v : Valid a) (abstract : (u : List ℕ) → stateOk a u ≡ abstractOk a u) where
+module _ (a : List ℕ) (relabelled : Relabelled a) where
   module _ (u : List ℕ) (ok : stateOk a u ≡ true) where
     pub at-rank : unrank a (rank a u) ≡ u
-    at-rank = unrank-rank a u (sym (abstract u) ∙ ok)
+    at-rank = unrank-rank a u (sym (relabelled .abstract u) ∙ ok)
 
     pub rank-in : rank a u < abstractStates a
-    rank-in = rank-below a u (sym (abstract u) ∙ ok)
+    rank-in = rank-below a u (sym (relabelled .abstract u) ∙ ok)
 
     step-from : (r : ℕ) → stepRank a (rank a u) r ≡ cond (applies a r u) (rank a (step a r u)) (abstractStates a)
     unfolding stepRank
@@ -64,7 +64,7 @@ module _ (a : List ℕ) (v : Valid a) (abstract : (u : List ℕ) → stateOk a u
       go true e false d ih =
           rw (no-step u ok r d, le-ltb (abstractStates a) (abstractStates a) (le-refl (abstractStates a)))
       go true e true d ih =
-          let k = step-state a v r (ltb-true r (rules a) e) u ok in
+          let k = step-state a (relabelled .valid) r (ltb-true r (rules a) e) u ok in
           rw (step-rank u ok r d, lt-ltb (rank a (step a r u)) (abstractStates a) (rank-in (step a r u) k)) (ih k)
 
   pub cost-rank : (rs : List ℕ) → totalCost (graphOf a) rs ≡ runs.totalCost a rs
@@ -72,7 +72,7 @@ module _ (a : List ℕ) (v : Valid a) (abstract : (u : List ℕ) → stateOk a u
   cost-rank (r ∷ rs) = ap (λ (c : ℕ). costOf a r + c) (cost-rank rs)
 
 -- the relabelled block is such a block, and each of its states its own relabelled state
-pub relabelled-abstract : (b u : List ℕ) → stateOk (relabelBlock b) u ≡ abstractOk (relabelBlock b) u
+relabelled-abstract : (b u : List ℕ) → stateOk (relabelBlock b) u ≡ abstractOk (relabelBlock b) u
 unfolding abstractCount
 relabelled-abstract b u =
     abstract-states b u ∙ ap₂ (λ (n k : ℕ). labelled n (λ i. k) u) (sym (positions-relabelled b)) (sym (abstracts-relabelled b))

@@ -14,13 +14,14 @@ use Rattle.psvn.specs.Rules.{applies, step, meets}
 use Rattle.psvn.specs.Relabelling.{relabelState}
 use Rattle.psvn.specs.Ranks.{rank, unrank}
 use Rattle.psvn.proofs.Stepping.{step-state}
-use Rattle.psvn.proofs.RankLaws.{rank-below, unrank-state, rank-unrank}
+use Rattle.psvn.proofs.RankLaws.{unrank-state, rank-unrank}
 use Rattle.words.specs.Packing.{unpack}
 use Rattle.words.specs.Sides.{appliesWord, stepWord, meetsWord}
 use Rattle.words.specs.Ranking.{rankWord, wordOf}
 use Rattle.words.proofs.Meaning.{applies-word, step-word, cost-word, meets-word, rank-word, unpack-word-of, word-of-small}
 use Rattle.distances.specs.Filling.{Cheap}
 use Rattle.tables.specs.Abstraction.{stepRank, graphOf, Ready}
+use Rattle.tables.proofs.OverRanks.{rank-in}
 
 module _ (a words moves weights : List ℕ) (ready : Ready a words moves weights) where
   headed : Headed a
@@ -72,8 +73,7 @@ module _ (a words moves weights : List ℕ) (ready : Ready a words moves weights
 
       pub step-in : applies a r (unrank a u) ≡ true → stepRank a u r < abstractStates a
       step-in h =
-          rw (step-applied h)
-          (rank-below a (step a r (unrank a u)) (sym (ready .relabelled .abstract (step a r (unrank a u))) ∙ made-state))
+          rw (step-applied h) (rank-in a (ready .relabelled) (step a r (unrank a u)) made-state)
 
       -- where it does not apply, no rank
       pub step-out : applies a r (unrank a u) ≡ false → abstractStates a ≤ stepRank a u r

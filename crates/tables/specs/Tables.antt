@@ -3,14 +3,16 @@
 use mathlib.Core.Path.{_≡_}
 use mathlib.Core.Bool.{Bool, true}
 use mathlib.Core.List.{List}
-use Prim.Native.Nat.{ℕ, _<_}
+use mathlib.Core.Logic.{_≢_}
+use Prim.Native.Nat.{ℕ, _+_, _≤_, _<_}
 use lib.ListN.{getD}
 use Rattle.blocks.specs.Layout.{rules, costOf}
 use Rattle.blocks.specs.States.{stateOk}
 use Rattle.psvn.specs.Rules.{applies, step, meets}
 use Rattle.psvn.specs.Relabelling.{relabelBlock, relabelState}
 use Rattle.psvn.specs.Ranks.{rank}
-use Rattle.distances.specs.LowerBounds.{bounded, passes}
+use Rattle.distances.specs.Graphs.{mark}
+use Rattle.distances.specs.LowerBounds.{passes}
 use Rattle.tables.specs.Abstraction.{graphOf}
 
 -- the entry of an abstract state
@@ -30,4 +32,4 @@ pub record LowerBound (b : List ℕ) (h : List ℕ → ℕ) : Type 0 where
   pub goal : (s : List ℕ) → stateOk b s ≡ true → meets b s ≡ true → h s ≡ 0
   pub rule :
       (s : List ℕ) (r : ℕ) → stateOk b s ≡ true → r < rules b → applies b r s ≡ true
-      → bounded (h s) (costOf b r) (h (step b r s)) ≡ true
+      → h (step b r s) ≢ mark → (h s ≢ mark) × (h s ≤ costOf b r + h (step b r s))
