@@ -1,6 +1,6 @@
 // The call that looks an entry up.
 ghost use mathlib.Core.Path.{_≡_};
-ghost use Rattle.table_calls.specs.Estimating.{estimateOf};
+ghost use Rattle.table_calls.specs.Estimating.{lookUpOf};
 ghost use Rattle.c_answers.specs.Numbers.{entryOf};
 use super::verdicts::number_of;
 use engine::Estimate;
@@ -14,7 +14,7 @@ pub struct Entry {
 
 // What a look-up answers.
 pub fn looked_up(estimate: Estimate) -> Entry
-    ensures { λ r. ⌜ r ≡ entryOf (estimateOf estimate) ⌝ }
+    ensures { λ r. ⌜ r ≡ entryOf (lookUpOf estimate) ⌝ }
 {
     match estimate {
         Estimate::Entry(entry) => Entry { refusal: 0, entry },

@@ -1,5 +1,5 @@
 -- `leastCosts` is the table of the least costs of lists of any length (`least-costs`): a list that reaches a goal has a shortcut of no more rules than were counted.
--- So it is the one exact table (`filled-value`), and it passes the lower-bound test (`least-costs-pass`). What the fill answers rests on these.
+-- So it is the one exact table (`least-costs-only`), and it passes the lower-bound test (`least-costs-pass`). What the fill answers rests on these.
 use mathlib.Core.Path.{_≡_}
 use mathlib.Core.Logic.{⊎-elim, inl, inr, _≢_}
 use mathlib.Core.Bool.{true}
@@ -41,8 +41,8 @@ module _ (g : Graph) (cheap : Cheap g) (small : g .states ≤ 16384) where
   unfolding leastCosts
   least-costs = record { len = length-within g (g .states); least = least-at }
 
-  pub filled-value : (t : List ℕ) → LeastTable g t → t ≡ leastCosts g
-  filled-value t a = table-one g t (leastCosts g) a least-costs
+  pub least-costs-only : (t : List ℕ) → LeastTable g t → t ≡ leastCosts g
+  least-costs-only t a = table-one g t (leastCosts g) a least-costs
 
   pub least-costs-pass : passes g (leastCosts g) ≡ true
   least-costs-pass = least-passes g (leastCosts g) least-costs

@@ -1,6 +1,6 @@
 -- The lower-bound test as two propositions, at one state (`at-goal`, `at-rule`, `at-intro`) and at all (`passes-goal`, `passes-rule`, `passes-intro`, `passes-at`).
 -- A table that passes is at most the cost of every list that reaches a goal (`passing-bound`), and zeros pass (`zeros-pass`).
--- Exactness, the fill's last pass and the certificate rest on these.
+-- Exactness, the certificate, the sweeps of the fill, the test at one state and what a passing table promises rest on these.
 use mathlib.Core.Path.{_≡_, refl, ap}
 use mathlib.Core.Logic.{_≢_}
 use mathlib.Core.Bool.{Bool, true, false, not, _&&_, _||_}

@@ -15,7 +15,7 @@ use Rattle.distances.specs.Graphs.{Graph, mark}
 use Rattle.distances.specs.LowerBounds.{passesAt}
 use Rattle.distances.specs.Filling.{Cheap, none, Best}
 use Rattle.distances.proofs.Passing.{ZeroAtGoal, at-goal, at-rule, at-intro}
-use Rattle.distances.proofs.Sweeping.{via-at, via-found}
+use Rattle.distances.proofs.OneRule.{via-at, via-found}
 
 pub test-goal : (g : Graph) (t : List ℕ) (u : ℕ) → g .goal u ≡ true → getD t u 0 ≢ 0 → passesAt g t u ≡ false
 test-goal g t u e z = not-so (passesAt g t u) (λ p. z (at-goal g t u p e))

@@ -1,5 +1,5 @@
 -- The lower-bound test of a table over a graph (`passes`), one state at a time (`passesAt`).
--- The test of a table (refusal 13) and the verifying pass of the fill rest on it.
+-- The test of a table (refusal 13) and the sweeps of the fill rest on it.
 use mathlib.Core.Bool.{Bool, not, _&&_, _||_}
 use mathlib.Core.List.{List}
 use Prim.Native.Nat.{ℕ, _+_}

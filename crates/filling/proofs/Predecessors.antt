@@ -15,23 +15,23 @@ use Rattle.tables.proofs.WordEdges.{few, word-edge}
 use Rattle.filling.specs.RankWords.{Ranked}
 
 module _
-    (a words moves weights of-rank table : List ℕ)
-    (ready : Ready a words moves weights) (ranked : Ranked a of-rank) (good : Good (graphOf a) table)
+    (a words moves weights ranked table : List ℕ)
+    (ready : Ready a words moves weights) (holds : Ranked a ranked) (good : Good (graphOf a) table)
     (r v : ℕ) (r-in : r < rules a) (v-in : v < abstractStates a) where
   -- the rank, and the answers of the tests, as whoever tests has them
   pub candidate-lowers :
-      (u candidate made : ℕ) (answer : Bool) → u < length table → getD of-rank u 0 ≡ candidate
+      (u candidate made : ℕ) (answer : Bool) → u < length table → getD ranked u 0 ≡ candidate
       → answer ≡ appliesWord words moves r candidate → answer ≡ true
-      → made ≡ stepWord words moves r candidate → made ≡ getD of-rank v 0
+      → made ≡ stepWord words moves r candidate → made ≡ getD ranked v 0
       → Lowering (graphOf a) table u r v
   candidate-lowers u candidate made answer l e tested applies stepped leads =
       let u-in : u < abstractStates a = omega (arith, good .len) in
-      let same : candidate ≡ wordOf a u = sym e ∙ ranked .word u u-in in
+      let same : candidate ≡ wordOf a u = sym e ∙ holds .word u u-in in
       record {
         small = few a words moves weights ready;
         good = good;
         u-in = u-in;
         r-in = r-in;
         v-in = v-in;
-        edge = word-edge a words moves weights ready u r r-in v v-in (rw same at (sym tested ∙ applies)) (rw same at (sym stepped ∙ leads ∙ ranked .word v v-in));
+        edge = word-edge a words moves weights ready u r r-in v v-in (rw same at (sym tested ∙ applies)) (rw same at (sym stepped ∙ leads ∙ holds .word v v-in));
       }

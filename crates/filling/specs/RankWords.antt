@@ -8,6 +8,6 @@ use Rattle.blocks.specs.Layout.{abstractStates}
 use Rattle.words.specs.Ranking.{wordOf}
 
 -- the word of each rank
-pub record Ranked (a of-rank : List ℕ) : Type 0 where
-  pub len : length of-rank ≡ 16384
-  pub word : (u : ℕ) → u < abstractStates a → getD of-rank u 0 ≡ wordOf a u
+pub record Ranked (a ranked : List ℕ) : Type 0 where
+  pub len : length ranked ≡ 16384
+  pub word : (u : ℕ) → u < abstractStates a → getD ranked u 0 ≡ wordOf a u

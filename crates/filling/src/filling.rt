@@ -39,22 +39,22 @@ fn clear(
     words: &[u64; 608],
     moves: &[u8; 4384],
     weights: &[u16; 2048],
-    ranks: &mut [u64; 16384],
+    ranked: &mut [u64; 16384],
     table: &mut [u32],
 )
-    requires { ⌜ Ready (now block) (now words) (now moves) (now weights) × (length (now ranks) ≡ 16384) × (length (now table) ≡ abstractStates (now block)) ⌝ }
-    ensures { λ _. ⌜ Ranked (now (block .entry)) (now (ranks .exit)) × Good (graphOf (now (block .entry))) (now (table .exit)) ⌝ }
+    requires { ⌜ Ready (now block) (now words) (now moves) (now weights) × (length (now ranked) ≡ 16384) × (length (now table) ≡ abstractStates (now block)) ⌝ }
+    ensures { λ _. ⌜ Ranked (now (block .entry)) (now (ranked .exit)) × Good (graphOf (now (block .entry))) (now (table .exit)) ⌝ }
 {
     let mut u: usize = 0;
     while u < table.len() {
         let word = word_of(block, u);
-        ranks[u] = word;
+        ranked[u] = word;
         table[u] = cleared_entry(block, words, moves, word);
         u += 1;
     }
 }
 
-// Compiles a relabelled block and fills the table; and whether the sweeps still lowered an entry.
+// Compiles a relabelled block and fills the table; and whether the sweeps still lowered an entry. Nothing is proved of this answer, which `fill_order` watches.
 fn fill_relabelled(block: &[u8], table: &mut [u32]) -> bool
     requires { ⌜ Relabelled (now block) × (length (now table) ≡ abstractStates (now block)) ⌝ }
     ensures { λ _. ⌜ now (table .exit) ≡ leastCosts (graphOf (now (block .entry))) ⌝ }
@@ -62,14 +62,15 @@ fn fill_relabelled(block: &[u8], table: &mut [u32]) -> bool
     let mut words = [0u64; 608];
     let mut moves = [0u8; 4384];
     let mut weights = [0u16; 2048];
-    let mut ranks = [0u64; 16384];
+    let mut ranked = [0u64; 16384];
     compile(block, &mut words, &mut moves, &mut weights);
-    clear(block, &words, &moves, &weights, &mut ranks, table);
-    spread(block, &words, &moves, &weights, &ranks, table);
-    settle(block, &words, &moves, &weights, &ranks, table)
+    clear(block, &words, &moves, &weights, &mut ranked, table);
+    spread(block, &words, &moves, &weights, &ranked, table);
+    settle(block, &words, &moves, &weights, &ranked, table)
 }
 
-// Fills the table of a block; and whether the sweeps still lowered an entry, of which the fast pass should leave none.
+// Fills the table of a block; and whether the sweeps still lowered an entry, of which the fast pass should leave none. Nothing is proved of this answer, which
+// `fill_order` watches.
 pub fn fill(block: &[u8], table: &mut [u32]) -> bool
     requires { ⌜ Valid (now block) × (abstractStates (now block) ≤ length (now table)) ⌝ }
     ensures { λ _. ⌜ now (table .exit) ≡ atFront (filled (now (block .entry))) (now (table .entry)) ⌝ }

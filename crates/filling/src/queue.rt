@@ -43,7 +43,7 @@ pub fn first(links: &[u16; 33024], k: usize) -> usize
 }
 
 // The first list from k on, round the end, that has a state; or k again where all are empty.
-pub fn filled_list(links: &[u16; 33024], k: usize) -> usize
+pub fn list_with_state(links: &[u16; 33024], k: usize) -> usize
     requires { ⌜ k < 256 ⌝ }
     ensures { λ r. ⌜ r < 256 ⌝ }
 {

@@ -7,9 +7,9 @@ ghost use Rattle.distances.specs.Filling.{Good, Lowering};
 ghost use Rattle.tables.specs.Abstraction.{graphOf, Ready};
 ghost use Rattle.filling.specs.RankWords.{Ranked};
 use super::queue::END;
-use super::queue::filled_list;
 use super::queue::first;
 use super::queue::list_of;
+use super::queue::list_with_state;
 use super::queue::put_goals;
 use super::queue::put_in;
 use super::queue::take_out;
@@ -59,41 +59,41 @@ fn try_candidate(
     words: &[u64; 608],
     moves: &[u8; 4384],
     weights: &[u16; 2048],
-    ranks: &[u64; 16384],
+    ranked: &[u64; 16384],
     table: &mut [u32],
     links: &mut [u16; 33024],
     r: usize,
     v: usize,
     candidate: u64,
 ) -> bool
-    requires { ⌜ Ready (now block) (now words) (now moves) (now weights) × Ranked (now block) (now ranks) × Good (graphOf (now block)) (now table) ⌝ }
+    requires { ⌜ Ready (now block) (now words) (now moves) (now weights) × Ranked (now block) (now ranked) × Good (graphOf (now block)) (now table) ⌝ }
     requires { ⌜ (r < rules (now block)) × (v < abstractStates (now block)) ⌝ }
     ensures { λ _. ⌜ Good (graphOf (now (block .entry))) (now (table .exit)) ⌝ }
 {
     if !applies_word(words, moves, r, candidate) {
         return false;
     }
-    if step_word(words, moves, r, candidate) != ranks[v] {
+    if step_word(words, moves, r, candidate) != ranked[v] {
         return false;
     }
     let u = rank_word(weights, layout::positions(block), candidate);
     if table.len() <= u {
         return false;
     }
-    if ranks[u] != candidate {
+    if ranked[u] != candidate {
         return false;
     }
     lower(block, table, links, u, r, v, cost_word(words, r) as u32);
     true
 }
 
-// Rule r, backwards from v: each candidate for the old state in turn.
+// Rule r, backwards from v: each candidate for the state before it in turn.
 fn pull(
     block: &[u8],
     words: &[u64; 608],
     moves: &[u8; 4384],
     weights: &[u16; 2048],
-    ranks: &[u64; 16384],
+    ranked: &[u64; 16384],
     back_words: &[u64; 608],
     back_moves: &[u8; 4384],
     groups: &[u64; 2176],
@@ -102,23 +102,34 @@ fn pull(
     r: usize,
     v: usize,
 )
-    requires { ⌜ Ready (now block) (now words) (now moves) (now weights) × Ranked (now block) (now ranks) × Good (graphOf (now block)) (now table) ⌝ }
+    requires { ⌜ Ready (now block) (now words) (now moves) (now weights) × Ranked (now block) (now ranked) × Good (graphOf (now block)) (now table) ⌝ }
     requires { ⌜ (r < rules (now block)) × (v < abstractStates (now block)) ⌝ }
     ensures { λ _. ⌜ Good (graphOf (now (block .entry))) (now (table .exit)) ⌝ }
 {
-    let after = ranks[v];
+    let after = ranked[v];
     if !may_apply(back_words, r, after) {
         return;
     }
     let start = step_word(back_words, back_moves, r, after);
-    let mut old = start;
+    let mut candidate = start;
     let mut left = table.len();
     while left > 0 {
-        if !try_candidate(block, words, moves, weights, ranks, table, links, r, v, old) {
+        if !try_candidate(
+            block,
+            words,
+            moves,
+            weights,
+            ranked,
+            table,
+            links,
+            r,
+            v,
+            candidate,
+        ) {
             return;
         }
-        old = next_candidate(groups, layout::abstracts(block) as u64, r, old);
-        if old == start {
+        candidate = next_candidate(groups, layout::abstracts(block) as u64, r, candidate);
+        if candidate == start {
             return;
         }
         left -= 1;
@@ -131,7 +142,7 @@ fn expand(
     words: &[u64; 608],
     moves: &[u8; 4384],
     weights: &[u16; 2048],
-    ranks: &[u64; 16384],
+    ranked: &[u64; 16384],
     back_words: &[u64; 608],
     back_moves: &[u8; 4384],
     groups: &[u64; 2176],
@@ -139,7 +150,7 @@ fn expand(
     links: &mut [u16; 33024],
     v: usize,
 )
-    requires { ⌜ Ready (now block) (now words) (now moves) (now weights) × Ranked (now block) (now ranks) × Good (graphOf (now block)) (now table) ⌝ }
+    requires { ⌜ Ready (now block) (now words) (now moves) (now weights) × Ranked (now block) (now ranked) × Good (graphOf (now block)) (now table) ⌝ }
     requires { ⌜ v < abstractStates (now block) ⌝ }
     ensures { λ _. ⌜ Good (graphOf (now (block .entry))) (now (table .exit)) ⌝ }
 {
@@ -151,7 +162,7 @@ fn expand(
             words,
             moves,
             weights,
-            ranks,
+            ranked,
             back_words,
             back_moves,
             groups,
@@ -170,20 +181,20 @@ fn run_queue(
     words: &[u64; 608],
     moves: &[u8; 4384],
     weights: &[u16; 2048],
-    ranks: &[u64; 16384],
+    ranked: &[u64; 16384],
     back_words: &[u64; 608],
     back_moves: &[u8; 4384],
     groups: &[u64; 2176],
     table: &mut [u32],
     links: &mut [u16; 33024],
 )
-    requires { ⌜ Ready (now block) (now words) (now moves) (now weights) × Ranked (now block) (now ranks) × Good (graphOf (now block)) (now table) ⌝ }
+    requires { ⌜ Ready (now block) (now words) (now moves) (now weights) × Ranked (now block) (now ranked) × Good (graphOf (now block)) (now table) ⌝ }
     ensures { λ _. ⌜ Good (graphOf (now (block .entry))) (now (table .exit)) ⌝ }
 {
     let mut list: usize = 0;
     let mut left = MOST_TURNS;
     while left > 0 {
-        list = filled_list(links, list);
+        list = list_with_state(links, list);
         let v = first(links, list);
         if table.len() <= v {
             return;
@@ -194,7 +205,7 @@ fn run_queue(
             words,
             moves,
             weights,
-            ranks,
+            ranked,
             back_words,
             back_moves,
             groups,
@@ -212,10 +223,10 @@ pub fn spread(
     words: &[u64; 608],
     moves: &[u8; 4384],
     weights: &[u16; 2048],
-    ranks: &[u64; 16384],
+    ranked: &[u64; 16384],
     table: &mut [u32],
 )
-    requires { ⌜ Ready (now block) (now words) (now moves) (now weights) × Ranked (now block) (now ranks) × Good (graphOf (now block)) (now table) ⌝ }
+    requires { ⌜ Ready (now block) (now words) (now moves) (now weights) × Ranked (now block) (now ranked) × Good (graphOf (now block)) (now table) ⌝ }
     ensures { λ _. ⌜ Good (graphOf (now (block .entry))) (now (table .exit)) ⌝ }
 {
     let mut back_words = [0u64; 608];
@@ -229,7 +240,7 @@ pub fn spread(
         words,
         moves,
         weights,
-        ranks,
+        ranked,
         &back_words,
         &back_moves,
         &groups,

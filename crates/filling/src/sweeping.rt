@@ -12,16 +12,16 @@ fn sweep(
     words: &[u64; 608],
     moves: &[u8; 4384],
     weights: &[u16; 2048],
-    ranks: &[u64; 16384],
+    ranked: &[u64; 16384],
     table: &mut [u32],
 ) -> bool
-    requires { ⌜ Ready (now block) (now words) (now moves) (now weights) × Ranked (now block) (now ranks) × Good (graphOf (now block)) (now table) ⌝ }
+    requires { ⌜ Ready (now block) (now words) (now moves) (now weights) × Ranked (now block) (now ranked) × Good (graphOf (now block)) (now table) ⌝ }
     ensures { λ fell. ⌜ Swept (graphOf (now (block .entry))) (now (table .entry)) (now (table .exit)) fell ⌝ }
 {
     let mut fell = false;
     let mut u: usize = 0;
     while u < table.len() {
-        let least = best(block, words, moves, weights, table, u, ranks[u]);
+        let least = best(block, words, moves, weights, table, u, ranked[u]);
         if least < wide_entry(table[u]) {
             table[u] = least as u32;
             fell = true;
@@ -31,21 +31,21 @@ fn sweep(
     fell
 }
 
-// Sweeps until nothing falls; and whether an entry fell at all.
+// Sweeps until nothing falls; and whether an entry fell at all. Nothing is proved of this answer, which `fill_order` watches.
 pub fn settle(
     block: &[u8],
     words: &[u64; 608],
     moves: &[u8; 4384],
     weights: &[u16; 2048],
-    ranks: &[u64; 16384],
+    ranked: &[u64; 16384],
     table: &mut [u32],
 ) -> bool
-    requires { ⌜ Ready (now block) (now words) (now moves) (now weights) × Ranked (now block) (now ranks) × Good (graphOf (now block)) (now table) ⌝ }
+    requires { ⌜ Ready (now block) (now words) (now moves) (now weights) × Ranked (now block) (now ranked) × Good (graphOf (now block)) (now table) ⌝ }
     ensures { λ _. ⌜ LeastTable (graphOf (now (block .entry))) (now (table .exit)) ⌝ }
 {
     let mut lowered = false;
     loop {
-        if !sweep(block, words, moves, weights, ranks, table) {
+        if !sweep(block, words, moves, weights, ranked, table) {
             return lowered;
         }
         lowered = true;

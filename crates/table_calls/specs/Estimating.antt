@@ -1,5 +1,5 @@
 -- Looking up an estimate, as a public call: `lookUpEstimate`, for every input.
--- `estimateOf` gives the document's answer for each case of the enum.
+-- `lookUpOf` gives the document's answer for each case of the enum.
 use Prim.Native.Nat.{ℕ}
 use mathlib.Core.List.{List, [], _∷_, _++_}
 use lib.Dec.{leb}
@@ -13,9 +13,9 @@ use Rattle.table_calls.specs.declared.estimating.Estimate.{Estimate}
 use Rattle.table_calls.specs.declared.estimating.Estimate.the-variants.{Entry, Refused}
 
 -- the entry
-abbrev pub estimateOf : Estimate → Answer ℕ
-estimateOf (Entry entry) = told entry
-estimateOf (Refused refusal) = refused (refusalNumber refusal)
+abbrev pub lookUpOf : Estimate → Answer ℕ
+lookUpOf (Entry entry) = told entry
+lookUpOf (Refused refusal) = refused (refusalNumber refusal)
 
 -- 3 to 8, then 12; `room` is the length of the table
 unfoldable pub lookUpConditions : List ℕ → List ℕ → ℕ → List Condition

@@ -1,5 +1,5 @@
 -- The cost by one rule, as the code finds it: the rank that the rule's word leads to (`leads-to`), and no cost where the rule does not apply (`no-cost`).
--- `by_rule` rests on these.
+-- `via` rests on these.
 use mathlib.Core.Path.{_≡_, refl, sym, ap, ap₂, _∙_}
 use mathlib.Core.Bool.{true, false}
 use mathlib.Core.List.{List}
@@ -10,7 +10,7 @@ use Rattle.psvn.specs.Ranks.{unrank}
 use Rattle.words.specs.Sides.{appliesWord, stepWord}
 use Rattle.words.specs.Ranking.{rankWord, wordOf}
 use Rattle.distances.specs.Filling.{none, via}
-use Rattle.distances.proofs.Sweeping.{via-none}
+use Rattle.distances.proofs.OneRule.{via-none}
 use Rattle.tables.specs.Abstraction.{stepRank, graphOf, Ready}
 use Rattle.tables.proofs.WordEdges.{word-applies, word-leads, step-in, step-out}
 

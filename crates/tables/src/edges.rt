@@ -15,18 +15,18 @@ use words::sides::step_word;
 // The mark 'no path'.
 pub const MARK: u32 = 4294967295;
 
-// What stands for no cost.
-pub const NONE: u64 = 8589934592;
+// What stands for no cost: a number above every entry plus a cost.
+pub const NO_COST: u64 = 8589934592;
 
 // An entry as a wide cost.
 pub fn wide_entry(entry: u32) -> u64
-    ensures { λ x. ⌜ x ≡ entry ⌝ }
+    ensures { λ x. ⌜ (x ≡ entry) × (x ≤ 4294967295) ⌝ }
 {
     entry as u64
 }
 
-// The cost by rule r from the state of rank u, whose word is given; NONE where the rule does not apply or leads to a marked state.
-fn by_rule(
+// The cost by rule r from the state of rank u, whose word is given; NO_COST where the rule does not apply or leads to a marked state.
+fn via(
     block: &[u8],
     words: &[u64; 608],
     moves: &[u8; 4384],
@@ -41,7 +41,7 @@ fn by_rule(
     ensures { λ x. ⌜ x ≡ via (graphOf (now (block .entry))) (now (table .entry)) u r ⌝ }
 {
     if !applies_word(words, moves, r, word) {
-        return NONE;
+        return NO_COST;
     }
     let v = rank_word(
         weights,
@@ -52,7 +52,7 @@ fn by_rule(
     if entry < MARK {
         return wide_entry(entry) + cost_word(words, r);
     }
-    NONE
+    NO_COST
 }
 
 // The least cost by one rule from the state of rank u.
@@ -70,10 +70,10 @@ pub fn best(
     ensures { λ x. ⌜ Best (graphOf (now (block .entry))) (now (table .entry)) u x ⌝ }
 {
     let rules = layout::rules(block);
-    let mut least = NONE;
+    let mut least = NO_COST;
     let mut r: usize = 0;
     while r < rules {
-        let cost = by_rule(block, words, moves, weights, table, u, word, r);
+        let cost = via(block, words, moves, weights, table, u, word, r);
         if cost < least {
             least = cost;
         }

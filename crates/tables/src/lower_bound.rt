@@ -9,7 +9,7 @@ ghost use Rattle.distances.specs.LowerBounds as test;
 ghost use Rattle.tables.specs.Abstraction.{graphOf, Relabelled, Ready};
 ghost use Rattle.tables.specs.Tables.{passesTest};
 use super::edges::MARK;
-use super::edges::NONE;
+use super::edges::NO_COST;
 use super::edges::best;
 use super::edges::wide_entry;
 use blocks::layout;
@@ -39,7 +39,7 @@ fn passes_at(
         }
     }
     let least = best(block, words, moves, weights, table, u, word);
-    if NONE <= least {
+    if NO_COST <= least {
         return true;
     }
     if entry < MARK {

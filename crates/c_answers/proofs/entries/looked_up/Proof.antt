@@ -2,7 +2,7 @@
 -- Each case of the enum has the numbers of the answer that it stands for.
 use mathlib.Core.Path.{refl}
 use borrow.Author.Needs.{needs}
-use Rattle.table_calls.specs.Estimating.{estimateOf}
+use Rattle.table_calls.specs.Estimating.{lookUpOf}
 use Rattle.c_answers.specs.Numbers.{entryOf}
 use Rattle.c_answers.proofs.Cases.{as-number, as-case}
 use Rattle.c_answers.proofs.entries.looked_up.Statement.{statement}
@@ -18,10 +18,10 @@ number-of-requires : tie.Need-number-of-requires
 number-of-requires c κs = search needs
 
 returns : tie.Need-returns
-returns c = as-case entryOf estimateOf (c .before .estimate .given .1) refl
+returns c = as-case entryOf lookUpOf (c .before .estimate .given .1) refl
 
 returns-2 : tie.Need-returns-2
-returns-2 c = as-case entryOf estimateOf (c .before .before .estimate2 .given .1) (as-number entryOf (c .number-of .ensures))
+returns-2 c = as-case entryOf lookUpOf (c .before .before .estimate2 .given .1) (as-number entryOf (c .number-of .ensures))
 
 pub looked-up-spec : {M : Type 1} → statement M
 looked-up-spec =

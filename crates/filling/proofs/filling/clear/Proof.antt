@@ -21,12 +21,12 @@ use Rattle.filling.proofs.filling.clear.Statement.{statement}
 use Rattle.filling.proofs.filling.clear.Tie as tie
 
 abbrev Inv-loop : tie.InvT-loop
-Inv-loop block words moves weights ranks₀ table₀ u₀ ranks table u =
-    (u ≤ abstractStates block) × (abstractStates block ≤ 16384) × (length ranks ≡ 16384) × (length table ≡ abstractStates block)
-    × ((w : ℕ) → w < u → getD ranks w 0 ≡ wordOf block w) × Cleared (graphOf block) table u
+Inv-loop block words moves weights ranked₀ table₀ u₀ ranked table u =
+    (u ≤ abstractStates block) × (abstractStates block ≤ 16384) × (length ranked ≡ 16384) × (length table ≡ abstractStates block)
+    × ((w : ℕ) → w < u → getD ranked w 0 ≡ wordOf block w) × Cleared (graphOf block) table u
 
 abbrev μ-loop : tie.MeasureT-loop
-μ-loop block words moves weights ranks₀ table₀ u₀ ranks table u = abstractStates block - u
+μ-loop block words moves weights ranked₀ table₀ u₀ ranked table u = abstractStates block - u
 
 -- the entry that is written
 entry :
@@ -52,11 +52,11 @@ loop-holds c =
 word-of-requires : tie.Need-word-of-requires Inv-loop μ-loop
 word-of-requires c κs = search needs
 
-mul-ranks : tie.Need-mul-ranks Inv-loop μ-loop
-mul-ranks c = search needs
+mul-ranked : tie.Need-mul-ranked Inv-loop μ-loop
+mul-ranked c = search needs
 
-element-write-ranks : tie.Need-element-write-ranks Inv-loop μ-loop
-element-write-ranks c = search needs
+element-write-ranked : tie.Need-element-write-ranked Inv-loop μ-loop
+element-write-ranked c = search needs
 
 cleared-entry-requires : tie.Need-cleared-entry-requires Inv-loop μ-loop
 cleared-entry-requires c κs = search needs
@@ -81,9 +81,9 @@ loop-again c =
     let e = c .cleared-entry .result in (
       omega arith,
       l .inv .1,
-      length-set (l .ranks) (l .u) word ∙ l .inv .2,
+      length-set (l .ranked) (l .u) word ∙ l .inv .2,
       length-set (l .table) (l .u) e ∙ l .inv .3,
-      set-more (wordOf b) (l .ranks) (l .u) word (l .inv .4) (omega arith) (c .before .word-of .ensures),
+      set-more (wordOf b) (l .ranked) (l .u) word (l .inv .4) (omega arith) (c .before .word-of .ensures),
       set-more (λ w. cond (meets b (unrank b w)) 0 mark) (l .table) (l .u) e (l .inv .5) (omega arith) (entry c),
     )
 
@@ -106,8 +106,8 @@ clear-spec =
     μ-loop
     loop-holds
     word-of-requires
-    mul-ranks
-    element-write-ranks
+    mul-ranked
+    element-write-ranked
     cleared-entry-requires
     mul-table
     slice-write-table

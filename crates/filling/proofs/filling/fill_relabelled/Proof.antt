@@ -2,7 +2,7 @@
 -- The arrays are ready once the block is compiled, and every step keeps the table good; the last leaves the least costs.
 use denote.Ref.{now}
 use borrow.Author.Needs.{needs}
-use Rattle.distances.proofs.LeastCostLaws.{filled-value}
+use Rattle.distances.proofs.LeastCostLaws.{least-costs-only}
 use Rattle.tables.specs.Abstraction.{graphOf, Ready}
 use Rattle.tables.proofs.WordEdges.{cheap, few}
 use Rattle.filling.proofs.filling.fill_relabelled.Statement.{statement}
@@ -40,7 +40,7 @@ returns c =
     let words = e .compile .last .1 .0 in
     let moves = e .compile .last .1 .1 .0 in
     let weights = e .compile .last .1 .1 .1 .0 in
-    filled-value (graphOf a) (cheap a words moves weights (ready e)) (few a words moves weights (ready e)) (d .settle .last .1 .1 .1 .1 .1 .0) (d .settle .ensures)
+    least-costs-only (graphOf a) (cheap a words moves weights (ready e)) (few a words moves weights (ready e)) (d .settle .last .1 .1 .1 .1 .1 .0) (d .settle .ensures)
 
 pub fill-relabelled-spec : {M : Type 1} → statement M
 fill-relabelled-spec =

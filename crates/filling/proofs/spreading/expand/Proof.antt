@@ -11,11 +11,11 @@ use Rattle.filling.proofs.spreading.expand.Statement.{statement}
 use Rattle.filling.proofs.spreading.expand.Tie as tie
 
 abbrev Inv-loop : tie.InvT-loop
-Inv-loop block words moves weights ranks back-words back-moves groups table₀ links₀ v count r₀ table links r =
+Inv-loop block words moves weights ranked back-words back-moves groups table₀ links₀ v count r₀ table links r =
     (count ≡ rules block) × (r ≤ count) × Good (graphOf block) table
 
 abbrev μ-loop : tie.MeasureT-loop
-μ-loop block words moves weights ranks back-words back-moves groups table₀ links₀ v count r₀ table links r =
+μ-loop block words moves weights ranked back-words back-moves groups table₀ links₀ v count r₀ table links r =
     count - r
 
 rules-requires : tie.Need-rules-requires Inv-loop μ-loop

@@ -8,17 +8,17 @@ use Rattle.filling.proofs.spreading.run_queue.Statement.{statement}
 use Rattle.filling.proofs.spreading.run_queue.Tie as tie
 
 abbrev Inv-loop : tie.InvT-loop
-Inv-loop block words moves weights ranks back-words back-moves groups table₀ links₀ list₀ left₀ table links list left =
+Inv-loop block words moves weights ranked back-words back-moves groups table₀ links₀ list₀ left₀ table links list left =
     (list < 256) × Good (graphOf block) table
 
 abbrev μ-loop : tie.MeasureT-loop
-μ-loop block words moves weights ranks back-words back-moves groups table₀ links₀ list₀ left₀ table links list left = left
+μ-loop block words moves weights ranked back-words back-moves groups table₀ links₀ list₀ left₀ table links list left = left
 
 loop-holds : tie.Need-loop-holds Inv-loop μ-loop
 loop-holds c = search needs
 
-filled-list-requires : tie.Need-filled-list-requires Inv-loop μ-loop
-filled-list-requires c κs = search needs
+list-with-state-requires : tie.Need-list-with-state-requires Inv-loop μ-loop
+list-with-state-requires c κs = search needs
 
 first-requires : tie.Need-first-requires Inv-loop μ-loop
 first-requires c κs = search needs
@@ -57,7 +57,7 @@ run-queue-spec =
     Inv-loop
     μ-loop
     loop-holds
-    filled-list-requires
+    list-with-state-requires
     first-requires
     same-length
     returns

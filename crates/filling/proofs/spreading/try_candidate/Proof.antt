@@ -59,7 +59,7 @@ lower-requires c κs =
     let s = f .before .before .before .before in
     let a = s .args in
     let p = s .pre in (
-      candidate-lowers (now (a .block)) (now (a .words)) (now (a .moves)) (now (a .weights)) (now (a .ranks)) (now (a .table))
+      candidate-lowers (now (a .block)) (now (a .words)) (now (a .moves)) (now (a .weights)) (now (a .ranked)) (now (a .table))
           (p .0 .0) (p .0 .1) (p .0 .2) (a .r) (a .v) (p .1 .0) (p .1 .1)
           (u .before .rank-word .result) (a .candidate) (d .before .before .step-word .result) (f .before .applies-word .result)
           (u .if3 .left) (t .if4 .left) (f .before .applies-word .ensures) (not-false (f .before .applies-word .result) (f .if1 .left))

@@ -13,10 +13,10 @@ use Rattle.filling.proofs.sweeping.settle.Statement.{statement}
 use Rattle.filling.proofs.sweeping.settle.Tie as tie
 
 abbrev Inv-loop : tie.InvT-loop
-Inv-loop block words moves weights ranks table₀ lowered₀ table lowered = (length table ≡ length table₀) × Good (graphOf block) table
+Inv-loop block words moves weights ranked table₀ lowered₀ table lowered = (length table ≡ length table₀) × Good (graphOf block) table
 
 abbrev μ-loop : tie.MeasureT-loop
-μ-loop block words moves weights ranks table₀ lowered₀ table lowered = total table
+μ-loop block words moves weights ranked table₀ lowered₀ table lowered = total table
 
 loop-holds : tie.Need-loop-holds Inv-loop μ-loop
 loop-holds c = search needs

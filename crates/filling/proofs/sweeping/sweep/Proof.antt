@@ -14,11 +14,11 @@ use Rattle.filling.proofs.sweeping.sweep.Statement.{statement}
 use Rattle.filling.proofs.sweeping.sweep.Tie as tie
 
 abbrev Inv-loop : tie.InvT-loop
-Inv-loop block words moves weights ranks table₀ fell₀ u₀ table fell u =
+Inv-loop block words moves weights ranked table₀ fell₀ u₀ table fell u =
     (u ≤ abstractStates block) × (abstractStates block ≤ 16384) × Sweeping (graphOf block) table₀ table fell u
 
 abbrev μ-loop : tie.MeasureT-loop
-μ-loop block words moves weights ranks table₀ fell₀ u₀ table fell u = abstractStates block - u
+μ-loop block words moves weights ranked table₀ fell₀ u₀ table fell u = abstractStates block - u
 
 loop-holds : tie.Need-loop-holds Inv-loop μ-loop
 loop-holds c =
@@ -74,7 +74,7 @@ loop-again c =
     let i = l .inv .2 in
     ⊎-elim
     (λ w.
-    let less : x < getD (l .table) (l .u) 0 = omega (arith, w .0 .taken, c .before .wide-entry .ensures) in
+    let less : x < getD (l .table) (l .u) 0 = omega (arith, w .0 .taken, c .before .wide-entry .ensures .0) in
     rw (w .1, w .2) (
       search needs,
       l .inv .1,
@@ -85,7 +85,7 @@ loop-again c =
     rw (w .1, w .2) (
       search needs,
       l .inv .1,
-      sweep-keep g (now (a .table)) (l .table) (l .fell) (l .u) x i (d .best .ensures) (omega (arith, w .0 .left, c .before .wide-entry .ensures)),
+      sweep-keep g (now (a .table)) (l .table) (l .fell) (l .u) x i (d .best .ensures) (omega (arith, w .0 .left, c .before .wide-entry .ensures .0)),
     ))
     (c .if1 .came)
 

@@ -1,23 +1,21 @@
 -- `table_calls::estimating::look_up_estimate` meets its contract.
 -- Refused, or the entry of the relabelled state.
 use mathlib.Core.Path.{_≡_, sym, ap, _∙_}
-use mathlib.Core.Bool.{Bool}
-use mathlib.Core.List.{[], _∷_}
 use Prim.Native.Nat.{ℕ}
 use native.Mathlib.Omega.{arith}
-use lib.Dec.{leb}
 use lib.ListN.{length}
 use denote.Ref.{now}
 use borrow.Author.Tests.{le-leb, lt-leb}
 use borrow.Author.Needs.{needs}
-use Rattle.refusals.specs.Answers.{Answer, told, verdict, _unless_, answered}
+use Rattle.refusals.specs.Answers.{Answer, told, verdict, answered}
 use Rattle.refusals.specs.Refusals.{verdictOf}
-use Rattle.refusals.proofs.Verdicts.{verdict-behind, verdict-before}
+use Rattle.refusals.proofs.Verdicts.{verdict-before}
 use Rattle.blocks.specs.Layout.{abstractStates}
 use Rattle.tables.specs.Tables.{estimate}
 use Rattle.psvn_calls.specs.Checking.{stateConditions}
 use Rattle.table_calls.specs.Estimating.{lookUpConditions, lookUpEstimate}
 use Rattle.psvn_calls.proofs.Conditions.{StateAccepted, state-accepted}
+use Rattle.table_calls.proofs.Conditions.{table-decided}
 use Rattle.table_calls.proofs.estimating.look_up_estimate.Statement.{statement}
 use Rattle.table_calls.proofs.estimating.look_up_estimate.Tie as tie
 
@@ -49,25 +47,16 @@ accepted c = sym (c .before .before .check-state .ensures) ∙ ap verdictOf (c .
 ready : (c : tie.After-enum-told) → StateAccepted (now (c .before .before .before .before .before .before .args .block)) (now (c .before .before .before .before .before .before .args .state))
 ready c = state-accepted (now (c .before .before .before .before .before .before .args .block)) (now (c .before .before .before .before .before .before .args .state)) (accepted c)
 
--- then the length of the table decides
-decided :
-    (c : tie.After-enum-told) (room : Bool)
-    → leb (abstractStates (now (c .before .before .before .before .before .before .args .block))) (length (now (c .before .before .before .before .before .before .args .table))) ≡ room
-    → verdict (lookUpConditions (now (c .before .before .before .before .before .before .args .block)) (now (c .before .before .before .before .before .before .args .state)) (length (now (c .before .before .before .before .before .before .args .table)))) ≡ verdict (12 unless room ∷ [])
-unfolding lookUpConditions
-decided c room p =
-    verdict-behind (stateConditions (now (c .before .before .before .before .before .before .args .block)) (now (c .before .before .before .before .before .before .args .state))) _ (accepted c)
-    ∙ ap (λ (t : Bool). verdict (12 unless t ∷ [])) p
-
 abstract-states-requires : tie.Need-abstract-states-requires
 abstract-states-requires c κs = ready c .valid .sized .head
 
 returns-2 : tie.Need-returns-2
-unfolding lookUpEstimate
+unfolding lookUpEstimate lookUpConditions
 returns-2 c =
     let s = c .before .before .before .before .before .before .before .before in
-    let short = lt-leb (abstractStates (now (s .args .block))) (length (now (s .args .table))) (omega (arith, c .before .abstract-states .ensures .0)) in
-    sym (ap (settled s) (decided (c .before .before) _ short))
+    let b = now (s .args .block) in
+    let short = lt-leb (abstractStates b) (length (now (s .args .table))) (omega (arith, c .before .abstract-states .ensures .0)) in
+    sym (ap (settled s) (table-decided b (length (now (s .args .table))) (stateConditions b (now (s .args .state))) (accepted (c .before .before)) _ short))
 
 estimate-requires : tie.Need-estimate-requires
 estimate-requires c κs =
@@ -75,11 +64,12 @@ estimate-requires c κs =
     (k .valid, k .state, omega (arith, c .before .abstract-states .ensures .0))
 
 returns-3 : tie.Need-returns-3
-unfolding lookUpEstimate
+unfolding lookUpEstimate lookUpConditions
 returns-3 c =
     let s = c .before .before .before .before .before .before .before .before .before in
-    let long = le-leb (abstractStates (now (s .args .block))) (length (now (s .args .table))) (omega (arith, c .before .before .abstract-states .ensures .0)) in
-    ap told (c .estimate .ensures) ∙ sym (ap (settled s) (decided (c .before .before .before) _ long))
+    let b = now (s .args .block) in
+    let long = le-leb (abstractStates b) (length (now (s .args .table))) (omega (arith, c .before .before .abstract-states .ensures .0)) in
+    ap told (c .estimate .ensures) ∙ sym (ap (settled s) (table-decided b (length (now (s .args .table))) (stateConditions b (now (s .args .state))) (accepted (c .before .before .before)) _ long))
 
 pub look-up-estimate-spec : {M : Type 1} → statement M
 look-up-estimate-spec =

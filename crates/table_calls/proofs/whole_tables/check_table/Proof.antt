@@ -1,7 +1,6 @@
 -- `table_calls::whole_tables::check_table` meets its contract.
 -- What turns the block back, else whether the table is too short.
 use mathlib.Core.Path.{_≡_, sym, ap, _∙_}
-use mathlib.Core.Bool.{Bool}
 use mathlib.Core.List.{[], _∷_}
 use native.Mathlib.Omega.{arith}
 use lib.Dec.{leb}
@@ -10,11 +9,12 @@ use borrow.Author.Tests.{le-leb, lt-leb}
 use borrow.Author.Needs.{needs}
 use Rattle.refusals.specs.Answers.{told, verdict, _unless_}
 use Rattle.refusals.specs.Refusals.{verdictOf}
-use Rattle.refusals.proofs.Verdicts.{verdict-behind, verdict-before}
+use Rattle.refusals.proofs.Verdicts.{verdict-before}
 use Rattle.blocks.specs.Layout.{abstractStates}
 use Rattle.blocks.specs.Validity.{blockConditions}
 use Rattle.blocks.proofs.Accepted.{accepted-valid}
 use Rattle.table_calls.specs.WholeTables.{tableConditions}
+use Rattle.table_calls.proofs.Conditions.{table-decided}
 use Rattle.table_calls.proofs.whole_tables.check_table.Statement.{statement}
 use Rattle.table_calls.proofs.whole_tables.check_table.Tie as tie
 
@@ -38,28 +38,22 @@ enum-told c = search needs
 accepted : (c : tie.After-enum-told) → verdict (blockConditions (now (c .before .before .before .before .args .block))) ≡ told tt
 accepted c = sym (c .before .before .check .ensures) ∙ ap verdictOf (c .enum-told .given .1)
 
--- then the room decides
-decided :
-    (c : tie.After-enum-told) (room : Bool)
-    → leb (abstractStates (now (c .before .before .before .before .args .block))) (c .before .before .before .before .args .room) ≡ room
-    → verdict (tableConditions (now (c .before .before .before .before .args .block)) (c .before .before .before .before .args .room)) ≡ verdict (12 unless room ∷ [])
-unfolding tableConditions
-decided c room p =
-    verdict-behind (blockConditions (now (c .before .before .before .before .args .block))) _ (accepted c)
-    ∙ ap (λ (t : Bool). verdict (12 unless t ∷ [])) p
-
 abstract-states-requires : tie.Need-abstract-states-requires
 abstract-states-requires c κs = accepted-valid (now (c .before .before .before .before .args .block)) (accepted c) .sized .head
 
 returns-2 : tie.Need-returns-2
+unfolding tableConditions
 returns-2 c =
     let a = c .before .before .before .before .before .before .args in
-    sym (decided (c .before .before) _ (lt-leb (abstractStates (now (a .block))) (a .room) (omega (arith, c .before .abstract-states .ensures .0))))
+    sym (table-decided (now (a .block)) (a .room) (blockConditions (now (a .block))) (accepted (c .before .before)) _
+    (lt-leb (abstractStates (now (a .block))) (a .room) (omega (arith, c .before .abstract-states .ensures .0))))
 
 returns-3 : tie.Need-returns-3
+unfolding tableConditions
 returns-3 c =
     let a = c .before .before .before .before .before .before .args in
-    sym (decided (c .before .before) _ (le-leb (abstractStates (now (a .block))) (a .room) (omega (arith, c .before .abstract-states .ensures .0))))
+    sym (table-decided (now (a .block)) (a .room) (blockConditions (now (a .block))) (accepted (c .before .before)) _
+    (le-leb (abstractStates (now (a .block))) (a .room) (omega (arith, c .before .abstract-states .ensures .0))))
 
 pub check-table-spec : {M : Type 1} → statement M
 check-table-spec =

@@ -7,7 +7,7 @@ use native.Mathlib.Omega.{arith}
 use denote.Ref.{now}
 use borrow.Author.Needs.{needs}
 use Rattle.blocks.specs.Layout as layout
-use Rattle.distances.proofs.Sweeping.{BestBelow, below-none, below-lower, below-keep, below-all}
+use Rattle.distances.proofs.OneRule.{BestBelow, best-none, best-lower, best-keep, best-all}
 use Rattle.tables.specs.Abstraction.{graphOf}
 use Rattle.tables.proofs.edges.best.Statement.{statement}
 use Rattle.tables.proofs.edges.best.Tie as tie
@@ -24,10 +24,10 @@ rules-requires c κs = search needs
 loop-holds : tie.Need-loop-holds Inv-loop μ-loop
 loop-holds c =
     let a = c .before .before .before .args in
-    (c .rules .ensures .0, search needs, below-none (graphOf (now (a .block))) (now (a .table)) (a .u))
+    (c .rules .ensures .0, search needs, best-none (graphOf (now (a .block))) (now (a .table)) (a .u))
 
-by-rule-requires : tie.Need-by-rule-requires Inv-loop μ-loop
-by-rule-requires c κs = search needs
+via-requires : tie.Need-via-requires Inv-loop μ-loop
+via-requires c κs = search needs
 
 add-r : tie.Need-add-r Inv-loop μ-loop
 add-r c = search needs
@@ -40,12 +40,12 @@ loop-again c =
     let a = c .before .before .before .before .before .before .before .args in
     let g = graphOf (now (a .block)) in
     let l = c .before .before .before .loop in
-    let k = c .before .by-rule in (
+    let k = c .before .via in (
       l .inv .0,
       search needs,
       ⊎-elim
-          (λ w. rw (w .1) (below-lower g (now (a .table)) (a .u) (l .r) (l .least) (k .result) (l .inv .2) (k .ensures) (w .0 .taken)))
-          (λ w. rw (w .1) (below-keep g (now (a .table)) (a .u) (l .r) (l .least) (k .result) (l .inv .2) (k .ensures) (w .0 .left)))
+          (λ w. rw (w .1) (best-lower g (now (a .table)) (a .u) (l .r) (l .least) (k .result) (l .inv .2) (k .ensures) (w .0 .taken)))
+          (λ w. rw (w .1) (best-keep g (now (a .table)) (a .u) (l .r) (l .least) (k .result) (l .inv .2) (k .ensures) (w .0 .left)))
           (c .if1 .came),
     )
 
@@ -53,7 +53,7 @@ returns : tie.Need-returns Inv-loop μ-loop
 returns c =
     let a = c .before .before .before .before .before .args in
     let l = c .before .loop in
-    below-all (graphOf (now (a .block))) (now (a .table)) (a .u) (l .least) (l .r) (l .inv .2) (omega arith)
+    best-all (graphOf (now (a .block))) (now (a .table)) (a .u) (l .least) (l .r) (l .inv .2) (omega arith)
 
 pub best-spec : {M : Type 1} → statement M
 best-spec =
@@ -63,7 +63,7 @@ best-spec =
     μ-loop
     rules-requires
     loop-holds
-    by-rule-requires
+    via-requires
     add-r
     loop-less
     loop-again

@@ -6,8 +6,8 @@ use native.Mathlib.Nat.{mul-le-mul}
 use native.Mathlib.Omega.{arith}
 use denote.Ref.{now}
 use borrow.Author.Needs.{needs}
-use Rattle.blocks.specs.Layout.{positions, labelCount}
-use Rattle.blocks.proofs.StateLaws.{labelled-length, labelled-at}
+use Rattle.blocks.specs.Layout.{positions}
+use Rattle.blocks.proofs.StateLaws.{state-length, state-label}
 use Rattle.tables.proofs.RelabelledRanks.{partRank, part-more, part-all, part-small, whole-below}
 use Rattle.tables.proofs.estimates.relabelled_rank.Statement.{statement}
 use Rattle.tables.proofs.estimates.relabelled_rank.Tie as tie
@@ -39,7 +39,7 @@ loop-holds c = (c .positions .ensures .0, search needs, refl)
 shared-slice-read-wide : tie.Need-shared-slice-read-wide Inv-loop μ-loop
 shared-slice-read-wide c =
     let s = c .before .before .before .before .before .before in
-    let n = labelled-length (positions (now (s .args .block))) (labelCount (now (s .args .block))) (now (s .args .state)) (s .pre .1) in
+    let n = state-length (now (s .args .block)) (now (s .args .state)) (s .pre .1) in
     search needs
 
 abstract-label-requires : tie.Need-abstract-label-requires Inv-loop μ-loop
@@ -47,7 +47,7 @@ abstract-label-requires c κs =
     let s = c .before .before .before .before .before .before in
     let i = c .before .before .loop .i in
     let l : i < positions (now (s .args .block)) = omega arith in
-    (s .pre .0 .sized, l, labelled-at (positions (now (s .args .block))) (labelCount (now (s .args .block))) (now (s .args .state)) (s .pre .1) i l)
+    (s .pre .0 .sized, l, state-label (now (s .args .block)) (now (s .args .state)) (s .pre .1) i l)
 
 abstract-count-requires : tie.Need-abstract-count-requires Inv-loop μ-loop
 abstract-count-requires c κs = search needs

@@ -90,7 +90,7 @@ returns-3 c =
     let e = d .before .before .before in
     let a = e .before .before .args in
     let x = d .best .result in
-    ap (λ (y : ℕ). leb y x) (c .wide-entry .ensures)
+    ap (λ (y : ℕ). leb y x) (c .wide-entry .ensures .0)
     ∙ sym (test-leb (graphOf (now (a .block))) (now (a .table)) (a .u) x (entries e) (costs e) (d .best .ensures) (zero-there (d .before)) (c .before .if4 .taken))
 
 returns-4 : tie.Need-returns-4

@@ -1,4 +1,4 @@
--- `tables::edges::by_rule` meets its contract.
+-- `tables::edges::via` meets its contract.
 -- Where the rule applies, its word leads to a rank, and the cost is by the entry there.
 use mathlib.Core.Path.{_≡_, sym, _∙_}
 use Prim.Native.Nat.{_<_}
@@ -8,11 +8,11 @@ use borrow.Author.Needs.{needs}
 use borrow.Author.Tests.{not-true, not-false}
 use Rattle.blocks.specs.Layout.{abstractStates}
 use Rattle.words.proofs.Meaning.{cost-word}
-use Rattle.distances.proofs.Sweeping.{via-at, via-marked}
+use Rattle.distances.proofs.OneRule.{via-at, via-marked}
 use Rattle.tables.specs.Abstraction.{stepRank, graphOf}
 use Rattle.tables.proofs.RuleCosts.{no-cost, leads-to}
-use Rattle.tables.proofs.edges.by_rule.Statement.{statement}
-use Rattle.tables.proofs.edges.by_rule.Tie as tie
+use Rattle.tables.proofs.edges.via.Statement.{statement}
+use Rattle.tables.proofs.edges.via.Tie as tie
 
 -- where the rule leads
 led :
@@ -69,7 +69,7 @@ returns-2 c =
     let k = led d in
     let q = via-at (graphOf (now (a .block))) (now (a .table)) (a .u) (a .r) (d .rank-word .result) (k .0) (k .1) (c .before .before .if2 .taken) in
     let p = cost-word (s .pre .0 .0 .compiled) (a .r) (s .pre .1 .2) in
-    omega (arith, q, p, c .cost-word .ensures .0, c .before .wide-entry .ensures)
+    omega (arith, q, p, c .cost-word .ensures .0, c .before .wide-entry .ensures .0)
 
 returns-3 : tie.Need-returns-3
 returns-3 c =
@@ -78,8 +78,8 @@ returns-3 c =
     let k = led d in
     sym (via-marked (graphOf (now (a .block))) (now (a .table)) (a .u) (a .r) (d .rank-word .result) (k .0) (k .1) (c .if2 .left))
 
-pub by-rule-spec : {M : Type 1} → statement M
-by-rule-spec =
+pub via-spec : {M : Type 1} → statement M
+via-spec =
     tie.close
     (tie.spec
     applies-word-requires

@@ -1,9 +1,9 @@
--- `filling::queue::filled_list` meets its contract.
+-- `filling::queue::list_with_state` meets its contract.
 -- The loop's invariant: the list is one of the queue's.
 use Prim.Native.Nat.{_<_}
 use borrow.Author.Needs.{needs}
-use Rattle.filling.proofs.queue.filled_list.Statement.{statement}
-use Rattle.filling.proofs.queue.filled_list.Tie as tie
+use Rattle.filling.proofs.queue.list_with_state.Statement.{statement}
+use Rattle.filling.proofs.queue.list_with_state.Tie as tie
 
 abbrev Inv-loop : tie.InvT-loop
 Inv-loop links k list₀ left₀ list left = list < 256
@@ -35,8 +35,8 @@ loop-again c = search needs
 returns-2 : tie.Need-returns-2 Inv-loop μ-loop
 returns-2 c = search needs
 
-pub filled-list-spec : {M : Type 1} → statement M
-filled-list-spec =
+pub list-with-state-spec : {M : Type 1} → statement M
+list-with-state-spec =
     tie.close
     (tie.spec
     Inv-loop
