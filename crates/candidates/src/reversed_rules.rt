@@ -11,11 +11,14 @@ use blocks::layout::first_of;
 use blocks::terms::Term;
 use blocks::terms::decode;
 use blocks::terms::is_dash;
-use words::compiling::place_sides;
+use compiling::place_sides;
 use words::packing::digit;
 
 // Where the reversed right side stands.
 const RIGHT: usize = 16;
+
+// 1 at each of the sixteen positions.
+const ONES: u64 = 1229782938247303441;
 
 // The reversed left side's terms: the right side's, and the left side's where the label is kept.
 fn reverse_left(block: &[u8], left: usize, right: usize, n: usize, sides: &mut [u8; 32])
@@ -139,8 +142,7 @@ fn place_groups(
     groups: &mut [u64; 2176],
     r: usize,
 )
-    requires { ⌜ (n ≤ 16) × (r < 64) × (left + n ≤ length (now block)) × (right + n ≤ length (now block)) × (length (now groups) ≡ 2176) ⌝ }
-    ensures { λ _. ⌜ length (now (groups .exit)) ≡ 2176 ⌝ }
+    requires { ⌜ (n ≤ 16) × (r < 64) × (left + n ≤ length (now block)) × (right + n ≤ length (now block)) ⌝ }
 {
     let mut count: usize = 0;
     let mut i: usize = 0;
@@ -163,8 +165,8 @@ fn reverse_rule(
     moves: &mut [u8; 4384],
     groups: &mut [u64; 2176],
 )
-    requires { ⌜ Sized (now block) × (r < rules (now block)) × (length (now words) ≡ 608) × (length (now moves) ≡ 4384) × (length (now groups) ≡ 2176) ⌝ }
-    ensures { λ _. ⌜ (length (now (words .exit)) ≡ 608) × (length (now (moves .exit)) ≡ 4384) × (length (now (groups .exit)) ≡ 2176) ⌝ }
+    requires { ⌜ Sized (now block) × (r < rules (now block)) × (length (now words) ≡ 608) × (length (now moves) ≡ 4384) ⌝ }
+    ensures { λ _. ⌜ (length (now (words .exit)) ≡ 608) × (length (now (moves .exit)) ≡ 4384) ⌝ }
 {
     let n = layout::positions(block);
     let left = layout::left_at(block, r);
@@ -183,8 +185,7 @@ pub fn reverse_rules(
     moves: &mut [u8; 4384],
     groups: &mut [u64; 2176],
 )
-    requires { ⌜ Sized (now block) × (length (now words) ≡ 608) × (length (now moves) ≡ 4384) × (length (now groups) ≡ 2176) ⌝ }
-    ensures { λ _. ⌜ (length (now (words .exit)) ≡ 608) × (length (now (moves .exit)) ≡ 4384) × (length (now (groups .exit)) ≡ 2176) ⌝ }
+    requires { ⌜ Sized (now block) × (length (now words) ≡ 608) × (length (now moves) ≡ 4384) ⌝ }
 {
     let rules = layout::rules(block);
     let mut r: usize = 0;
@@ -207,7 +208,7 @@ pub fn next_candidate(groups: &[u64; 2176], k: u64, r: usize, word: u64) -> u64
         let label = digit(next, (groups[at + 2 + 2 * g] % 16) as usize) + 1;
         next = (next | group) ^ group;
         if label < k {
-            return next | (group & (label * 1229782938247303441));
+            return next | (group & (label * ONES));
         }
         g += 1;
     }

@@ -16,9 +16,9 @@ ghost use Rattle.filling.specs.RankWords.{Ranked};
 use super::spreading::spread;
 use super::sweeping::settle;
 use blocks::layout;
+use compiling::compile;
 use psvn::relabelling::relabel_block;
 use tables::edges::MARK;
-use words::compiling::compile;
 use words::ranking::word_of;
 use words::sides::meets_word;
 

@@ -13,7 +13,7 @@ use super::running::run_rounds;
 use super::scanning::figure;
 use basics::copy;
 use blocks::layout;
-use words::compiling::compile;
+use compiling::compile;
 use words::packing::pack;
 
 // The largest step limit.

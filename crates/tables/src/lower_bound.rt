@@ -13,8 +13,8 @@ use super::edges::NO_COST;
 use super::edges::best;
 use super::edges::wide_entry;
 use blocks::layout;
+use compiling::compile;
 use psvn::relabelling::relabel_block;
-use words::compiling::compile;
 use words::ranking::word_of;
 use words::sides::meets_word;
 

@@ -1,6 +1,6 @@
 -- What compiled arrays mean: a rule applies to a word, and what it makes of it, as the language says of the word's state (`applies-word`, `step-word`, `step-small`, `cost-word`),
 -- goals likewise (`meets-word`), and the rank of the relabelled state (`rank-word`). The words of states and of ranks hold those states (`state-word`, `unpack-word-of`).
--- The layers that search on words rest on these alone.
+-- The tables and the search rest on these, and on `unpack-injective`.
 use mathlib.Core.Path.{_≡_, refl, sym, ap, ap₂, _∙_}
 use mathlib.Core.Logic.{_⊎_, inl, inr, ⊎-elim}
 use mathlib.Core.Bool.{Bool, true, false}
@@ -20,7 +20,7 @@ use Rattle.basics.proofs.Order.{same?}
 use Rattle.blocks.specs.Layout.{positions, rules, goals, labelCount, abstractCount, mapAt, costOf, goalOf}
 use Rattle.blocks.specs.Validity.{Headed}
 use Rattle.blocks.specs.States.{stateOk}
-use Rattle.blocks.proofs.StateLaws.{labelled-length, labelled-at, label-below}
+use Rattle.blocks.proofs.StateLaws.{labelled-length, labelled-at, state-length, state-label, label-below}
 use Rattle.psvn.specs.Rules.{matches, applies, step, goalMet, meets}
 use Rattle.psvn.specs.Relabelling.{relabelState}
 use Rattle.psvn.specs.Ranks.{rank, unrank}
@@ -39,21 +39,21 @@ even-or-odd n = ⊎-elim (λ e. inl e) (λ d. inr (omega arith)) (same? (2 * (n 
 
 -- a side of its own: a word matches it as the word's state does
 matches-word :
-    (n : ℕ) (side : ℕ → ℕ) (m v : List ℕ) (x : ℕ) → Sided n side side m v x
-    → (w : ℕ) → w < 16 ^ n → matchesWord m v x w ≡ matches n side (unpack n w)
+    (n : ℕ) (side : ℕ → ℕ) (words moves : List ℕ) (x : ℕ) → Sided n side side words moves x
+    → (w : ℕ) → w < 16 ^ n → matchesWord words moves x w ≡ matches n side (unpack n w)
 unfolding matchesWord
-matches-word n side m v x s w l = go (matches n side (unpack n w)) refl
+matches-word n side words moves x s w l = go (matches n side (unpack n w)) refl
   where
-    go : (t : Bool) → matches n side (unpack n w) ≡ t → matchesWord m v x w ≡ matches n side (unpack n w)
+    go : (t : Bool) → matches n side (unpack n w) ≡ t → matchesWord words moves x w ≡ matches n side (unpack n w)
     go true e =
         let self = matches-itself n side (unpack n w) (unpack-length n w) e in
-        and-intro (eqb (bitAnd w (maskAt m x)) (valueAt m x)) (eqb (rewrittenWord m v x w) w)
+        and-intro (eqb (bitAnd w (maskAt words x)) (valueAt words x)) (eqb (rewrittenWord words moves x w) w)
         (eq-eqb _ _ (s .mask w l self))
-        (eq-eqb _ _ (unpack-injective n (rewrittenWord m v x w) w (s .small w l) l (s .makes w l ∙ self)))
+        (eq-eqb _ _ (unpack-injective n (rewrittenWord words moves x w) w (s .small w l) l (s .makes w l ∙ self)))
         ∙ sym e
     go false e =
-        not-so (matchesWord m v x w) (λ q.
-        let same = eqb-true (rewrittenWord m v x w) w (and-true (eqb (bitAnd w (maskAt m x)) (valueAt m x)) _ q .1) in
+        not-so (matchesWord words moves x w) (λ q.
+        let same = eqb-true (rewrittenWord words moves x w) w (and-true (eqb (bitAnd w (maskAt words x)) (valueAt words x)) _ q .1) in
         true-false (itself-matches n side (unpack n w) (sym (s .makes w l) ∙ ap (unpack n) same)) e)
         ∙ sym e
 
@@ -62,28 +62,28 @@ abbrev labelsRank : List ℕ → ℕ → ℕ → ℕ
 labelsRank b w zero = 0
 labelsRank b w (suc j) = labelsRank b w j + weightOf b j (digit w j)
 
-module _ {b m v q : List ℕ} (c : Compiled b m v q) where
+module _ {b words moves weights : List ℕ} (c : Compiled b words moves weights) where
   pub applies-word :
-      (r w : ℕ) → r < rules b → w < 16 ^ positions b → appliesWord m v r w ≡ applies b r (unpack (positions b) w)
+      (r w : ℕ) → r < rules b → w < 16 ^ positions b → appliesWord words moves r w ≡ applies b r (unpack (positions b) w)
   unfolding applies
-  applies-word r w lr l = matches-word (positions b) _ m v _ (c .rule r lr .left) w l
+  applies-word r w lr l = matches-word (positions b) _ words moves _ (c .rule r lr .left) w l
 
   pub step-word :
-      (r w : ℕ) → r < rules b → w < 16 ^ positions b → unpack (positions b) (stepWord m v r w) ≡ step b r (unpack (positions b) w)
+      (r w : ℕ) → r < rules b → w < 16 ^ positions b → unpack (positions b) (stepWord words moves r w) ≡ step b r (unpack (positions b) w)
   unfolding step
   step-word r w lr l = c .rule r lr .right .makes w l
 
-  pub step-small : (r w : ℕ) → r < rules b → w < 16 ^ positions b → stepWord m v r w < 16 ^ positions b
+  pub step-small : (r w : ℕ) → r < rules b → w < 16 ^ positions b → stepWord words moves r w < 16 ^ positions b
   step-small r w lr l = c .rule r lr .right .small w l
 
-  pub cost-word : (r : ℕ) → r < rules b → costWord m r ≡ costOf b r
+  pub cost-word : (r : ℕ) → r < rules b → costWord words r ≡ costOf b r
   cost-word r lr = c .rule r lr .cost
 
-  pub meets-word : (w : ℕ) → w < 16 ^ positions b → meetsWord m v (goals b) w ≡ meets b (unpack (positions b) w)
+  pub meets-word : (w : ℕ) → w < 16 ^ positions b → meetsWord words moves (goals b) w ≡ meets b (unpack (positions b) w)
   unfolding meets goalMet
   meets-word w l =
-      some-ext (λ g. matchesWord m v (goalPlace g) w) (λ g. matches (positions b) (goalOf b g) (unpack (positions b) w)) (goals b) (λ g lg.
-      matches-word (positions b) (goalOf b g) m v (goalPlace g) (c .goal g lg) w l)
+      some-ext (λ g. matchesWord words moves (goalPlace g) w) (λ g. matches (positions b) (goalOf b g) (unpack (positions b) w)) (goals b) (λ g lg.
+      matches-word (positions b) (goalOf b g) words moves (goalPlace g) (c .goal g lg) w l)
 
   module _ (w : ℕ) (ok : stateOk b (unpack (positions b) w) ≡ true) where
     label-of : (j : ℕ) → j < positions b → getD (relabelState b (unpack (positions b) w)) j 0 ≡ mapAt b j (digit w j)
@@ -108,12 +108,12 @@ module _ {b m v q : List ℕ} (c : Compiled b m v q) where
         (ap (λ (y : ℕ). y * p) (sym (label-of j l)))
         ∙ sym (add-mul (valueTo base u j * base j) (getD u j 0) p)
 
-    -- the weights of the pairs are those of their labels
     digit-low : (j : ℕ) → j < positions b → digit w j < labelCount b j
     digit-low j l =
-        omega (arith, labelled-at (positions b) (labelCount b) (unpack (positions b) w) ok j l, unpack-at (positions b) w j l)
+        omega (arith, state-label b (unpack (positions b) w) ok j l, unpack-at (positions b) w j l)
 
-    pairs-sum : (k : ℕ) → 2 * k ≤ positions b → rankPairs q k w ≡ labelsRank b w (2 * k)
+    -- the weights of the pairs are those of their labels
+    pairs-sum : (k : ℕ) → 2 * k ≤ positions b → rankPairs weights k w ≡ labelsRank b w (2 * k)
     unfolding rankPairs digitPair
     pairs-sum zero l = refl
     pairs-sum (suc k) l =
@@ -124,19 +124,19 @@ module _ {b m v q : List ℕ} (c : Compiled b m v q) where
         (c .weighted .pair k (digit w (2 * k)) (digit w (suc (2 * k))) (omega arith) (digit-low (2 * k) (omega arith)) (digit-low (suc (2 * k)) (omega arith)))
         ∙ sym (add-assoc (labelsRank b w (2 * k)) first second) ∙ ap (labelsRank b w) two
 
-    all-pairs : (k : ℕ) → (2 * k ≡ positions b) ⊎ (suc (2 * k) ≡ positions b) → rankWord q (positions b) w ≡ labelsRank b w (positions b)
+    all-pairs : (k : ℕ) → (2 * k ≡ positions b) ⊎ (suc (2 * k) ≡ positions b) → rankWord weights (positions b) w ≡ labelsRank b w (positions b)
     unfolding rankWord rankPairs digitPair
     all-pairs k (inl e) =
         let half : (positions b + 1) / 2 ≡ k = omega arith in
-        ap (λ (j : ℕ). rankPairs q j w) half ∙ pairs-sum k (omega arith) ∙ ap (labelsRank b w) e
+        ap (λ (j : ℕ). rankPairs weights j w) half ∙ pairs-sum k (omega arith) ∙ ap (labelsRank b w) e
     all-pairs k (inr e) =
         let half : (positions b + 1) / 2 ≡ suc k = omega arith in
-        ap (λ (j : ℕ). rankPairs q j w) half
+        ap (λ (j : ℕ). rankPairs weights j w) half
         ∙ ap₂ _+_ (pairs-sum k (omega arith))
         (c .weighted .last k (digit w (2 * k)) (digit w (suc (2 * k))) e (digit-low (2 * k) (omega arith)) (digit-lt w (suc (2 * k))))
         ∙ ap (labelsRank b w) e
 
-    pub rank-word : rankWord q (positions b) w ≡ rank b (relabelState b (unpack (positions b) w))
+    pub rank-word : rankWord weights (positions b) w ≡ rank b (relabelState b (unpack (positions b) w))
     unfolding rank
     rank-word =
         let n = positions b in
@@ -147,7 +147,7 @@ module _ {b m v q : List ℕ} (c : Compiled b m v q) where
 module _ {b : List ℕ} (h : Headed b) where
   pub state-word : (s : List ℕ) → stateOk b s ≡ true → (unpack (positions b) (pack s) ≡ s) × (pack s < 16 ^ positions b)
   state-word s ok =
-      let e = labelled-length (positions b) (labelCount b) s ok in
+      let e = state-length b s ok in
       let small : Small s = λ k l. label-below b h s ok k (omega arith) in
       (unpack-pack (positions b) s e small, rw (sym e) (pack-below s small))
 

@@ -1,5 +1,5 @@
 -- Base-16 words: the digits of a byte (`pair-byte`), of `&`, `|` and of one digit at its place, and that a word of n labels is told by its first n digits (`same-digits`);
--- packing and unpacking undo one another (`unpack-pack`, `pack-unpack`). The leaves on words, compiling and what compiled arrays mean rest on these.
+-- packing and unpacking undo one another (`unpack-pack`, `pack-unpack`). The functions on words, compiling and what compiled arrays mean rest on these.
 use mathlib.Core.Path.{_≡_, refl, sym, ap, ap₂, _∙_}
 use mathlib.Core.List.{List, [], _∷_, _++_}
 use Prim.Native.Nat.{ℕ, zero, suc, _+_, _*_, _/_, _%_, _^_, _≤_, _<_}

@@ -1,5 +1,5 @@
 -- What the arrays say of the block that they are compiled from (`Compiled`): each side makes of every word what the language's side makes of its state.
--- The parts of compiling leave these; the leaves on words and the layers above them rest on them.
+-- The parts of compiling leave these; `Meaning` and the layers above rest on them.
 use mathlib.Core.Path.{_≡_}
 use mathlib.Core.List.{List}
 use Prim.Native.Nat.{ℕ, suc, _+_, _*_, _^_, _≤_, _<_}

@@ -1,5 +1,5 @@
 -- Sides compiled for words, as the arrays hold them: what a side makes of a word (`rewrittenWord`), whether a word matches it (`matchesWord`),
--- and so a rule's test, its result and its cost, and the goal test. The place of a side is known here alone.
+-- and so a rule's test, its result and its cost, and the goal test. Where a side stands in the arrays is defined here; this crate and `compiling` alone know it.
 use Prim.Native.Nat.{ℕ, zero, suc, _+_, _*_, _%_, _^_}
 use mathlib.Core.Bool.{Bool, _&&_}
 use mathlib.Core.List.{List}

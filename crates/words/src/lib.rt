@@ -1,5 +1,4 @@
-// States as words of 64 bits, and the rules, goals and map of a block compiled for them.
-pub mod compiling;
+// States as words of 64 bits, and what compiled rules, goals and maps make of them.
 pub mod packing;
 pub mod ranking;
 pub mod sides;

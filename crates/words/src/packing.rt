@@ -3,6 +3,7 @@ ghost use mathlib.Core.Path.{_≡_};
 ghost use Prim.Native.Nat.{ℕ, _%_, _≤_, _<_};
 ghost use lib.ListN.{length, getD};
 ghost use Rattle.words.specs.Packing as packing;
+use basics::wide;
 
 // The digit at position i.
 pub fn digit(word: u64, i: usize) -> u64
@@ -31,14 +32,7 @@ pub fn pack(state: &[u8]) -> u64
     let mut i = state.len();
     while i > 0 {
         i -= 1;
-        word = word * 16 + wide(state[i]);
+        word = word * 16 + wide(state[i]) as u64;
     }
     word
-}
-
-// A byte as a word.
-fn wide(byte: u8) -> u64
-    ensures { λ r. ⌜ r ≡ byte ⌝ }
-{
-    byte as u64
 }

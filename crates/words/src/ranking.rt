@@ -9,16 +9,16 @@ use super::packing::ConcretePair;
 use super::packing::first_pair;
 use blocks::layout;
 
-// What the labels of pair j add to the rank: the map made them abstract labels when the weights were written, and the sum of these two's weights is stored.
+// What the labels of pair j add to the rank: the weights of their two abstract labels, which the map gave and whose sum was stored when the block was compiled.
 fn weight(weights: &[u16; 2048], j: usize, pair: ConcretePair) -> usize
     requires { ⌜ (j < 8) × (pair .0 < 256) ⌝ }
     ensures { λ r. ⌜ (r ≡ getD (now (weights .entry)) (256 * j + pair .0) 0) × (r ≤ 65535) ⌝ }
 {
-    wide(weights[256 * j + pair.0 as usize])
+    wide_weight(weights[256 * j + pair.0 as usize])
 }
 
 // A weight as an index.
-fn wide(weight: u16) -> usize
+fn wide_weight(weight: u16) -> usize
     ensures { λ r. ⌜ (r ≡ weight) × (r ≤ 65535) ⌝ }
 {
     weight as usize

@@ -1,9 +1,17 @@
-// Matching and applying on words. A side stands at a place of two arrays: the mask and the value of its constants, the mask of the positions
-// that keep their label, the number of its moves, and the moves, each a position to read and a position to write.
+// Matching and applying on words. A side stands at one of 136 places of two arrays: 2 * r and 2 * r + 1 for the sides of rule r, 128 + g for goal g.
+// `words` has four words for each place: the mask and the value of its constants, the mask of the positions that keep their label, and the number of its moves;
+// from 544 on it has the rules' costs. `moves` has 32 bytes for each place, two for a move: a position to read and a position to write. It has 32 bytes
+// more than the places need, since the number of moves is read modulo 32, and 31 moves of the last place end behind its own bytes.
 ghost use mathlib.Core.Path.{_≡_};
 ghost use Prim.Native.Nat.{_≤_, _<_};
 ghost use Rattle.words.specs.Sides.{leftPlace, moved, rewrittenWord, constantsWord, matchesWord, appliesWord, stepWord, meetsWord, costWord};
 use super::packing::digit;
+
+// The place of the first goal.
+pub const GOALS: usize = 128;
+
+// Where the cost of rule 0 stands, behind the words of all places.
+pub const COSTS: usize = 544;
 
 // The label read at `from`, at the position `to`.
 fn move_label(word: u64, from: u8, to: u8) -> u64
@@ -76,7 +84,7 @@ pub fn cost_word(words: &[u64; 608], r: usize) -> u64
     requires { ⌜ r < 64 ⌝ }
     ensures { λ c. ⌜ (c ≡ costWord (now (words .entry)) r) × (c ≤ 255) ⌝ }
 {
-    words[544 + r] % 256
+    words[COSTS + r] % 256
 }
 
 // Whether a word meets one of the goals.
@@ -86,7 +94,7 @@ pub fn meets_word(words: &[u64; 608], moves: &[u8; 4384], goals: usize, word: u6
 {
     let mut g: usize = 0;
     while g < goals {
-        if matches_word(words, moves, 128 + g, word) {
+        if matches_word(words, moves, GOALS + g, word) {
             return true;
         }
         g += 1;

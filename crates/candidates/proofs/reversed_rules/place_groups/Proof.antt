@@ -1,17 +1,16 @@
 -- `candidates::reversed_rules::place_groups` meets its contract.
--- The loop's invariant: there are no more groups than positions passed, and the array keeps its length.
-use mathlib.Core.Path.{_≡_, ap, _∙_}
+-- The loop's invariant: there are no more groups than positions passed.
 use mathlib.Core.Logic.{⊎-elim}
 use Prim.Native.Nat.{_+_, _≤_, _<_, _-_}
 use native.Mathlib.Omega.{arith}
-use lib.ListN.{length, length-set}
+use lib.ListN.{length}
 use borrow.Author.Needs.{needs}
 use Rattle.candidates.proofs.reversed_rules.place_groups.Statement.{statement}
 use Rattle.candidates.proofs.reversed_rules.place_groups.Tie as tie
 
 abbrev Inv-loop : tie.InvT-loop
 Inv-loop block left right n sides groups₀ r count₀ i₀ groups count i =
-    (n ≤ 16) × (r < 64) × (left + n ≤ length block) × (right + n ≤ length block) × (count ≤ i) × (i ≤ n) × (length groups ≡ 2176)
+    (n ≤ 16) × (r < 64) × (left + n ≤ length block) × (right + n ≤ length block) × (count ≤ i) × (i ≤ n)
 
 abbrev μ-loop : tie.MeasureT-loop
 μ-loop block left right n sides groups₀ r count₀ i₀ groups count i = n - i
@@ -74,8 +73,8 @@ loop-again : tie.Need-loop-again Inv-loop μ-loop
 loop-again c =
     let inv = c .before .before .before .loop .inv in
     ⊎-elim
-    (λ w. (inv .0, inv .1, inv .2, inv .3, omega arith, omega arith, ap length (w .2) ∙ simp length-set (inv .6)))
-    (λ w. (inv .0, inv .1, inv .2, inv .3, omega arith, omega arith, ap length (w .1) ∙ inv .6))
+    (λ w. (inv .0, inv .1, inv .2, inv .3, omega arith, omega arith))
+    (λ w. (inv .0, inv .1, inv .2, inv .3, omega arith, omega arith))
     (c .if1 .came)
 
 mul-groups-7 : tie.Need-mul-groups-7 Inv-loop μ-loop

@@ -1,5 +1,5 @@
 -- `candidates::reversed_rules::reverse_rule` meets its contract.
--- Both sides of the rule lie in the block, and the arrays keep their lengths.
+-- Both sides of the rule lie in the block, and the arrays of sides keep their lengths.
 use Prim.Native.Nat.{_+_, _≤_}
 use native.Mathlib.Omega.{arith}
 use lib.ListN.{length}
@@ -46,7 +46,7 @@ place-groups-requires c κs =
     let d = c .before .before .before .before .before .before .before .before .before .before in
     let p = d .before .before .before .before .pre in
     let i = inside d in
-    (i .0, omega (arith, p .1, p .0 .head .sizes .r-high), i .1, i .2, p .4)
+    (i .0, omega (arith, p .1, p .0 .head .sizes .r-high), i .1, i .2)
 
 returns : tie.Need-returns
 returns c = search needs

@@ -1,5 +1,5 @@
 -- `candidates::reversed_rules::reverse_rules` meets its contract.
--- The loop's invariant: the rules passed are rules of the block, and the arrays keep their lengths.
+-- The loop's invariant: the rules passed are rules of the block, and the arrays of sides keep their lengths.
 use mathlib.Core.Path.{_≡_}
 use Prim.Native.Nat.{_≤_, _-_}
 use lib.ListN.{length}
@@ -10,7 +10,7 @@ use Rattle.candidates.proofs.reversed_rules.reverse_rules.Tie as tie
 
 abbrev Inv-loop : tie.InvT-loop
 Inv-loop block words₀ moves₀ groups₀ count r₀ words moves groups r =
-    (count ≡ rules block) × (r ≤ count) × (length words ≡ 608) × (length moves ≡ 4384) × (length groups ≡ 2176)
+    (count ≡ rules block) × (r ≤ count) × (length words ≡ 608) × (length moves ≡ 4384)
 
 abbrev μ-loop : tie.MeasureT-loop
 μ-loop block words₀ moves₀ groups₀ count r₀ words moves groups r = count - r

@@ -58,13 +58,13 @@ wide-requires : tie.Need-wide-requires Inv-loop μ-loop
 wide-requires c κs = search needs
 
 add-word : tie.Need-add-word Inv-loop μ-loop
-add-word c = omega (arith, c .wide .ensures, next (c .before .before), fits (c .before .before))
+add-word c = omega (arith, c .wide .ensures .0, next (c .before .before), fits (c .before .before))
 
 loop-less : tie.Need-loop-less Inv-loop μ-loop
 loop-less c = search needs
 
 loop-again : tie.Need-loop-again Inv-loop μ-loop
-loop-again c = (omega arith, ap (λ (x : ℕ). c .before .before .before .loop .word * 16 + x) (c .wide .ensures) ∙ next (c .before .before))
+loop-again c = (omega arith, ap (λ (x : ℕ). c .before .before .before .loop .word * 16 + x) (c .wide .ensures .0) ∙ next (c .before .before))
 
 returns : tie.Need-returns Inv-loop μ-loop
 returns c =

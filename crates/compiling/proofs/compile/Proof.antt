@@ -1,0 +1,24 @@
+-- `compiling::compile` meets its contract.
+-- The goals' places are not the rules', and the weights are an array of their own.
+use Rattle.compiling.proofs.RulesPlaced.{compiled}
+use borrow.Author.Needs.{needs}
+use Rattle.compiling.proofs.compile.Statement.{statement}
+use Rattle.compiling.proofs.compile.Tie as tie
+
+place-rules-requires : tie.Need-place-rules-requires
+place-rules-requires c κs = search needs
+
+place-goals-requires : tie.Need-place-goals-requires
+place-goals-requires c κs = search needs
+
+place-weights-requires : tie.Need-place-weights-requires
+place-weights-requires c κs = search needs
+
+returns : tie.Need-returns
+returns c =
+    compiled (c .before .before .before .before .before .before .before .before .before .pre .0) (c .before .before .before .before .before .place-rules .ensures)
+    (c .before .before .place-goals .ensures) (c .place-weights .ensures)
+
+pub compile-spec : {M : Type 1} → statement M
+compile-spec =
+    tie.close (tie.spec place-rules-requires place-goals-requires place-weights-requires returns)

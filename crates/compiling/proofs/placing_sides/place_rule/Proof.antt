@@ -1,0 +1,72 @@
+-- `compiling::placing_sides::place_rule` meets its contract.
+-- Both sides lie in the block, and the cost has a place of its own.
+use mathlib.Core.Path.{_∙_}
+use native.Mathlib.Omega.{arith}
+use denote.Ref.{now}
+use Rattle.blocks.proofs.Offsets.{left-inside, right-inside}
+use Rattle.compiling.proofs.RulesPlaced.{sides-as, rule-placed}
+use borrow.Author.Needs.{needs}
+use Rattle.compiling.proofs.placing_sides.place_rule.Statement.{statement}
+use Rattle.compiling.proofs.placing_sides.place_rule.Tie as tie
+
+positions-requires : tie.Need-positions-requires
+positions-requires c κs = search needs
+
+left-at-requires : tie.Need-left-at-requires
+left-at-requires c κs = search needs
+
+right-at-requires : tie.Need-right-at-requires
+right-at-requires c κs = search needs
+
+place-sides-requires : tie.Need-place-sides-requires
+place-sides-requires c κs =
+    let s = c .before .before .before .before .before .before in
+    let b = now (s .args .block) in
+    let h = s .pre in
+    let n = c .before .before .before .before .positions .ensures .0 in
+    let e = c .before .before .before .left-at .ensures .0 in
+    let f = c .before .before .right-at .ensures .0 in
+    let l = left-inside b (h .0) (s .args .r) (h .1) in
+    let k = right-inside b (h .0) (s .args .r) (h .1) in
+    (omega arith, omega arith, omega (arith, h .0 .head .sizes .n-high), omega (arith, h .0 .head .sizes .r-high), h .2, h .3)
+
+cost-requires : tie.Need-cost-requires
+cost-requires c κs = search needs
+
+wide-requires : tie.Need-wide-requires
+wide-requires c κs = search needs
+
+add-words : tie.Need-add-words
+add-words c = search needs
+
+mul-words : tie.Need-mul-words
+mul-words c = search needs
+
+element-write-words : tie.Need-element-write-words
+element-write-words c = search needs
+
+returns : tie.Need-returns
+returns c =
+    let s = c .before .before .before .before .before .before .before .before .before in
+    let b = now (s .args .block) in
+    let n = c .before .before .before .before .before .before .before .positions .ensures .0 in
+    let left = c .before .before .before .before .before .before .left-at .ensures .0 in
+    let right = c .before .before .before .before .before .right-at .ensures .0 in
+    rule-placed b (s .args .r) (c .wide .result) (omega (arith, s .pre .1, s .pre .0 .head .sizes .r-high)) (omega (arith, s .pre .1, s .pre .2, s .pre .0 .head .sizes .r-high))
+    (sides-as b n left right (c .before .before .place-sides .ensures))
+    (c .wide .ensures .0 ∙ c .before .cost .ensures) (c .wide .ensures .1)
+
+pub place-rule-spec : {M : Type 1} → statement M
+place-rule-spec =
+    tie.close
+    (tie.spec
+    positions-requires
+    left-at-requires
+    right-at-requires
+    place-sides-requires
+    cost-requires
+    wide-requires
+    add-words
+    mul-words
+    element-write-words
+    returns)

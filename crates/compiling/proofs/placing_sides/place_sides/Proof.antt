@@ -1,0 +1,37 @@
+-- `compiling::placing_sides::place_sides` meets its contract.
+-- Each side has a place of its own.
+use denote.Ref.{now}
+use borrow.Author.Needs.{needs}
+use Rattle.blocks.specs.Layout.{sideAt}
+use Rattle.compiling.proofs.RulesPlaced.{sides-placed}
+use Rattle.compiling.proofs.placing_sides.place_sides.Statement.{statement}
+use Rattle.compiling.proofs.placing_sides.place_sides.Tie as tie
+
+mul-place-side : tie.Need-mul-place-side
+mul-place-side c = search needs
+
+place-side-requires : tie.Need-place-side-requires
+place-side-requires c κs = search needs
+
+mul-place-side-2 : tie.Need-mul-place-side-2
+mul-place-side-2 c = search needs
+
+add-place-side : tie.Need-add-place-side
+add-place-side c = search needs
+
+place-side-requires-2 : tie.Need-place-side-requires-2
+place-side-requires-2 c κs = search needs
+
+returns : tie.Need-returns
+returns c =
+    let a = c .before .before .before .before .before .before .before .args in
+    let b = now (a .bytes) in
+    let p = c .before .before .before .place-side in
+    sides-placed (a .n) (sideAt b (a .left)) (sideAt b (a .right)) (a .r) (now (a .words)) (now (a .moves))
+    (p .last .1 .1 .1 .1 .0) (p .last .1 .1 .1 .1 .1 .0) (c .place-side2 .last .1 .1 .1 .1 .0) (c .place-side2 .last .1 .1 .1 .1 .1 .0)
+    (p .ensures) (c .place-side2 .ensures)
+
+pub place-sides-spec : {M : Type 1} → statement M
+place-sides-spec =
+    tie.close
+    (tie.spec mul-place-side place-side-requires mul-place-side-2 add-place-side place-side-requires-2 returns)

@@ -1,0 +1,21 @@
+-- `compiling::placing_weights::place_weights` meets its contract.
+-- The weights of single labels go into an array of zeros, and those of pairs are their sums.
+use mathlib.Core.Path.{refl}
+use Rattle.compiling.proofs.WeightsPlaced.{zeros, pairs-weighted}
+use borrow.Author.Needs.{needs}
+use Rattle.compiling.proofs.placing_weights.place_weights.Statement.{statement}
+use Rattle.compiling.proofs.placing_weights.place_weights.Tie as tie
+
+place-singles-requires : tie.Need-place-singles-requires
+place-singles-requires c κs = (c .before .before .pre .0, refl, zeros 256)
+
+place-pairs-requires : tie.Need-place-pairs-requires
+place-pairs-requires c κs = search needs
+
+returns : tie.Need-returns
+returns c =
+    pairs-weighted (c .before .before .before .before .before .before .pre .0 .sized .head) (c .before .before .before .place-singles .ensures)
+    (c .place-pairs .ensures)
+
+pub place-weights-spec : {M : Type 1} → statement M
+place-weights-spec = tie.close (tie.spec place-singles-requires place-pairs-requires returns)
