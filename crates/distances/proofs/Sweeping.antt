@@ -14,7 +14,7 @@ use Rattle.distances.proofs.Passing.{passes-intro}
 use Rattle.distances.proofs.Writing.{entry-falls, total-falls, room, good-write}
 use Rattle.distances.proofs.OneRule.{via-at, via-found}
 
--- One pass over the states, with those below u done. The entries are numbers of 32 bits.
+-- One sweep over the states, with those below u done. The entries are numbers of 32 bits.
 pub record Sweeping (g : Graph) (t₀ t : List ℕ) (fell : Bool) (u : ℕ) : Type 0 where
   pub good : Good g t
   pub entries : (w : ℕ) → getD t w 0 ≤ mark

@@ -1,4 +1,4 @@
--- What every write of a fill keeps (`Good`), what the least cost by one rule is (`via`, `Best`), and what one pass over all states leaves (`Swept`).
+-- What every write of a fill keeps (`Good`), what the least cost by one rule is (`via`, `Best`), and what one sweep over all states leaves (`Swept`).
 -- The contracts of the fill and of the lower-bound test are stated with these.
 use mathlib.Core.Path.{_≡_}
 use mathlib.Core.Bool.{Bool, true, false, cond}
@@ -46,7 +46,7 @@ pub record Best (g : Graph) (t : List ℕ) (u x : ℕ) : Type 0 where
   pub least : (r : ℕ) → r < g .rules → x ≤ via g t u r
   pub found : x < none → (r : ℕ) × (r < g .rules) × (via g t u r ≡ x)
 
--- what one pass over all states leaves of the table t₀, with whether an entry fell
+-- what one sweep over all states leaves of the table t₀, with whether an entry fell
 pub record Swept (g : Graph) (t₀ t : List ℕ) (fell : Bool) : Type 0 where
   pub good : Good g t
   pub falls : fell ≡ true → total t < total t₀
