@@ -1,5 +1,5 @@
 -- Demand 3 on an exercise (`kept`): it is a lawful system (`exercise-lawful`), and an estimate that is a lower bound passes (`exercise-passing`).
--- Every table that passes gives the same plan (`same-answer`); an answer stays within the allowance and the cost limit (`visits-within`, `cost-within`).
+-- Every table that passes gives the same plan (`same-found`); an answer stays within the allowance and the cost limit (`visits-within`, `cost-within`).
 -- The search call's promises rest on these.
 use mathlib.Core.Path.{_≡_, refl, sym, ap, ap₂, subst, _∙_}
 use mathlib.Core.Logic.{_⊎_, inl, inr, _≢_}
@@ -26,7 +26,7 @@ use Rattle.rounds.specs.Systems.{at, Lawful, Passing}
 use Rattle.rounds.specs.OpenLists.{bind, run, totalCost, Reaches}
 use Rattle.rounds.specs.Rounds.{upto, Answer, found, noPlan, spent, visits, planCost}
 use Rattle.rounds.proofs.Demand as laws
-use Rattle.search.specs.Exercises.{sameState, stepOf, systemOf, entryEstimate, estimateOf, searchFrom, unlimited}
+use Rattle.search.specs.Exercises.{sameState, stepOf, systemOf, markEntry, entryEstimate, estimateOf, searchFrom, unlimited}
 use Rattle.search.specs.Promises.{Within, Kept}
 use Rattle.search.proofs.Estimates.{below-at, below-number}
 use Rattle.search.proofs.StepsMade.{step-made}
@@ -59,15 +59,19 @@ exercise-lawful {b} v =
 
 -- ---- estimates
 
+-- no estimate is above the mark
+abbrev pub Entries : List ℕ → List ℕ → Type 0
+Entries b t = (s : List ℕ) → stateOk b s ≡ true → estimate b t s ≤ markEntry
+
 -- a number that is at most the mark and is not the mark
-below-mark : (x : ℕ) → x ≢ 4294967295 → x ≤ 4294967295 → x < 4294967295
+below-mark : (x : ℕ) → x ≢ markEntry → x ≤ markEntry → x < markEntry
 below-mark x n h = omega arith
 
 module _ (b t : List ℕ) (low : LowerBound b (estimate b t)) where
   -- where rule r leads from s to u, and u is not marked
   after-rule :
-      (r : ℕ) (s u : List ℕ) → stateOk b s ≡ true → stepOf b r s ≡ some u → estimate b t u < 4294967295
-      → estimate b t s ≤ 4294967295 → (estimate b t s < 4294967295) × (estimate b t s ≤ costOf b r + estimate b t u)
+      (r : ℕ) (s u : List ℕ) → stateOk b s ≡ true → stepOf b r s ≡ some u → estimate b t u < markEntry
+      → estimate b t s ≤ markEntry → (estimate b t s < markEntry) × (estimate b t s ≤ costOf b r + estimate b t u)
   after-rule r s u ok e n h =
       let (l, a, m) = step-made r (rules b) (applies b r s) (step b r s) u e in
       let (q, k) = rw m at (low .rule s r ok l a) (λ z. omega arith) in
@@ -75,21 +79,20 @@ module _ (b t : List ℕ) (low : LowerBound b (estimate b t)) where
 
   -- no estimate is above the mark: the lower-bound test looks for the mark alone, and would let a larger one pass
   pub exercise-passing :
-      ((s : List ℕ) → stateOk b s ≡ true → estimate b t s ≤ 4294967295)
-      → Passing (systemOf b) (λ s. stateOk b s ≡ true) (estimateOf b t)
+      Entries b t → Passing (systemOf b) (λ s. stateOk b s ≡ true) (estimateOf b t)
   exercise-passing small =
       record {
         at-goal = λ s ok m. ap entryEstimate (low .goal s ok m);
         at-step =
             λ r s u m ok e a.
-            let (n, k) = below-number 4294967295 (estimate b t u) m a in
+            let (n, k) = below-number markEntry (estimate b t u) m a in
             let (x, y) = after-rule r s u ok e n (small s ok) in
-            (estimate b t s, below-at 4294967295 (estimate b t s) x, omega (arith, y, k));
+            (estimate b t s, below-at markEntry (estimate b t s) x, omega (arith, y, k));
       }
 
 -- the entries of a lent table are at most the mark, the largest number of their type
 pub low-estimates :
-    (b t : List ℕ) → ((i : ℕ) → getD t i 0 ≤ 4294967295) → (s : List ℕ) → stateOk b s ≡ true → estimate b t s ≤ 4294967295
+    (b t : List ℕ) → ((i : ℕ) → getD t i 0 ≤ markEntry) → Entries b t
 unfolding estimate entry
 low-estimates b t h s ok = h (rank b (relabelState b s))
 
@@ -135,7 +138,7 @@ module _ (b : List ℕ) where
 
 module _
     {b t : List ℕ} (valid : Valid b) (low : LowerBound b (estimate b t))
-    (small : (s : List ℕ) → stateOk b s ≡ true → estimate b t s ≤ 4294967295) where
+    (small : Entries b t) where
   -- demand 3
   pub kept :
       (D B v : ℕ) (s : List ℕ) → stateOk b s ≡ true → Kept b t D B v s (searchFrom b t D B v s)
@@ -167,13 +170,13 @@ module _
 -- two tables that pass: a plan found with one is found with the other, given no allowance, at the same cost
 module _
     {b : List ℕ} (t u : List ℕ) (valid : Valid b) (low : LowerBound b (estimate b t)) (low′ : LowerBound b (estimate b u))
-    (small : (s : List ℕ) → stateOk b s ≡ true → estimate b t s ≤ 4294967295)
-    (small′ : (s : List ℕ) → stateOk b s ≡ true → estimate b u s ≤ 4294967295) where
-  pub same-answer :
+    (small : Entries b t)
+    (small′ : Entries b u) where
+  pub same-found :
       (D B v : ℕ) (s : List ℕ) → stateOk b s ≡ true → (x c : ℕ) (p : List ℕ) → searchFrom b t D B v s ≡ found x p c
       → (y : ℕ) × (unlimited b u D B s ≡ found y p c)
   unfolding searchFrom unlimited
-  same-answer D B v s ok x c p e =
+  same-found D B v s ok x c p e =
       laws.same-found (systemOf b) (estimateOf b t) (estimateOf b u) (exercise-lawful valid) (exercise-passing b t low small)
       (exercise-passing b u low′ small′) (upto v) D B s ok x c p e
 

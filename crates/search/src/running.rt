@@ -7,7 +7,7 @@ ghost use Rattle.rounds.specs.Rounds as rounds;
 ghost use Rattle.search.specs.OnWords.{wordSystem, wordEstimate, figureOf};
 ghost use Rattle.search.specs.Parts.{Good, Ready, Here, AfterRound, answerOf, FoundWithin};
 use super::limits::round_limits;
-use super::scanning::NONE;
+use super::scanning::NO_FIGURE;
 use super::scanning::Node;
 use super::visiting::Visited;
 use super::visiting::visit;
@@ -38,7 +38,7 @@ fn round(
     let at = Node { depth: 0, cost: 0 };
     let none = Tally {
         visits,
-        least: NONE,
+        least: NO_FIGURE,
     };
     visit(words, moves, weights, table, path, plan, limits, at, none)
 }

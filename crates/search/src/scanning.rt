@@ -10,6 +10,8 @@ ghost use Rattle.search.specs.Limits.{ruleCount};
 ghost use Rattle.search.specs.OnWords.{wordEstimate, figureOf, onPath};
 ghost use Rattle.search.specs.Parts.{Here, Scanned};
 use super::limits;
+use tables::edges::MARK;
+use tables::edges::wide_entry;
 use tallies::Tally;
 use tallies::overshot;
 use words::ranking::rank_word;
@@ -18,10 +20,7 @@ use words::sides::cost_word;
 use words::sides::step_word;
 
 // What stands for no figure: it is above every threshold.
-pub const NONE: u64 = 18446744073709551615;
-
-// The mark 'no path'.
-const MARK: u32 = 4294967295;
+pub const NO_FIGURE: u64 = 18446744073709551615;
 
 // A list on the way: how many rules it has, and what they cost.
 pub struct Node {
@@ -43,14 +42,7 @@ pub enum Scan {
     Due(Extension),
 }
 
-// An entry as a wide number.
-fn wide_entry(entry: u32) -> u64
-    ensures { λ x. ⌜ (x ≡ entry) × (x ≤ 4294967295) ⌝ }
-{
-    entry as u64
-}
-
-// The figure of a list of this cost that ends at the word; NONE with the mark.
+// The figure of a list of this cost that ends at the word; NO_FIGURE with the mark.
 pub fn figure(weights: &[u16; 2048], n: usize, table: &[u32], cost: u64, word: u64) -> u64
     requires { ⌜ (n ≤ 16) × (rankWord (now weights) n word < length (now table)) × (cost ≤ 8589934592) ⌝ }
     ensures { λ f. ⌜ figureOf f ≡ plus cost (wordEstimate (now (weights .entry)) (now (table .entry)) n word) ⌝ }
@@ -59,7 +51,7 @@ pub fn figure(weights: &[u16; 2048], n: usize, table: &[u32], cost: u64, word: u
     if entry < MARK {
         return cost + wide_entry(entry);
     }
-    NONE
+    NO_FIGURE
 }
 
 // Whether a word is among the states of the path up to depth. Repeats are mostly recent, so the last state is looked at first.
