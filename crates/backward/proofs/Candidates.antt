@@ -16,7 +16,7 @@ use Rattle.blocks.specs.Validity.{Valid}
 use Rattle.blocks.proofs.StateLaws.{labelled-intro, state-length, state-label}
 use Rattle.psvn.specs.Rules.{leads}
 use Rattle.psvn.specs.Ranks.{stateRank}
-use Rattle.psvn.proofs.RankLaws.{before-rank, rank-before}
+use Rattle.psvn.proofs.RankLaws.{before-state-rank, state-rank-before}
 use Rattle.backward.specs.Choices.{choice, choicesAt, leastOf, raisableAt, Completed, Raised}
 use Rattle.backward.specs.declared.choices.Choice.{Choice}
 use Rattle.backward.specs.Predecessors.{Earlier, from-first, after, fromRank, found, none-further, stepBack, settled}
@@ -78,7 +78,7 @@ module _ (b : List ℕ) (va : Valid b) (r : ℕ) (lr : r < rules b) (s : List �
       (u v : List ℕ) → stateOk b u ≡ true → stateOk b v ≡ true → (Before (positions b) v u → ⊥)
       → stateRank b u ≤ stateRank b v
   not-before u v uo vo h =
-      let a : ¬ (stateRank b v < stateRank b u) = λ k. h (rank-before b v u vo uo k) in
+      let a : ¬ (stateRank b v < stateRank b u) = λ k. h (state-rank-before b v u vo uo k) in
       omega arith
 
   pub completed-candidate :
@@ -104,10 +104,10 @@ module _ (b : List ℕ) (va : Valid b) (r : ℕ) (lr : r < rules b) (s : List �
         record {
           state = uo;
           keeps = raised-keeps n (labelCount b) choices near small e u i be h t;
-          above = omega (arith, before-rank b e u eo uo (raised-above n (labelCount b) choices near small e u i be h t));
+          above = omega (arith, before-state-rank b e u eo uo (raised-above n (labelCount b) choices near small e u i be h t));
           least = λ v vo kv a.
               not-before u v uo vo
-              (raised-least n (labelCount b) choices near small e u i be h t v kv (state-label b v vo) (rank-before b e v eo vo a));
+              (raised-least n (labelCount b) choices near small e u i be h t v kv (state-label b v vo) (state-rank-before b e v eo vo a));
         }
 
     pub no-candidate :
@@ -115,7 +115,7 @@ module _ (b : List ℕ) (va : Valid b) (r : ℕ) (lr : r < rules b) (s : List �
     no-candidate h =
         let n = positions b in
         none-found b (va .sized .head) r s (after e) (λ v vo k a.
-        none-after n (labelCount b) choices near small e v (leads-keeps n (leftOf b r) (rightOf b r) s v (sym (leads-by b r v s) ∙ k)) (state-label b v vo) (rank-before b e v eo vo a) h)
+        none-after n (labelCount b) choices near small e v (leads-keeps n (leftOf b r) (rightOf b r) s v (sym (leads-by b r v s) ∙ k)) (state-label b v vo) (state-rank-before b e v eo vo a) h)
 
   -- as the code finds the rule: its sides begin at `left` and `right`, and it counts positions by the length of the state
   module _ (left right : ℕ) (el : left ≡ leftAt b r) (er : right ≡ rightAt b r) where

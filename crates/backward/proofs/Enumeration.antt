@@ -12,7 +12,7 @@ use Rattle.blocks.specs.States.{stateOk}
 use Rattle.blocks.specs.Validity.{Headed}
 use Rattle.psvn.specs.Rules.{leads}
 use Rattle.psvn.specs.Ranks.{stateRank, stateCount}
-use Rattle.psvn.proofs.RankLaws.{state-rank-below, same-rank}
+use Rattle.psvn.proofs.RankLaws.{state-rank-below, same-state-rank}
 use Rattle.backward.specs.Predecessors.{Earlier, from-first, after, fromRank, Predecessor, found, none-further, stepBack, afterCall, call}
 use Rattle.backward.proofs.NextState.{Next, found-none, answer, found-next}
 
@@ -80,7 +80,7 @@ module _ (b : List ℕ) (h : Headed b) (r : ℕ) (s : List ℕ) where
         go :
             (w : List ℕ) → stepBack b r s earlier ≡ found w → Next b h r s earlier w
             → (stateRank b w ≡ stateRank b u) ⊎ (stateRank b w < stateRank b u) → (k : ℕ) × (call b r s earlier k ≡ found u)
-        go w e n (inl q) = (0, e ∙ ap found (same-rank b w u (n .state) ok q))
+        go w e n (inl q) = (0, e ∙ ap found (same-state-rank b w u (n .state) ok q))
         go w e n (inr l) =
             let m = further w (n .above) l in
             (suc (m .0), call-found earlier (m .0) w e ∙ m .1)

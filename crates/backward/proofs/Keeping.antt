@@ -17,8 +17,8 @@ use Rattle.blocks.specs.Layout.{positions, rules, labelCount, leftOf, rightOf}
 use Rattle.blocks.specs.Validity.{boundIn, Valid}
 use Rattle.blocks.proofs.TermCases.{View, label, variable, dash, refused, view, is-label, is-variable, is-refused, dash-byte}
 use Rattle.blocks.proofs.Accepted.{left-side, right-side, right-bound, side-term}
+use Rattle.blocks.proofs.StateLaws.{some-label}
 use Rattle.psvn.proofs.Matching.{Matched, matched}
-use Rattle.psvn.proofs.RankLaws.{some-label}
 use Rattle.psvn.proofs.Stepping.{count-alike}
 use Rattle.backward.specs.Reversible.{shows}
 use Rattle.backward.specs.Choices.{only, choice, leastOf, keepsOf}
@@ -253,7 +253,7 @@ module _ (b : List ℕ) (v : Valid b) (r : ℕ) (lr : r < rules b) where
   valid-proper =
       record {
         some-label = some-label b (v .sized .head);
-        alike = count-alike b v;
+        alike = count-alike b;
         left-below = λ i l a.
             ltb-true _ _ (sym (ap (termOk (labelCount b i)) (is-label (leftOf b r i) a)) ∙ side-term b (leftOf b r) (left-side b v r lr) i l);
         right-dash = λ i l a. go i a (side-term b (rightOf b r) (right-side b v r lr) i l) (view (rightOf b r i));

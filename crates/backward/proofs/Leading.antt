@@ -12,14 +12,14 @@ use borrow.Author.Tests.{eqb-true, eq-eqb}
 use Rattle.basics.specs.Bounded.{first}
 use Rattle.basics.proofs.Truth.{and-true, and-intro}
 use Rattle.basics.proofs.Bounded.{all-at, all-intro}
-use Rattle.basics.proofs.Lists.{length-tabulate}
-use Rattle.basics.proofs.Order.{same-list}
+use Rattle.basics.proofs.Lists.{same-list}
 use Rattle.blocks.specs.Terms.{termOf}
 use Rattle.blocks.specs.Layout.{positions, leftOf, rightOf}
 use Rattle.blocks.proofs.TermCases.{View, label, variable, dash, refused, view, is-label, is-variable}
 use Rattle.psvn.specs.Rules.{bound, given, matches, rewritten, applies, step, same, leads}
 use Rattle.psvn.proofs.Matching.{Matched, matching}
 use Rattle.psvn.proofs.Making.{rewritten-at, given-other}
+use Rattle.psvn.proofs.Stepping.{step-length}
 
 -- the rule with these sides takes u to s
 unfoldable pub leadsBy : ℕ → (ℕ → ℕ) → (ℕ → ℕ) → List ℕ → List ℕ → Bool
@@ -82,7 +82,7 @@ module _ (n : ℕ) (left right : ℕ → ℕ) (u s : List ℕ) where
 pub leads-exactly :
     (b : List ℕ) (r : ℕ) (u s : List ℕ) → length s ≡ positions b
     → (leads b r u s ≡ true) ↔ ((applies b r u ≡ true) × (step b r u ≡ s))
-unfolding applies step rewritten
+unfolding applies step
 leads-exactly b r u s ls =
     let n = positions b in
     let left = leftOf b r in
@@ -90,7 +90,7 @@ leads-exactly b r u s ls =
       λ h.
           let k = sym (leads-by b r u s) ∙ h in (
             leads-matches n left right u s k,
-            same-list n (step b r u) s (length-tabulate n (λ i. given n left u i (termOf (right i)))) ls (leads-image n left right u s k),
+            same-list n (step b r u) s (step-length b r u) ls (leads-image n left right u s k),
           ),
       λ h. leads-by b r u s ∙ leading n left right u s (h .0) (λ i l. ap (λ (t : List ℕ). getD t i 0) (h .1)),
     )

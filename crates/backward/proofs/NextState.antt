@@ -15,7 +15,7 @@ use Rattle.blocks.specs.States.{stateOk}
 use Rattle.blocks.specs.Validity.{Headed}
 use Rattle.psvn.specs.Rules.{leads}
 use Rattle.psvn.specs.Ranks.{stateRank, unrankState, stateCount}
-use Rattle.psvn.proofs.RankLaws.{state-rank-below, unrank-state-rank, unranked-state, state-rank-unrank}
+use Rattle.psvn.proofs.RankLaws.{state-rank-below, unrank-state-rank, unrank-state-ok, state-rank-unrank}
 use Rattle.backward.specs.Predecessors.{Earlier, fromRank, nextRank, Predecessor, found, none-further, stepBack}
 
 -- the two answers are told apart, and a state found is told whole
@@ -81,7 +81,7 @@ module _ (b : List ℕ) (h : Headed b) (r : ℕ) (s : List ℕ) (earlier : Earli
       not-so (counts k) (λ e.
       let m = counts-state k e in
       let q = state-rank-unrank b h k (omega arith) in
-      let x = n .least (unrankState b k) (unranked-state b h k) (m .1) (rw q (m .0)) in
+      let x = n .least (unrankState b k) (unrank-state-ok b h k) (m .1) (rw q (m .0)) in
       omega arith)))
       top
       ∙ ap found (unrank-state-rank b u (n .state))
@@ -92,7 +92,7 @@ module _ (b : List ℕ) (h : Headed b) (r : ℕ) (s : List ℕ) (earlier : Earli
       at-end (first-none counts (stateCount b) (some-none counts (stateCount b) (λ k l.
       not-so (counts k) (λ e.
       let m = counts-state k e in
-      none (unrankState b k) (unranked-state b h k) (m .1) (rw (state-rank-unrank b h k l) (m .0))))))
+      none (unrankState b k) (unrank-state-ok b h k) (m .1) (rw (state-rank-unrank b h k l) (m .0))))))
 
   -- the other way
   next-at : some (stateCount b) counts ≡ true → Next (unrankState b (first (stateCount b) counts))
@@ -102,7 +102,7 @@ module _ (b : List ℕ) (h : Headed b) (r : ℕ) (s : List ℕ) (earlier : Earli
       let m = counts-state k (f .1) in
       let q = state-rank-unrank b h k (f .0) in
       record {
-        state = unranked-state b h k;
+        state = unrank-state-ok b h k;
         leads-there = m .1;
         above = rw q (m .0);
         least = λ v ok l a.

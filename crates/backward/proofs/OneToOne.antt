@@ -15,7 +15,7 @@ use Rattle.basics.specs.Lists.{tabulate}
 use Rattle.basics.proofs.Truth.{true-false}
 use Rattle.basics.proofs.Bounded.{all-at, all-fails, some-false}
 use Rattle.basics.proofs.Lists.{length-tabulate, getD-tabulate, tabulate-ext}
-use Rattle.basics.proofs.Order.{same-list}
+use Rattle.basics.proofs.Lists.{same-list}
 use Rattle.blocks.specs.Terms.{termOf, isDash}
 use Rattle.blocks.specs.Layout.{positions, labels, rules, labelCount, leftOf, rightOf}
 use Rattle.blocks.specs.States.{labelled, stateOk}
@@ -24,7 +24,7 @@ use Rattle.blocks.proofs.TermCases.{View, label, variable, dash, refused, view,
 use Rattle.blocks.proofs.StateLaws.{labelled-intro, state-length, state-label}
 use Rattle.psvn.specs.Rules.{bound, given, rewritten, applies, step, leads}
 use Rattle.psvn.proofs.Matching.{Matched, matching}
-use Rattle.psvn.proofs.RunLaws.{step-length}
+use Rattle.psvn.proofs.Stepping.{step-length}
 use Rattle.backward.specs.Reversible.{shows, keptTerm, formAt, reversible, OneToOne}
 use Rattle.backward.specs.Choices.{choice}
 use Rattle.backward.proofs.Choosing.{Keeps}

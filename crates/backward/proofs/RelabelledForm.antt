@@ -28,7 +28,7 @@ module _ (b : List ℕ) (v : Valid b) where
       → (t i : ℕ) → 16 ≤ t → i < positions b → eqb (side′ i) t ≡ eqb (side i) t
   stands side side′ ok image t i a l =
       ap (λ (x : ℕ). eqb x t) (image i l)
-      ∙ same-variable (positions b) (labelCount b) (mapAt b) (map-small b v) (map-alike b v) i (side i) t l a (side-term b side ok i l)
+      ∙ same-variable (positions b) (labelCount b) (mapAt b) (map-small b v) (map-alike b) i (side i) t l a (side-term b side ok i l)
 
   module _
       (left left′ right right′ : ℕ → ℕ) (left-ok : sideOk b left ≡ true) (right-ok : sideOk b right ≡ true)

@@ -14,7 +14,8 @@ use borrow.Author.Tests.{eqb-true, ltb-true, ltb-false, lt-ltb, eq-eqb}
 use Rattle.basics.specs.Bounded.{last}
 use Rattle.basics.proofs.Truth.{and-true, and-intro}
 use Rattle.basics.proofs.Bounded.{all-at, all-intro, last-above, last-holds}
-use Rattle.basics.proofs.Order.{Before, trichotomy}
+use Rattle.basics.proofs.Order.{Before}
+use Rattle.basics.proofs.Comparing.{trichotomy}
 use Rattle.backward.specs.Choices.{leastOf, raisedOf, risesOf, keepsOf, keptTo, raisableAt, Completed, Raised}
 use Rattle.backward.specs.declared.choices.Choice.{Choice}
 use Rattle.backward.specs.declared.choices.Choice.the-variants.{Only, Any}

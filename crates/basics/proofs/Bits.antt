@@ -1,5 +1,5 @@
 -- `|` does not care how it is grouped (`or-assoc`).
--- What is joined from parts, in whatever order they come, rests on this.
+-- The word that a compiled side makes, joined move by move, rests on this.
 use mathlib.Core.Path.{_≡_, sym, ap, _∙_}
 use Prim.Native.Nat.{ℕ, zero, suc, _/_, _%_, _<_}
 use native.Mathlib.Nat.{mod-lt, zero-lt-suc}

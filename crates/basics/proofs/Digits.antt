@@ -1,12 +1,14 @@
 -- Digits and numbers: digits below their bases make a number below `span`, no less than that of the first of them (`value-grows`), and the number of digits and the
--- digits of a number undo one another.
+-- digits of a number undo one another; with one base the numbers are those below a power (`span-power`), and a power with one factor more (`power-more`).
 -- Ranks of states rest on these.
 use mathlib.Core.Path.{_≡_, refl, sym, ap, ap₂, _∙_}
 use mathlib.Core.Logic.{⊎-elim}
 use mathlib.Core.List.{List, [], _∷_, _++_}
 use Prim.Native.Nat.{ℕ, zero, suc, _+_, _*_, _/_, _%_, _^_, _≤_, _<_}
-use native.Mathlib.Nat.{eq-or-lt-of-le, le-of-suc-le-suc, not-suc-le-zero, add-zero, mul-add-div-right, div-eq-of-lt, mul-add-mod-self-right, mod-eq-of-lt, mod-lt, mul-le-mul-right, le-mul-of-pos-right, suc-mul, pow-zero, pow-suc, div-lt-iff-lt-mul, div-add-mod'}
+use native.Mathlib.Nat.{eq-or-lt-of-le, le-of-suc-le-suc, not-suc-le-zero, mod-lt, le-mul-of-pos-right, pow-zero, pow-suc, div-lt-iff-lt-mul, div-add-mod'}
+use native.Mathlib.Numerals.{add-one}
 use native.Mathlib.Omega.{arith}
+use lib.Arith.{digits-lt, digits-div, digits-mod}
 use lib.ListN.{length, getD, take, length-append, List·getD-append}
 use lib.Seq.{getD-at, take-suc, take-all}
 use Rattle.basics.specs.Digits.{valueTo, digits, span}
@@ -17,9 +19,7 @@ lt-of-eq e l = omega arith
 module _ (base : ℕ → ℕ) where
   pub value-below : (s : List ℕ) (n : ℕ) → ((i : ℕ) → i < n → getD s i 0 < base i) → valueTo base s n < span base n
   value-below s zero h = omega arith
-  value-below s (suc n) h =
-      let l = mul-le-mul-right (base n) (value-below s n (λ i l. h i (omega arith))) in
-      omega (arith, suc-mul (valueTo base s n) (base n), h n (omega arith))
+  value-below s (suc n) h = digits-lt (value-below s n (λ i l. h i (omega arith))) (h n (omega arith))
 
   -- the first digits alone write no greater number
   pub value-grows : (s : List ℕ) (i n : ℕ) → i ≤ n → ((j : ℕ) → j < n → getD s j 0 < base j) → valueTo base s i ≤ valueTo base s n
@@ -75,8 +75,8 @@ module _ (base : ℕ → ℕ) where
       let d = h n (omega arith) in
       let v = valueTo base s n in
       ap₂ (λ (a x : ℕ). digits base n a ++ (x ∷ []))
-      (mul-add-div-right (omega arith) v (getD s n 0) ∙ ap (λ (x : ℕ). v + x) (div-eq-of-lt d) ∙ add-zero v)
-      (mul-add-mod-self-right v (base n) (getD s n 0) ∙ mod-eq-of-lt d)
+      (digits-div v d)
+      (digits-mod v d)
       ∙ ap (λ (x : List ℕ). x ++ (getD s n 0 ∷ [])) (digits-front s n (omega arith) (λ i k. h i (omega arith)))
       ∙ sym (take-suc s n 0 l)
 
@@ -84,6 +84,10 @@ module _ (base : ℕ → ℕ) where
       (s : List ℕ) (n : ℕ) → length s ≡ n → ((i : ℕ) → i < n → getD s i 0 < base i)
       → digits base n (valueTo base s n) ≡ s
   digits-value s n e h = digits-front s n (omega arith) h ∙ take-all n s (omega arith)
+
+-- a power, one factor more
+pub power-more : (k i p : ℕ) → p ≡ k ^ i → p * k ≡ k ^ (i + 1)
+power-more k i p e = ap (λ (x : ℕ). x * k) e ∙ sym (pow-suc k i) ∙ ap (λ (x : ℕ). k ^ x) (sym (add-one i))
 
 -- one base for all places
 pub span-power : (base : ℕ → ℕ) (k : ℕ) → ((i : ℕ) → base i ≡ k) → (n : ℕ) → span base n ≡ k ^ n

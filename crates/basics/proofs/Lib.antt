@@ -5,7 +5,8 @@ pub mod Bounded
 pub mod Lists
 pub mod ByteLists
 pub mod Digits
+pub mod Comparing
 pub mod Order
 pub mod Pigeonhole
 pub mod Bits
-pub mod Frames
+pub mod Parts

@@ -1,4 +1,4 @@
--- Laws of `tabulate`, `joined`, `atFront` and of runs of stores: lengths, elements, and one element or one part more.
+-- Laws of `tabulate`, `joined`, `atFront` and of runs of stores: lengths, elements, and one element or one part more; lists that agree at each place are equal (`same-list`).
 -- The loops that write a buffer, and all that is said of the bytes of a relabelled block, rest on these.
 use mathlib.Core.Path.{_≡_, refl, sym, ap, ap₂, _∙_}
 use mathlib.Core.Logic.{⊎-elim}
@@ -36,15 +36,18 @@ module _ (n : ℕ) (f : ℕ → ℕ) where
   pub getD-tabulate : (k : ℕ) → k < n → getD (tabulate n f) k 0 ≡ f k
   getD-tabulate k l = getD-from n 0 f k l ∙ ap f (zero-add k)
 
-  pub tabulate-snoc : tabulate (suc n) f ≡ tabulate n f ++ (f n ∷ [])
+  tabulate-snoc : tabulate (suc n) f ≡ tabulate n f ++ (f n ∷ [])
   tabulate-snoc = snoc-from n 0 f ∙ ap (λ (k : ℕ). tabulate n f ++ (f k ∷ [])) (zero-add n)
 
--- two lists of n elements that agree at each index
+-- lists of n elements that agree at each place are equal
+pub same-list : (n : ℕ) (u v : List ℕ) → length u ≡ n → length v ≡ n → ((k : ℕ) → k < n → getD u k 0 ≡ getD v k 0) → u ≡ v
+same-list n u v a b h = ext-getD 0 u v (a ∙ sym b) (λ i l. h i (omega arith))
+
+-- tables that agree at each index
 pub tabulate-ext : (n : ℕ) (f g : ℕ → ℕ) → ((k : ℕ) → k < n → f k ≡ g k) → tabulate n f ≡ tabulate n g
 tabulate-ext n f g h =
-    ext-getD 0 (tabulate n f) (tabulate n g) (length-tabulate n f ∙ sym (length-tabulate n g)) (λ k l.
-    let m : k < n = omega (arith, length-tabulate n f) in
-    getD-tabulate n f k m ∙ h k m ∙ sym (getD-tabulate n g k m))
+    same-list n (tabulate n f) (tabulate n g) (length-tabulate n f) (length-tabulate n g) (λ k l.
+    getD-tabulate n f k l ∙ h k l ∙ sym (getD-tabulate n g k l))
 
 -- lists of one length w behind one another
 module _ (f : ℕ → List ℕ) (w : ℕ) where

@@ -1,5 +1,5 @@
 -- Of n + 1 numbers below n two are equal (`pigeonhole`).
--- That a cheapest list of rules passes no state twice rests on it.
+-- That a list that reaches a goal can be cut to fewer rules than there are states rests on it.
 use mathlib.Core.Path.{_≡_, refl, sym, _∙_}
 use mathlib.Core.Logic.{_≢_}
 use mathlib.Core.Bool.{Bool, true, false, cond}

@@ -17,10 +17,6 @@ and-true false b h = absurd (true≢false (sym h))
 pub and-intro : (a b : Bool) → a ≡ true → b ≡ true → (a && b) ≡ true
 and-intro a b p q = rw (p, q)
 
-pub and-grouped : (a b c : Bool) → (a && (b && c)) ≡ ((a && b) && c)
-and-grouped true b c = refl
-and-grouped false b c = refl
-
 pub and-right-false : (a b : Bool) → b ≡ false → (a && b) ≡ false
 and-right-false true b h = h
 and-right-false false b h = refl

@@ -3,4 +3,4 @@
 pub mod Bounded
 pub mod Lists
 pub mod Digits
-pub mod Frames
+pub mod Parts

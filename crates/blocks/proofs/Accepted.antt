@@ -1,5 +1,5 @@
 -- What the conditions on a block give: the head's limits (`headed`), and that a block is accepted exactly where it is `Valid` (`accepted-valid`, `valid-accepted`);
--- then each map byte, term and right variable of a valid block by itself. Every theorem on valid blocks rests on these.
+-- then each abstract label, term and right variable of a valid block by itself. Every theorem on valid blocks rests on these.
 use mathlib.Core.Path.{_≡_}
 use mathlib.Core.Bool.{true, _&&_}
 use mathlib.Core.List.{List, [], _∷_}
@@ -12,7 +12,7 @@ use Rattle.basics.proofs.Bounded.{all-at}
 use Rattle.refusals.specs.Answers.{told, verdict, _unless_}
 use Rattle.refusals.proofs.Verdicts.{verdict-told}
 use Rattle.blocks.specs.Terms.{termOf, termOk}
-use Rattle.blocks.specs.Layout.{positions, labels, abstracts, rules, goals, labelCount, abstractStates, headLength, mapByte, leftOf, rightOf, goalOf, blockLength}
+use Rattle.blocks.specs.Layout.{positions, labels, abstracts, rules, goals, labelCount, abstractCount, abstractStates, headLength, mapByte, mapAt, leftOf, rightOf, goalOf, blockLength}
 use Rattle.blocks.specs.Validity.{within, sizesOk, headOk, lengthOk, mapOk, sideOk, ruleTermsOk, goalTermsOk, termsOk, boundIn, ruleBound, boundOk, blockConditions, Sizes, Headed, Sized, Valid}
 
 within-limits : (low x high : ℕ) → within low x high ≡ true → (low ≤ x) × (x ≤ high)
@@ -99,9 +99,9 @@ module _ (b : List ℕ) where
       rw (head-ok (v .sized .head), length-ok (v .sized), v .map, v .terms, v .bound)
 
   module _ (v : Valid b) where
-    pub map-below : (x : ℕ) → x < labels b → mapByte b x < abstracts b
-    unfolding mapOk
-    map-below x l = ltb-true _ _ (all-at (λ x. ltb (mapByte b x) (abstracts b)) (labels b) (v .map) x l)
+    pub map-below : (i x : ℕ) → x < labelCount b i → mapAt b i x < abstractCount b i
+    unfolding mapOk mapAt labelCount abstractCount
+    map-below i x l = ltb-true _ _ (all-at (λ x. ltb (mapByte b x) (abstracts b)) (labels b) (v .map) x l)
 
     -- the sides of rule r, and of goal g
     sides : (r : ℕ) → r < rules b → (sideOk b (leftOf b r) ≡ true) × (sideOk b (rightOf b r) ≡ true)

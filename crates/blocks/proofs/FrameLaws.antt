@@ -1,4 +1,4 @@
--- Laws of frames: they make up the block behind its head (`frames-all`), no block is long (`block-short`), and what the head alone settles is the same for a head and for a block that begins with it
+-- Laws of frames: they make up the block behind its head (`frames-all`), and what the head alone settles is the same for a head and for a block that begins with it
 -- (`same-length`, `same-head`, `head-alone`).
 -- Reading an exercise frame by frame rests on these.
 use mathlib.Core.Path.{_≡_, ap, _∙_}
@@ -11,7 +11,6 @@ use lib.ListN.{length, length-append, List·getD-append}
 use borrow.Author.Tests.{ne-eqb, le-leb, lt-leb}
 use Rattle.blocks.specs.Layout.{positions, rules, goals, headLength, headByte, abstractStates, ruleWidth, ruleAt, goalAt, blockLength, frameCount, frameLength}
 use Rattle.blocks.specs.Validity.{Headed}
-use Rattle.blocks.proofs.Offsets.{rules-reach, goals-reach}
 
 module _ (b : List ℕ) where
   -- where frame i begins
@@ -54,15 +53,9 @@ module _ (b : List ℕ) where
   frames-rise i zero = omega (arith, ap frameAt (add-zero i))
   frames-rise i (suc k) = omega (arith, frames-rise i k, ap frameAt (add-suc i k))
 
-  -- the longest block has 2,261 bytes
-  pub block-short : Headed b → blockLength b ≤ 2261
-  unfolding blockLength goalAt ruleAt
-  block-short h =
-      omega (arith, rules-reach b h (rules b) (omega arith), goals-reach b h (goals b) (omega arith), h .sizes .l-high)
-
 -- a head, and a block that begins with it
 module _ (head rest : List ℕ) (five : length head ≡ headLength) where
-  pub same-byte : (i : ℕ) → i < headLength → headByte (head ++ rest) i ≡ headByte head i
+  same-byte : (i : ℕ) → i < headLength → headByte (head ++ rest) i ≡ headByte head i
   unfolding headByte
   same-byte i l = List·getD-append head rest 0 i (omega arith)
 

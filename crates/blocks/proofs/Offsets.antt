@@ -1,4 +1,4 @@
--- Laws of the layout: each rule, side and goal of a block lies in it, and how far the offsets reach.
+-- Laws of the layout: each rule, side and goal of a block lies in it, how far the offsets reach, and how long a block (`block-short`) and its relabelled block are.
 -- Whoever reads a block goes by these and not by the layout.
 use mathlib.Core.Path.{_≡_}
 use mathlib.Core.List.{List}
@@ -48,9 +48,14 @@ module _ (b : List ℕ) where
   pub map-fits : labels b ≤ blockLength b
   map-fits = omega (arith, map-before, goals-before)
 
-  pub head-length : length (relabelHead b) ≡ headLength + abstracts b
+  pub relabel-head-length : length (relabelHead b) ≡ headLength + abstracts b
   unfolding relabelHead
-  head-length = omega (arith, length-tabulate (abstracts b) (λ x. x))
+  relabel-head-length = omega (arith, length-tabulate (abstracts b) (λ x. x))
+
+  -- the relabelled block has K map bytes for L
+  pub relabelled-length-is : relabelledLength b + labels b ≡ blockLength b + abstracts b
+  unfolding relabelledLength blockLength goalAt ruleAt
+  relabelled-length-is = omega arith
 
   -- how far the offsets reach
   module _ (h : Headed b) where
@@ -66,10 +71,11 @@ module _ (b : List ℕ) where
         let narrow : positions b ≤ 16 = omega arith in
         mul-le-mul few narrow
 
-    -- the relabelled block has K map bytes for L
-    pub relabelled-is : relabelledLength b + labels b ≡ blockLength b + abstracts b
-    unfolding relabelledLength blockLength goalAt ruleAt
-    relabelled-is = omega arith
+    -- the longest block has 2,261 bytes
+    pub block-short : blockLength b ≤ 2261
+    unfolding blockLength goalAt ruleAt
+    block-short =
+        omega (arith, rules-reach (rules b) (omega arith), goals-reach (goals b) (omega arith), h .sizes .l-high)
 
   -- what an accepted length gives
   module _ (h : Sized b) where

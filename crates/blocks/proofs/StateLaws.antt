@@ -1,5 +1,6 @@
--- What it says that a list is `labelled`: its length, and each label by itself (`labelled-length`, `labelled-at`, `labelled-intro`; of a block's state `state-length`, `state-label`); and its number
--- in the base of the label counts: `labelled-below`, `labelled-digits`, `digits-labelled`. The theorems on states and ranks, and the code that reads a checked state, rest on these.
+-- What it says that a list is `labelled`: its length, and each label by itself (`labelled-length`, `labelled-at`, `labelled-intro`; of a block's state `state-length`, `state-label`); its number
+-- in the base of the label counts (`labelled-below`, `labelled-digits`, `digits-labelled`); and the limits of the counts (`some-label`, `label-count-low`, `some-abstract`, `abstract-count-low`).
+-- The theorems on states and ranks, and the code that reads a checked state, rest on these.
 use mathlib.Core.Path.{_≡_}
 use mathlib.Core.Bool.{true}
 use mathlib.Core.List.{List}
@@ -51,7 +52,15 @@ state-length b s ok = labelled-length (positions b) (labelCount b) s ok
 pub state-label : (b s : List ℕ) → stateOk b s ≡ true → (i : ℕ) → i < positions b → getD s i 0 < labelCount b i
 state-label b s ok i l = labelled-at (positions b) (labelCount b) s ok i l
 
--- counts and labels are small
+-- there is a label at each position; counts and labels are small
+pub some-label : (b : List ℕ) → Headed b → (i : ℕ) → 0 < labelCount b i
+unfolding labelCount
+some-label b h i = h .sizes .l-low
+
+pub some-abstract : (b : List ℕ) → Headed b → (i : ℕ) → 0 < abstractCount b i
+unfolding abstractCount
+some-abstract b h i = h .sizes .k-low
+
 pub label-count-low : (b : List ℕ) → Headed b → (i : ℕ) → labelCount b i ≤ 16
 unfolding labelCount
 label-count-low b h i = h .sizes .l-high

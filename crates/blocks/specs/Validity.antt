@@ -13,10 +13,11 @@ use Rattle.blocks.specs.Layout.{positions, labels, abstracts, rules, goa
 use Rattle.blocks.specs.declared.terms.Term.{Term}
 use Rattle.blocks.specs.declared.terms.Term.the-variants.{Label, Variable, Dash, Refused}
 
+-- x lies from low to high
 abbrev pub within : ℕ → ℕ → ℕ → Bool
 within low x high = leb low x && leb x high
 
--- 3: five bytes or more, and the head in its limits
+-- the head's numbers in their limits, the number of abstract states aside
 unfoldable pub sizesOk : List ℕ → Bool
 sizesOk b =
     within 1 (positions b) 16
@@ -25,6 +26,7 @@ sizesOk b =
     && (leb (rules b) 64
     && within 1 (goals b) 8)))
 
+-- 3: five bytes or more, and the head in its limits
 unfoldable pub headOk : List ℕ → Bool
 headOk b = leb headLength (length b) && (sizesOk b && leb (abstractStates b) 16384)
 

@@ -1,4 +1,5 @@
-// Where the parts of an exercise block stand. No other module knows the layout.
+// Where the parts of an exercise block stand. No other module knows the layout; only psvn's relabelling
+// writes the rules and goals of a block in the same order.
 ghost use mathlib.Core.Path.{_≡_};
 ghost use Prim.Native.Nat.{_+_, _≤_, _<_};
 ghost use lib.Dec.{eqb};
@@ -118,7 +119,7 @@ pub fn abstract_label(block: &[u8], i: usize, label: ConcreteLabel) -> AbstractL
 }
 
 // How many bytes a rule has.
-pub fn rule_width(block: &[u8]) -> usize
+fn rule_width(block: &[u8]) -> usize
     requires { ⌜ Headed (now block) ⌝ }
     ensures { λ r. ⌜ (r ≡ ruleWidth (now (block .entry))) × (r ≤ 33) ⌝ }
 {
@@ -126,7 +127,7 @@ pub fn rule_width(block: &[u8]) -> usize
 }
 
 // Where rule r begins; behind the last rule, where the goals do.
-pub fn rule_at(block: &[u8], r: usize) -> usize
+fn rule_at(block: &[u8], r: usize) -> usize
     requires { ⌜ Headed (now block) × (r ≤ rules (now block)) ⌝ }
     ensures { λ at. ⌜ (at ≡ ruleAt (now (block .entry)) r) × (at ≤ 2133) ⌝ }
 {

@@ -1,13 +1,12 @@
 // Whether a block is accepted: conditions 3 to 7, in this order, each over the whole block.
 ghost use mathlib.Core.Path.{_≡_};
-ghost use mathlib.Core.Bool.{true};
 ghost use Prim.Native.Nat.{_+_, _^_, _≤_, _<_};
 ghost use lib.Dec.{leb};
 ghost use lib.ListN.{length};
 ghost use Rattle.refusals.specs.Answers.{verdict};
 ghost use Rattle.refusals.specs.Refusals.{verdictOf};
 ghost use Rattle.blocks.specs.Terms.{termOf};
-ghost use Rattle.blocks.specs.Layout.{positions, rules, goals, headLength, sideAt};
+ghost use Rattle.blocks.specs.Layout.{positions, rules, headLength, sideAt};
 ghost use Rattle.blocks.specs.Validity.{within, sizesOk, headOk, mapOk, sideOk, ruleTermsOk, goalTermsOk, termsOk, boundIn, ruleBound, boundOk, blockConditions, Sized};
 use super::layout;
 use super::layout::first_of;
@@ -33,22 +32,22 @@ fn sizes_ok(block: &[u8]) -> bool
     requires { ⌜ headLength ≤ length (now block) ⌝ }
     ensures { λ r. ⌜ r ≡ sizesOk (now (block .entry)) ⌝ }
 {
-    let lists = and(
+    let from_rules = and(
         layout::rules(block) <= 64,
         lies_within(1, layout::goals(block), 8),
     );
-    let maps = and(
+    let from_abstracts = and(
         lies_within(1, layout::abstracts(block), layout::labels(block)),
-        lists,
+        from_rules,
     );
-    let names = and(lies_within(1, layout::labels(block), 16), maps);
+    let from_labels = and(lies_within(1, layout::labels(block), 16), from_abstracts);
     and(
         lies_within(1, layout::positions(block), layout::MOST_POSITIONS),
-        names,
+        from_labels,
     )
 }
 
-// Whether k to the power n is at most the most abstract states. The product never passes 16 times the limit.
+// Whether k to the power n is at most the number of abstract states that an exercise may have. The product never passes 16 times the limit.
 fn power_ok(k: usize, n: usize) -> bool
     requires { ⌜ (1 ≤ k) × (k ≤ 16) × (n ≤ 16) ⌝ }
     ensures { λ r. ⌜ r ≡ leb (k ^ n) 16384 ⌝ }

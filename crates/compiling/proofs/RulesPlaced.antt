@@ -7,7 +7,7 @@ use native.Mathlib.Nat.{mod-eq-of-lt}
 use native.Mathlib.Omega.{arith}
 use lib.ListN.{length, getD, set, length-set}
 use lib.Seq.{getD-set-same, getD-set-other}
-use Rattle.basics.proofs.Frames.{outside-then, outside-within}
+use Rattle.basics.proofs.Parts.{outside-then, outside-within}
 use Rattle.blocks.specs.Layout.{positions, costOf, sideAt, leftOf, rightOf}
 use Rattle.blocks.specs.Validity.{Valid}
 use Rattle.words.specs.Sides.{leftPlace, rightPlace, goalPlace, costWord}

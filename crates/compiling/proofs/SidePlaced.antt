@@ -9,9 +9,9 @@ use lib.Bits.{bitAnd, bitOr, and-le-r, or-zero-r}
 use lib.Dec.{lit<}
 use lib.ListN.{length, getD, set, length-set}
 use lib.Seq.{getD-set-same, getD-set-other}
-use Rattle.basics.specs.Frames.{Outside}
+use Rattle.basics.specs.Parts.{Outside}
 use Rattle.basics.proofs.Bits.{or-assoc}
-use Rattle.basics.proofs.Frames.{outside-none, outside-set}
+use Rattle.basics.proofs.Parts.{outside-none, outside-set}
 use Rattle.basics.proofs.Lists.{tabulate-ext}
 use Rattle.blocks.specs.Terms.{termOf}
 use Rattle.psvn.specs.Rules.{given, rewritten}

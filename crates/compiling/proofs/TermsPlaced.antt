@@ -13,8 +13,8 @@ use lib.Dec.{eqb, lit<}
 use lib.ListN.{length, getD, set, length-set, List·getD-eq-default}
 use lib.Seq.{getD-set-same, getD-set-other}
 use Rattle.basics.specs.Bounded.{first}
-use Rattle.basics.specs.Frames.{Outside}
-use Rattle.basics.proofs.Frames.{outside-none, outside-set}
+use Rattle.basics.specs.Parts.{Outside}
+use Rattle.basics.proofs.Parts.{outside-none, outside-set}
 use Rattle.blocks.specs.Terms.{termOf}
 use Rattle.blocks.specs.declared.labels.ConcreteLabel.{ConcreteLabel}
 use Rattle.blocks.specs.declared.terms.Term.{Term}

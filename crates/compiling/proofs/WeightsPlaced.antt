@@ -9,9 +9,10 @@ use native.Mathlib.Omega.{arith}
 use lib.Arith.{digits-mod}
 use lib.ListN.{length, getD, set, replicate}
 use lib.Seq.{getD-set-same, getD-set-other}
-use Rattle.basics.proofs.Order.{same?}
+use Rattle.basics.proofs.Comparing.{same?}
 use Rattle.blocks.specs.Layout.{positions, labelCount, abstractCount, mapAt}
 use Rattle.blocks.specs.Validity.{Headed}
+use Rattle.blocks.proofs.StateLaws.{label-count-low}
 use Rattle.words.specs.Ranking.{placeValue, weightOf}
 use Rattle.words.specs.Compiled.{Weighted}
 use Rattle.compiling.specs.PlacingWeights.{RowPlaced, Singles, PairsPlaced}
@@ -43,18 +44,15 @@ low-more l at v h low rest k =
 
 -- the weights of pairs are those of single labels together
 pub pairs-weighted : {b singles weights : List ℕ} → Headed b → Singles b singles → PairsPlaced singles weights → Weighted b weights
-unfolding labelCount
 pairs-weighted {b} {singles} {weights} h single pairs =
     record {
       pair = λ j x y l lx ly.
           let n = h .sizes .n-high in
-          let k = h .sizes .l-high in
-          joined j x y (omega arith) (omega arith) (omega arith)
+          joined j x y (omega arith) (omega (arith, label-count-low b h (2 * j))) (omega (arith, label-count-low b h (suc (2 * j))))
           ∙ ap₂ _+_ (single .weight (2 * j) x (omega arith) lx) (single .weight (suc (2 * j)) y l ly);
       last = λ j x y e lx ly.
           let n = h .sizes .n-high in
-          let k = h .sizes .l-high in
-          joined j x y (omega arith) (omega arith) ly
+          joined j x y (omega arith) (omega (arith, label-count-low b h (2 * j))) ly
           ∙ ap₂ _+_ (single .weight (2 * j) x (omega arith) lx) (single .behind (16 * suc (2 * j) + y) (omega arith))
           ∙ add-zero (weightOf b (2 * j) x);
     }

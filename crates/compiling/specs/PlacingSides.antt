@@ -6,7 +6,7 @@ use mathlib.Core.List.{List}
 use Prim.Native.Nat.{ℕ, zero, suc, _+_, _*_, _^_, _≤_, _<_}
 use lib.Bits.{bitAnd, bitOr}
 use lib.ListN.{length, getD}
-use Rattle.basics.specs.Frames.{Outside}
+use Rattle.basics.specs.Parts.{Outside}
 use Rattle.blocks.specs.Terms.{termOf}
 use Rattle.blocks.specs.Layout.{positions, rules, goals, goalOf}
 use Rattle.blocks.specs.declared.labels.ConcreteLabel.{ConcreteLabel}

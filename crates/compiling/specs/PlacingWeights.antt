@@ -4,7 +4,7 @@ use mathlib.Core.Path.{_≡_}
 use mathlib.Core.List.{List}
 use Prim.Native.Nat.{ℕ, _+_, _*_, _/_, _%_, _≤_, _<_}
 use lib.ListN.{getD}
-use Rattle.basics.specs.Frames.{Outside}
+use Rattle.basics.specs.Parts.{Outside}
 use Rattle.blocks.specs.Layout.{positions, labelCount, mapAt}
 use Rattle.words.specs.Ranking.{weightOf}
 

@@ -2,7 +2,7 @@
 ghost use mathlib.Core.Path.{_≡_};
 ghost use Prim.Native.Nat.{_+_, _*_, _≤_, _<_};
 ghost use lib.ListN.{length};
-ghost use Rattle.basics.specs.Frames.{Outside};
+ghost use Rattle.basics.specs.Parts.{Outside};
 ghost use Rattle.blocks.specs.Layout.{rules, sideAt};
 ghost use Rattle.blocks.specs.Validity.{Sized};
 ghost use Rattle.compiling.specs.PlacingSides.{Begun, WithConstant, WithSource, SidePlaced, SidesPlaced, RulePlaced, RulesPlaced, GoalsPlaced};

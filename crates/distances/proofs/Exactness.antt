@@ -8,7 +8,7 @@ use Prim.Native.Nat.{ℕ, _+_, _≤_, _<_}
 use native.Mathlib.Omega.{arith}
 use lib.ListN.{length, getD}
 use lib.Seq.{ext-getD}
-use Rattle.basics.proofs.Order.{same?}
+use Rattle.basics.proofs.Comparing.{same?}
 use Rattle.distances.specs.Graphs.{Graph, mark, Achieved, Least, LeastTable}
 use Rattle.distances.specs.LowerBounds.{passes}
 use Rattle.distances.specs.Filling.{Good}

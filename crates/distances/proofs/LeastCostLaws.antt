@@ -7,7 +7,7 @@ use mathlib.Core.List.{List}
 use Prim.Native.Nat.{ℕ, _≤_, _<_}
 use native.Mathlib.Omega.{arith}
 use lib.ListN.{getD}
-use Rattle.basics.proofs.Order.{same?}
+use Rattle.basics.proofs.Comparing.{same?}
 use Rattle.distances.specs.Graphs.{Graph, mark, reaches, totalCost, Least, LeastTable}
 use Rattle.distances.specs.LowerBounds.{passes}
 use Rattle.distances.specs.LeastCosts.{leastWithin, leastCosts}

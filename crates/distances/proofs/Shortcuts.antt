@@ -7,7 +7,7 @@ use mathlib.Core.List.{List, [], _∷_, _++_}
 use Prim.Native.Nat.{ℕ, zero, suc, _≤_, _<_}
 use native.Mathlib.Omega.{arith}
 use lib.ListN.{length, take, drop, length-append, length-take, length-drop}
-use Rattle.basics.proofs.Order.{below?}
+use Rattle.basics.proofs.Comparing.{below?}
 use Rattle.basics.proofs.Pigeonhole.{pigeonhole}
 use Rattle.distances.specs.Graphs.{Graph, reaches, totalCost}
 use Rattle.distances.proofs.Reaching.{reaches-cons, reaches-intro}

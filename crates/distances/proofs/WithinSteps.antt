@@ -10,7 +10,7 @@ use native.Mathlib.Omega.{arith}
 use lib.Dec.{eqb}
 use lib.ListN.{length, getD}
 use borrow.Author.Tests.{lt-ltb, ltb-true, eqb-true, eqb-false}
-use Rattle.basics.proofs.Order.{below?}
+use Rattle.basics.proofs.Comparing.{below?}
 use Rattle.basics.proofs.Lists.{length-tabulate, getD-tabulate}
 use Rattle.distances.specs.Graphs.{Graph, mark, leadsOn, reaches, totalCost}
 use Rattle.distances.specs.LeastCosts.{before, byRule, leastBy, leastWithin}

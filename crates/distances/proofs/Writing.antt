@@ -11,7 +11,7 @@ use lib.Dec.{ltb}
 use lib.ListN.{length, getD, set, length-set}
 use lib.Seq.{getD-set-same, getD-set-other}
 use borrow.Author.Tests.{lt-ltb, le-ltb}
-use Rattle.basics.proofs.Order.{below?, same?}
+use Rattle.basics.proofs.Comparing.{below?, same?}
 use Rattle.distances.specs.Graphs.{Graph, mark, Achieved}
 use Rattle.distances.specs.Filling.{Cheap, unmarked, total, Good}
 use Rattle.distances.proofs.Reaching.{reaches-intro}

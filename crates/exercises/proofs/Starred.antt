@@ -17,7 +17,7 @@ use Rattle.blocks.proofs.Accepted.{accepted-valid}
 use Rattle.psvn.specs.Rules.{bound, matches, rewritten, applies, step, leads, goalMet, meets}
 use Rattle.psvn.specs.Relabelling.{relabelSide, relabelRule, relabelGoal, relabelBlock, relabelState}
 use Rattle.psvn.specs.Ranks.{rank, unrank}
-use Rattle.psvn.proofs.RankLaws.{unrank-state, rank-unrank}
+use Rattle.psvn.proofs.RankLaws.{unrank-abstract, rank-unrank}
 use Rattle.distances.specs.Graphs.{LeastTable}
 use Rattle.distances.specs.LowerBounds.{passesAt, passes}
 use Rattle.distances.specs.LeastCosts.{leastBy, leastWithin, leastCosts}
@@ -134,7 +134,7 @@ unfolding entry
 e-entry k l =
     let h = e-valid .sized .head in
     rw (sym (ap (λ (i : ℕ). getD tableE i 0) (rank-unrank blockE h k (omega (arith, e-states)))))
-    (least-entry blockE e-valid tableE e-least (unrank blockE k) (unrank-state blockE h k))
+    (least-entry blockE e-valid tableE e-least (unrank blockE k) (unrank-abstract blockE h k))
 
 pub starred : Starred
 unfolding computing searching printing

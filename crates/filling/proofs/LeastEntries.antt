@@ -15,9 +15,9 @@ use Rattle.blocks.specs.States.{stateOk, abstractOk}
 use Rattle.psvn.specs.Runs as runs
 use Rattle.psvn.specs.Relabelling.{relabelBlock, relabelState}
 use Rattle.psvn.specs.Ranks.{rank}
-use Rattle.psvn.proofs.Relabelled.{rules-relabelled, cost-relabelled, states-relabelled}
+use Rattle.psvn.proofs.Relabelled.{rules-relabelled, cost-relabelled, abstract-states-relabelled}
 use Rattle.psvn.proofs.Stepping.{relabelled-state, abstract-states}
-use Rattle.psvn.proofs.RelabelTwice.{relabelled-valid}
+use Rattle.psvn.proofs.RelabelledValid.{relabelled-valid}
 use Rattle.distances.specs.Graphs.{mark, reaches, totalCost, Least, LeastTable}
 use Rattle.distances.specs.LeastCosts.{leastCosts}
 use Rattle.distances.specs.Filling.{Cheap}
@@ -87,7 +87,7 @@ module _ (b : List ℕ) (v : Valid b) (bytes : CostBytes b) where
 
   pub filled-length : length (filled b) ≡ abstractStates b
   unfolding filled
-  filled-length = least-costs (graphOf (relabelBlock b)) cheap few .len ∙ states-relabelled b
+  filled-length = least-costs (graphOf (relabelBlock b)) cheap few .len ∙ abstract-states-relabelled b
 
   -- what its estimates promise
   pub filled-low : LowerBound b (estimate b (filled b))

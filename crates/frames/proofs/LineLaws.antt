@@ -12,7 +12,7 @@ use lib.ListN.{length, getD, take, drop, length-take, length-drop, drop-of-lengt
 use lib.Seq.{drop-cons, drop-drop}
 use borrow.Author.Tests.{eq-eqb, ne-eqb}
 use Rattle.basics.proofs.Truth.{true-false}
-use Rattle.basics.proofs.Order.{below?, same?}
+use Rattle.basics.proofs.Comparing.{below?, same?}
 use Rattle.frames.specs.Lines.{lineFeed, inFront, linesOf, lineOk}
 use Rattle.frames.specs.Places.{firstLine, lineFrom}
 

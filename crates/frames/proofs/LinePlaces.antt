@@ -10,7 +10,7 @@ use native.Mathlib.Omega.{arith}
 use lib.Dec.{eqb}
 use lib.ListN.{length, take, drop, length-append, drop-of-length-le}
 use lib.Seq.{take-nil, drop-nil}
-use Rattle.basics.proofs.Order.{below?}
+use Rattle.basics.proofs.Comparing.{below?}
 use Rattle.frames.specs.Lines.{lineFeed, inFront, linesOf}
 use Rattle.frames.specs.Places.{lineFrom}
 use Rattle.frames.proofs.LineLaws.{line-none, lines-from}

@@ -5,7 +5,7 @@ use mathlib.Core.List.{List, [], _∷_, flatMap}
 use Prim.Native.Nat.{ℕ, zero, suc, _≤_, _<_}
 use native.Mathlib.Omega.{arith}
 use Rattle.basics.specs.Lists.{Bytes}
-use Rattle.basics.proofs.Order.{below?}
+use Rattle.basics.proofs.Comparing.{below?}
 use Rattle.basics.proofs.ByteLists.{bytes-append}
 use Rattle.frames.specs.Lines.{digitValue, lineBytes}
 use Rattle.frames.specs.Reading.{blockOf}

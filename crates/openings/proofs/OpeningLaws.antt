@@ -2,7 +2,7 @@
 -- (`exercise-text`), and the text behind it the query lines (`query-text`). Input that is too long is refused (`too-long-refused`), and of any other the reader decides (`reader-decides`).
 -- Opening an exercise, and the theorems on the whole output of `par`, rest on these.
 use mathlib.Core.Path.{_≡_, sym, ap, _∙_}
-use mathlib.Core.Bool.{Bool, true, false, _&&_}
+use mathlib.Core.Bool.{Bool, true, false, _&&_, and-assoc}
 use mathlib.Core.List.{List, flatten}
 use Prim.Native.Nat.{ℕ, _+_, _≤_, _<_}
 use native.Mathlib.Nat.{zero-add}
@@ -10,7 +10,6 @@ use native.Mathlib.Numerals.{one-add}
 use native.Mathlib.Omega.{arith}
 use lib.ListN.{length, take, drop, length-take}
 use borrow.Author.Tests.{le-leb, lt-leb}
-use Rattle.basics.proofs.Truth.{and-grouped}
 use Rattle.refusals.specs.Answers.{refused, verdict}
 use Rattle.blocks.specs.Layout.{frameCount}
 use Rattle.blocks.specs.Validity.{headOk}
@@ -25,7 +24,7 @@ pub head-tested :
     (ls : List (List ℕ)) (line head : Bool) → (lineOk (firstLine ls) && headLineOk ls) ≡ line → headOk (headOf ls) ≡ head
     → headReads ls ≡ (line && head)
 unfolding headReads
-head-tested ls line head p q = and-grouped (lineOk (firstLine ls)) (headLineOk ls) (headOk (headOf ls)) ∙ rw (p, q)
+head-tested ls line head p q = sym (and-assoc (lineOk (firstLine ls)) (headLineOk ls) (headOk (headOf ls))) ∙ rw (p, q)
 
 module _ (x : List ℕ) where
   pub end-failed : headReads (linesOf x) ≡ false → exerciseEnd x ≡ length (lineFrom x 0)

@@ -8,19 +8,22 @@ use Prim.Native.Nat.{ℕ, _≤_, _<_}
 use native.Mathlib.Omega.{arith}
 use lib.Dec.{eqb}
 use lib.ListN.{getD}
-use borrow.Author.Tests.{eq-eqb, ne-eqb, ltb-true, eqb-true}
+use borrow.Author.Tests.{eq-eqb, ne-eqb, ltb-true}
 use Rattle.basics.specs.Bounded.{some, first}
 use Rattle.basics.specs.Lists.{tabulate}
-use Rattle.basics.proofs.Bounded.{all-at, all-intro, some-intro, some-ext, first-ext, first-holds}
-use Rattle.basics.proofs.Lists.{tabulate-ext, getD-tabulate}
+use Rattle.basics.proofs.Bounded.{some-intro, some-ext, first-ext, first-holds}
+use Rattle.basics.proofs.Lists.{tabulate-ext}
 use Rattle.blocks.specs.Terms.{termOf, termOk}
 use Rattle.blocks.specs.Layout.{positions, rules, goals, labelCount, mapAt, leftOf, rightOf, goalOf}
 use Rattle.blocks.specs.Validity.{boundIn, Valid}
-use Rattle.psvn.specs.Rules.{bound, given, agrees, matches, rewritten, applies, step, goalMet, meets}
+use Rattle.psvn.specs.Rules.{bound, given, matches, rewritten, applies, step, goalMet, meets}
 use Rattle.psvn.specs.Relabelling.{relabelTerm, relabelBlock, relabelState}
 use Rattle.blocks.proofs.TermCases.{View, label, variable, dash, refused, view, is-label, is-variable, is-dash, is-refused}
 use Rattle.blocks.proofs.Accepted.{map-below, left-side, right-side, goal-side, right-bound, side-term}
-use Rattle.psvn.proofs.Relabelled.{positions-relabelled, goals-relabelled, left-relabelled, right-relabelled, goal-relabelled}
+use Rattle.blocks.proofs.StateLaws.{abstract-count-low}
+use Rattle.psvn.proofs.Matching.{at-position, at-all}
+use Rattle.psvn.proofs.Making.{rewritten-at}
+use Rattle.psvn.proofs.Relabelled.{positions-relabelled, goals-relabelled, left-relabelled, right-relabelled, goal-relabelled, relabelled-label}
 
 -- relabelling a byte, by what it stands for
 pub relabel-label : (φ : ℕ → ℕ) (t : ℕ) → t < 16 → relabelTerm φ t ≡ φ t
@@ -111,13 +114,10 @@ module _
           go (refused a b) = rw (is-refused (side i) a b)
 
       matches-relabelled : matches n side s ≡ true → matches n side′ s′ ≡ true
-      unfolding matches
       matches-relabelled m =
-          all-intro (agrees n side′ s′) n (λ i l.
-          let e = eqb-true (getD s i 0) (given n side s i (termOf (side i))) (all-at (agrees n side s) n m i l) in
-          eq-eqb (getD s′ i 0) (given n side′ s′ i (termOf (side′ i)))
-          (carried i l ∙ ap (φ i) e ∙ sym (given-relabelled i (side i) l (ok i l) (self-bound i l))
-          ∙ ap (λ (t : ℕ). given n side′ s′ i (termOf t)) (sym (mapped i l))))
+          at-all n side′ s′ (λ i l.
+          carried i l ∙ ap (φ i) (at-position n side s m i l) ∙ sym (given-relabelled i (side i) l (ok i l) (self-bound i l))
+          ∙ ap (λ (t : ℕ). given n side′ s′ i (termOf t)) (sym (mapped i l)))
 
       rewritten-relabelled :
           (right right′ : ℕ → ℕ) → ((j : ℕ) → j < n → termOk (count j) (termOf (right j)) ≡ true)
@@ -126,49 +126,44 @@ module _
           → tabulate n (λ i. φ i (getD (rewritten n side right s) i 0)) ≡ rewritten n side′ right′ s′
       unfolding rewritten
       rewritten-relabelled right right′ okr bd q =
-          tabulate-ext n (λ i. φ i (getD (tabulate n (λ i. given n side s i (termOf (right i)))) i 0)) (λ i. given n side′ s′ i (termOf (right′ i))) (λ k l.
-          ap (φ k) (getD-tabulate n (λ i. given n side s i (termOf (right i))) k l)
+          tabulate-ext n (λ i. φ i (getD (rewritten n side right s) i 0)) (λ i. given n side′ s′ i (termOf (right′ i))) (λ k l.
+          ap (φ k) (rewritten-at n side right s k l)
           ∙ sym (given-relabelled k (right k) l (okr k l) (bd k l))
           ∙ ap (λ (t : ℕ). given n side′ s′ k (termOf t)) (sym (q k l)))
+
+pub map-alike : (b : List ℕ) (i j x : ℕ) → mapAt b i x ≡ mapAt b j x
+unfolding mapAt
+map-alike b i j x = refl
 
 -- a valid block
 module _ (b : List ℕ) (v : Valid b) where
   pub map-small : (i x : ℕ) → i < positions b → x < labelCount b i → mapAt b i x < 16
-  unfolding mapAt labelCount
-  map-small i x l m = let k = map-below b v x m in let h = v .sized .head in omega arith
-
-  pub map-alike : (i j x : ℕ) → mapAt b i x ≡ mapAt b j x
-  unfolding mapAt
-  map-alike i j x = refl
-
-  pub state-relabelled : (s : List ℕ) (k : ℕ) → k < positions b → getD (relabelState b s) k 0 ≡ mapAt b k (getD s k 0)
-  unfolding relabelState
-  state-relabelled s k l = getD-tabulate (positions b) (λ i. mapAt b i (getD s i 0)) k l
+  map-small i x l m = omega (arith, map-below b v i x m, abstract-count-low b (v .sized .head) i)
 
   pub applies-relabelled :
       (r : ℕ) → r < rules b → (s : List ℕ) → applies b r s ≡ true → applies (relabelBlock b) r (relabelState b s) ≡ true
   unfolding applies
   applies-relabelled r lr s h =
       rw (positions-relabelled b)
-      (matches-relabelled (positions b) (labelCount b) (mapAt b) map-small map-alike (leftOf b r) (leftOf (relabelBlock b) r)
-      (side-term b (leftOf b r) (left-side b v r lr)) (left-relabelled b r lr) s (relabelState b s) (state-relabelled s) h)
+      (matches-relabelled (positions b) (labelCount b) (mapAt b) map-small (map-alike b) (leftOf b r) (leftOf (relabelBlock b) r)
+      (side-term b (leftOf b r) (left-side b v r lr)) (left-relabelled b r lr) s (relabelState b s) (relabelled-label b s) h)
 
   pub step-relabelled :
       (r : ℕ) → r < rules b → (s : List ℕ) → relabelState b (step b r s) ≡ step (relabelBlock b) r (relabelState b s)
   unfolding step relabelState
   step-relabelled r lr s =
       rw (positions-relabelled b)
-      (rewritten-relabelled (positions b) (labelCount b) (mapAt b) map-small map-alike (leftOf b r) (leftOf (relabelBlock b) r)
-      (side-term b (leftOf b r) (left-side b v r lr)) (left-relabelled b r lr) s (relabelState b s) (state-relabelled s)
+      (rewritten-relabelled (positions b) (labelCount b) (mapAt b) map-small (map-alike b) (leftOf b r) (leftOf (relabelBlock b) r)
+      (side-term b (leftOf b r) (left-side b v r lr)) (left-relabelled b r lr) s (relabelState b s) (relabelled-label b s)
       (rightOf b r) (rightOf (relabelBlock b) r) (side-term b (rightOf b r) (right-side b v r lr)) (right-bound b v r lr) (right-relabelled b r lr))
 
-  pub goal-met-relabelled :
+  goal-met-relabelled :
       (g : ℕ) → g < goals b → (s : List ℕ) → goalMet b g s ≡ true → goalMet (relabelBlock b) g (relabelState b s) ≡ true
   unfolding goalMet
   goal-met-relabelled g lg s h =
       rw (positions-relabelled b)
-      (matches-relabelled (positions b) (labelCount b) (mapAt b) map-small map-alike (goalOf b g) (goalOf (relabelBlock b) g)
-      (side-term b (goalOf b g) (goal-side b v g lg)) (goal-relabelled b g lg) s (relabelState b s) (state-relabelled s) h)
+      (matches-relabelled (positions b) (labelCount b) (mapAt b) map-small (map-alike b) (goalOf b g) (goalOf (relabelBlock b) g)
+      (side-term b (goalOf b g) (goal-side b v g lg)) (goal-relabelled b g lg) s (relabelState b s) (relabelled-label b s) h)
 
   pub meets-relabelled : (s : List ℕ) → meets b s ≡ true → meets (relabelBlock b) (relabelState b s) ≡ true
   unfolding meets

@@ -6,5 +6,6 @@ pub mod Relabelled
 pub mod Homomorphism
 pub mod Stepping
 pub mod RelabelTwice
+pub mod RelabelledValid
 pub mod RankLaws
 pub mod RunLaws

@@ -1,4 +1,4 @@
--- What a side makes of a state, position by position (`rewritten-at`, `given-other`); and a state matches a side exactly where the side makes it of itself
+-- What a side makes of a state, its length and position by position (`rewritten-length`, `rewritten-at`, `given-other`); and a state matches a side exactly where the side makes it of itself
 -- (`matches-itself`, `itself-matches`). The theorems on predecessors, and matching on words, rest on these.
 use mathlib.Core.Path.{_≡_, sym, ap, _∙_}
 use mathlib.Core.Bool.{true}
@@ -6,18 +6,20 @@ use mathlib.Core.List.{List}
 use Prim.Native.Nat.{ℕ, _≤_, _<_}
 use native.Mathlib.Omega.{arith}
 use lib.ListN.{length, getD}
-use borrow.Author.Tests.{eqb-true, eq-eqb}
-use Rattle.basics.proofs.Bounded.{all-at, all-intro}
-use Rattle.basics.proofs.Lists.{length-tabulate, getD-tabulate}
-use Rattle.basics.proofs.Order.{same-list}
+use Rattle.basics.proofs.Lists.{length-tabulate, getD-tabulate, same-list}
 use Rattle.blocks.specs.Terms.{termOf}
 use Rattle.blocks.proofs.TermCases.{View, label, variable, dash, refused, view, is-dash, is-refused}
-use Rattle.psvn.specs.Rules.{given, agrees, matches, rewritten}
+use Rattle.psvn.specs.Rules.{given, matches, rewritten}
+use Rattle.psvn.proofs.Matching.{at-position, at-all}
 
 module _ (n : ℕ) (left right : ℕ → ℕ) (u : List ℕ) where
   pub rewritten-at : (i : ℕ) → i < n → getD (rewritten n left right u) i 0 ≡ given n left u i (termOf (right i))
   unfolding rewritten
   rewritten-at i l = getD-tabulate n (λ i. given n left u i (termOf (right i))) i l
+
+  pub rewritten-length : length (rewritten n left right u) ≡ n
+  unfolding rewritten
+  rewritten-length = length-tabulate n (λ i. given n left u i (termOf (right i)))
 
   -- neither a constant nor a variable
   pub given-other : (i : ℕ) → 32 ≤ right i → given n left u i (termOf (right i)) ≡ getD u i 0
@@ -31,13 +33,10 @@ module _ (n : ℕ) (left right : ℕ → ℕ) (u : List ℕ) where
 
 module _ (n : ℕ) (side : ℕ → ℕ) (s : List ℕ) where
   pub matches-itself : length s ≡ n → matches n side s ≡ true → rewritten n side side s ≡ s
-  unfolding matches rewritten
   matches-itself e m =
-      same-list n (rewritten n side side s) s (length-tabulate n (λ i. given n side s i (termOf (side i)))) e (λ i l.
-      rewritten-at n side side s i l ∙ sym (eqb-true (getD s i 0) _ (all-at (agrees n side s) n m i l)))
+      same-list n (rewritten n side side s) s (rewritten-length n side side s) e (λ i l.
+      rewritten-at n side side s i l ∙ sym (at-position n side s m i l))
 
   pub itself-matches : rewritten n side side s ≡ s → matches n side s ≡ true
-  unfolding matches
   itself-matches e =
-      all-intro (agrees n side s) n (λ i l.
-      eq-eqb (getD s i 0) _ (ap (λ (t : List ℕ). getD t i 0) (sym e) ∙ rewritten-at n side side s i l))
+      at-all n side s (λ i l. ap (λ (t : List ℕ). getD t i 0) (sym e) ∙ rewritten-at n side side s i l)

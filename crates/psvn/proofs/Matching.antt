@@ -1,5 +1,5 @@
 -- Matching, in the document's words and both ways: a state matches a side exactly where its label equals each constant and positions with the same
--- variable hold equal labels (`matched`, `matching`); a dash tests nothing. This is what `matches` means to a reader.
+-- variable hold equal labels (`matched`, `matching`); a dash tests nothing. This is what `matches` means to a reader; proofs go by its positions (`at-position`, `at-all`).
 use mathlib.Core.Path.{_≡_, refl, sym, ap, _∙_}
 use mathlib.Core.Bool.{Bool, true}
 use mathlib.Core.List.{List}
@@ -18,9 +18,14 @@ pub record Matched (n : ℕ) (side : ℕ → ℕ) (s : List ℕ) : Type 0 where
   pub same : (i j : ℕ) → i < n → j < n → 16 ≤ side i → side i < 32 → side j ≡ side i → getD s i 0 ≡ getD s j 0
 
 module _ (n : ℕ) (side : ℕ → ℕ) (s : List ℕ) where
-  at-position : matches n side s ≡ true → (i : ℕ) → i < n → getD s i 0 ≡ given n side s i (termOf (side i))
+  -- position by position, both ways
+  pub at-position : matches n side s ≡ true → (i : ℕ) → i < n → getD s i 0 ≡ given n side s i (termOf (side i))
   unfolding matches
   at-position m i l = eqb-true (getD s i 0) _ (all-at (agrees n side s) n m i l)
+
+  pub at-all : ((i : ℕ) → i < n → getD s i 0 ≡ given n side s i (termOf (side i))) → matches n side s ≡ true
+  unfolding matches
+  at-all h = all-intro (agrees n side s) n (λ i l. eq-eqb (getD s i 0) _ (h i l))
 
   at-variable :
       matches n side s ≡ true → (i : ℕ) → i < n → 16 ≤ side i → side i < 32 → getD s i 0 ≡ bound n side s (side i)
@@ -37,8 +42,8 @@ module _ (n : ℕ) (side : ℕ → ℕ) (s : List ℕ) where
       }
 
   pub matching : Matched n side s → matches n side s ≡ true
-  unfolding matches bound
-  matching m = all-intro (agrees n side s) n (λ i l. eq-eqb (getD s i 0) _ (go i l (view (side i))))
+  unfolding bound
+  matching m = at-all (λ i l. go i l (view (side i)))
     where
       go : (i : ℕ) → i < n → View (side i) → getD s i 0 ≡ given n side s i (termOf (side i))
       go i l (label a) = m .constant i l a ∙ ap (given n side s i) (sym (is-label (side i) a))

@@ -1,6 +1,6 @@
--- Ranks: a rank is below the number of states, and rank and state undo one another, for abstract states (`rank-below`, `unrank-rank`, `unrank-state`, `rank-unrank`; their
--- number is K to the power n) and for states (`state-rank-below`, `unrank-state-rank`, `unranked-state`, `state-rank-unrank`; L to the power n, `state-count-power`). The rank order of states is the order of their
--- labels, position 0 deciding first (`rank-before`, `before-rank`), and states of one rank are equal (`same-rank`). Tables and predecessors rest on these.
+-- Ranks: a rank is below the number of states, and rank and state undo one another, for abstract states (`rank-below`, `unrank-rank`, `unrank-abstract`, `rank-unrank`; their
+-- number is K to the power n) and for states (`state-rank-below`, `unrank-state-rank`, `unrank-state-ok`, `state-rank-unrank`; L to the power n, `state-count-power`). The rank order of states is the order of their
+-- labels, position 0 deciding first (`state-rank-before`, `before-state-rank`), and states of one rank are equal (`same-state-rank`). Tables and predecessors rest on these.
 use mathlib.Core.Path.{_≡_, refl, sym}
 use mathlib.Core.Bool.{true}
 use mathlib.Core.List.{List}
@@ -12,7 +12,7 @@ use Rattle.blocks.specs.Layout.{positions, labels, abstracts, labelCount, abstr
 use Rattle.blocks.specs.Validity.{Headed}
 use Rattle.blocks.specs.States.{stateOk, abstractOk}
 use Rattle.psvn.specs.Ranks.{rank, unrank, stateRank, unrankState, stateCount}
-use Rattle.blocks.proofs.StateLaws.{labelled-length, labelled-at, labelled-below, labelled-digits, digits-labelled}
+use Rattle.blocks.proofs.StateLaws.{labelled-below, labelled-digits, digits-labelled, state-length, state-label, some-label, some-abstract}
 
 module _ (b : List ℕ) where
   pub states-span : span (abstractCount b) (positions b) ≡ abstractStates b
@@ -30,17 +30,13 @@ module _ (b : List ℕ) where
     unrank-rank = labelled-digits (positions b) (abstractCount b) u ok
 
   module _ (h : Headed b) where
-    pub some-abstract : (i : ℕ) → 0 < abstractCount b i
-    unfolding abstractCount
-    some-abstract i = h .sizes .k-low
-
-    pub unrank-state : (k : ℕ) → abstractOk b (unrank b k) ≡ true
+    pub unrank-abstract : (k : ℕ) → abstractOk b (unrank b k) ≡ true
     unfolding unrank
-    unrank-state = digits-labelled (positions b) (abstractCount b) some-abstract
+    unrank-abstract = digits-labelled (positions b) (abstractCount b) (some-abstract b h)
 
     pub rank-unrank : (k : ℕ) → k < abstractStates b → rank b (unrank b k) ≡ k
     unfolding rank unrank
-    rank-unrank k l = value-digits (abstractCount b) some-abstract (positions b) k (rw states-span l)
+    rank-unrank k l = value-digits (abstractCount b) (some-abstract b h) (positions b) k (rw states-span l)
 
   -- states: there are L to the power n
   pub state-count-power : stateCount b ≡ labels b ^ positions b
@@ -57,34 +53,25 @@ module _ (b : List ℕ) where
     unrank-state-rank = labelled-digits (positions b) (labelCount b) s ok
 
   module _ (h : Headed b) where
-    pub some-label : (i : ℕ) → 0 < labelCount b i
-    unfolding labelCount
-    some-label i = h .sizes .l-low
-
-    pub unranked-state : (k : ℕ) → stateOk b (unrankState b k) ≡ true
+    pub unrank-state-ok : (k : ℕ) → stateOk b (unrankState b k) ≡ true
     unfolding unrankState
-    unranked-state = digits-labelled (positions b) (labelCount b) some-label
+    unrank-state-ok = digits-labelled (positions b) (labelCount b) (some-label b h)
 
     pub state-rank-unrank : (k : ℕ) → k < stateCount b → stateRank b (unrankState b k) ≡ k
     unfolding stateRank unrankState stateCount
-    state-rank-unrank k l = value-digits (labelCount b) some-label (positions b) k l
+    state-rank-unrank k l = value-digits (labelCount b) (some-label b h) (positions b) k l
 
   -- the rank order of states is the order of their labels
   module _ (u v : List ℕ) (ou : stateOk b u ≡ true) (ov : stateOk b v ≡ true) where
-    pub before-rank : Before (positions b) u v → stateRank b u < stateRank b v
+    pub before-state-rank : Before (positions b) u v → stateRank b u < stateRank b v
     unfolding stateRank
-    before-rank = before-value (labelCount b) (positions b) u v (labelled-at (positions b) (labelCount b) u ou)
+    before-state-rank = before-value (labelCount b) (positions b) u v (state-label b u ou)
 
-    pub rank-before : stateRank b u < stateRank b v → Before (positions b) u v
+    pub state-rank-before : stateRank b u < stateRank b v → Before (positions b) u v
     unfolding stateRank
-    rank-before =
-        value-before (labelCount b) (positions b) u v
-        (labelled-length (positions b) (labelCount b) u ou) (labelled-length (positions b) (labelCount b) v ov)
-        (labelled-at (positions b) (labelCount b) u ou) (labelled-at (positions b) (labelCount b) v ov)
+    state-rank-before = value-before (labelCount b) (positions b) u v (state-label b v ov)
 
-    pub same-rank : stateRank b u ≡ stateRank b v → u ≡ v
+    pub same-state-rank : stateRank b u ≡ stateRank b v → u ≡ v
     unfolding stateRank
-    same-rank =
-        value-injective (labelCount b) (positions b) u v
-        (labelled-length (positions b) (labelCount b) u ou) (labelled-length (positions b) (labelCount b) v ov)
-        (labelled-at (positions b) (labelCount b) u ou) (labelled-at (positions b) (labelCount b) v ov)
+    same-state-rank =
+        value-injective (labelCount b) (positions b) u v (state-length b u ou) (state-length b v ov) (state-label b u ou) (state-label b v ov)

@@ -1,5 +1,6 @@
 -- The relabelled block, part by part: the lengths of what relabelling writes, the head and the map, and the cost and the terms of each rule and goal
--- (`cost-relabelled`, `left-relabelled`, `right-relabelled`, `goal-relabelled`). The theorems on relabelling rest on these.
+-- (`cost-relabelled`, `left-relabelled`, `right-relabelled`, `goal-relabelled`); and the relabelled state, its length and label by label (`relabelled-labels`, `relabelled-label`).
+-- The theorems on relabelling rest on these.
 use mathlib.Core.Path.{_≡_, refl, sym, ap, ap₂, _∙_}
 use mathlib.Core.List.{List, [], _∷_, _++_}
 use Prim.Native.Nat.{ℕ, suc, _+_, _*_, _≤_, _<_}
@@ -7,11 +8,11 @@ use native.Mathlib.Nat.{add-zero, suc-mul, mul-le-mul-right}
 use native.Mathlib.Omega.{arith}
 use lib.ListN.{length, getD, length-append, List·getD-append}
 use lib.Seq.{getD-append-add}
-use Rattle.basics.specs.Lists.{tabulate, joined}
+use Rattle.basics.specs.Lists.{tabulate}
 use Rattle.basics.proofs.Lists.{length-tabulate, getD-tabulate, length-joined, getD-joined}
 use Rattle.blocks.specs.Layout.{headByte, positions, labels, abstracts, rules, goals, labelCount, abstractCount, abstractStates, headLength, mapByte, mapAt, ruleWidth, ruleAt, leftAt, rightAt, goalAt, blockLength, costOf, leftOf, rightOf, goalOf, relabelHead, relabelledLength}
-use Rattle.psvn.specs.Relabelling.{relabelTerm, relabelSide, relabelRule, relabelGoal, relabelBlock}
-use Rattle.blocks.proofs.Offsets.{head-length}
+use Rattle.psvn.specs.Relabelling.{relabelTerm, relabelSide, relabelRule, relabelGoal, relabelRules, relabelGoals, relabelBlock, relabelState}
+use Rattle.blocks.proofs.Offsets.{relabel-head-length}
 
 module _ (b : List ℕ) where
   -- lengths
@@ -34,18 +35,18 @@ module _ (b : List ℕ) where
   unfolding ruleWidth
   rule-width r = rule-length r ∙ omega arith
 
-  rules-length : length (joined (rules b) (relabelRule b)) ≡ rules b * ruleWidth b
+  rules-length : length (relabelRules b) ≡ rules b * ruleWidth b
   rules-length = length-joined (relabelRule b) (ruleWidth b) (rules b) (λ r l. rule-width r)
 
-  goals-length : length (joined (goals b) (relabelGoal b)) ≡ goals b * positions b
+  goals-length : length (relabelGoals b) ≡ goals b * positions b
   goals-length = length-joined (relabelGoal b) (positions b) (goals b) (λ g l. goal-length g)
 
   pub relabelled-length : length (relabelBlock b) ≡ relabelledLength b
   unfolding relabelBlock relabelledLength
   relabelled-length =
-      let rs = joined (rules b) (relabelRule b) in
-      let gs = joined (goals b) (relabelGoal b) in
-      omega (arith, length-append (relabelHead b) (rs ++ gs), length-append rs gs, head-length b, rules-length, goals-length)
+      let rs = relabelRules b in
+      let gs = relabelGoals b in
+      omega (arith, length-append (relabelHead b) (rs ++ gs), length-append rs gs, relabel-head-length b, rules-length, goals-length)
 
   pub relabelled-long : headLength ≤ length (relabelBlock b)
   unfolding relabelledLength
@@ -76,9 +77,9 @@ module _ (b : List ℕ) where
   unfolding labelCount abstractCount
   label-count-relabelled i = labels-relabelled
 
-  pub states-relabelled : abstractStates (relabelBlock b) ≡ abstractStates b
+  pub abstract-states-relabelled : abstractStates (relabelBlock b) ≡ abstractStates b
   unfolding abstractStates
-  states-relabelled = rw (abstracts-relabelled, positions-relabelled)
+  abstract-states-relabelled = rw (abstracts-relabelled, positions-relabelled)
 
   width-relabelled : ruleWidth (relabelBlock b) ≡ ruleWidth b
   unfolding ruleWidth
@@ -87,7 +88,7 @@ module _ (b : List ℕ) where
   -- the offsets
   rule-at : (r : ℕ) → ruleAt (relabelBlock b) r ≡ length (relabelHead b) + r * ruleWidth b
   unfolding ruleAt
-  rule-at r = rw (labels-relabelled, width-relabelled) (omega (arith, head-length b))
+  rule-at r = rw (labels-relabelled, width-relabelled) (omega (arith, relabel-head-length b))
 
   goal-at : (g : ℕ) → goalAt (relabelBlock b) g ≡ length (relabelHead b) + (rules b * ruleWidth b + g * positions b)
   unfolding goalAt
@@ -96,14 +97,14 @@ module _ (b : List ℕ) where
   pub block-length-relabelled : length (relabelBlock b) ≡ blockLength (relabelBlock b)
   unfolding blockLength relabelledLength
   block-length-relabelled =
-      relabelled-length ∙ sym (rw goals-relabelled (omega (arith, goal-at (goals b), head-length b)))
+      relabelled-length ∙ sym (rw goals-relabelled (omega (arith, goal-at (goals b), relabel-head-length b)))
 
   -- the map is the identity
   pub map-byte-relabelled : (x : ℕ) → x < abstracts b → mapByte (relabelBlock b) x ≡ x
   unfolding mapByte relabelBlock relabelHead
   map-byte-relabelled x l =
       let id = tabulate (abstracts b) (λ x. x) in
-      let rest = joined (rules b) (relabelRule b) ++ joined (goals b) (relabelGoal b) in
+      let rest = relabelRules b ++ relabelGoals b in
       getD-append-add (positions b ∷ abstracts b ∷ abstracts b ∷ rules b ∷ goals b ∷ []) (id ++ rest) x 0
       ∙ List·getD-append id rest 0 x (omega (arith, length-tabulate (abstracts b) (λ x. x)))
       ∙ getD-tabulate (abstracts b) (λ x. x) x l
@@ -116,27 +117,27 @@ module _ (b : List ℕ) where
   body-byte :
       (j : ℕ)
       → getD (relabelBlock b) (length (relabelHead b) + j) 0
-      ≡ getD (joined (rules b) (relabelRule b) ++ joined (goals b) (relabelGoal b)) j 0
+      ≡ getD (relabelRules b ++ relabelGoals b) j 0
   unfolding relabelBlock
-  body-byte j = getD-append-add (relabelHead b) (joined (rules b) (relabelRule b) ++ joined (goals b) (relabelGoal b)) j 0
+  body-byte j = getD-append-add (relabelHead b) (relabelRules b ++ relabelGoals b) j 0
 
   -- byte k of rule r, and of goal g
   rule-byte :
       (r k : ℕ) → r < rules b → k < ruleWidth b → getD (relabelBlock b) (ruleAt (relabelBlock b) r + k) 0 ≡ getD (relabelRule b r) k 0
   rule-byte r k lr lk =
-      let rs = joined (rules b) (relabelRule b) in
+      let rs = relabelRules b in
       let j = r * ruleWidth b + k in
       let e : ruleAt (relabelBlock b) r + k ≡ length (relabelHead b) + j = omega (arith, rule-at r) in
       ap (λ (i : ℕ). getD (relabelBlock b) i 0) e ∙ body-byte j
-      ∙ List·getD-append rs (joined (goals b) (relabelGoal b)) 0 j
+      ∙ List·getD-append rs (relabelGoals b) 0 j
       (omega (arith, rules-length, suc-mul r (ruleWidth b), mul-le-mul-right (ruleWidth b) lr))
       ∙ getD-joined (relabelRule b) (ruleWidth b) (rules b) (λ r l. rule-width r) r k lr lk
 
   goal-byte :
       (g i : ℕ) → g < goals b → i < positions b → getD (relabelBlock b) (goalAt (relabelBlock b) g + i) 0 ≡ getD (relabelGoal b g) i 0
   goal-byte g i lg li =
-      let rs = joined (rules b) (relabelRule b) in
-      let gs = joined (goals b) (relabelGoal b) in
+      let rs = relabelRules b in
+      let gs = relabelGoals b in
       let j = length rs + (g * positions b + i) in
       let e : goalAt (relabelBlock b) g + i ≡ length (relabelHead b) + j = omega (arith, goal-at g, rules-length) in
       ap (λ (k : ℕ). getD (relabelBlock b) k 0) e ∙ body-byte j ∙ getD-append-add rs gs (g * positions b + i) 0
@@ -182,3 +183,12 @@ module _ (b : List ℕ) where
       (g : ℕ) → g < goals b → (i : ℕ) → i < positions b → goalOf (relabelBlock b) g i ≡ relabelTerm (mapAt b i) (goalOf b g i)
   unfolding relabelGoal
   goal-relabelled g lg i li = goal-byte g i lg li ∙ side-byte (goalOf b g) i li
+
+  -- the relabelled state
+  pub relabelled-labels : (s : List ℕ) → length (relabelState b s) ≡ positions b
+  unfolding relabelState
+  relabelled-labels s = length-tabulate (positions b) (λ i. mapAt b i (getD s i 0))
+
+  pub relabelled-label : (s : List ℕ) (k : ℕ) → k < positions b → getD (relabelState b s) k 0 ≡ mapAt b k (getD s k 0)
+  unfolding relabelState
+  relabelled-label s k l = getD-tabulate (positions b) (λ i. mapAt b i (getD s i 0)) k l

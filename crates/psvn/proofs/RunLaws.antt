@@ -1,7 +1,6 @@
--- Laws of lists of rule numbers: one rule more at the end (`run-more`, `cost-more`, `in-turn-more`), what it says of each rule that the rules apply in turn
--- (`in-turn-at`, `in-turn-intro`), how long the last state is (`run-length`), and that it is valid where the first one is (`run-state`); a list reaches a goal exactly where its numbers are those of
--- rules, they apply in turn and the last state meets a goal (`reaches-run`, `run-reaches`).
--- Replay, tables and the search rest on these.
+-- Laws of lists of rule numbers: one rule more at the end (`run-more`, `cost-more`, `in-turn-more`), rules that apply in turn one by one (`in-turn-at`, `in-turn-intro`), and the
+-- last state (`run-length`, `run-state`); a list reaches a goal exactly where its numbers are those of rules, they apply in turn and the last state meets a goal
+-- (`reaches-run`, `run-reaches`). Replay rests on these.
 use mathlib.Core.Path.{_≡_, refl, sym, ap, _∙_}
 use mathlib.Core.Bool.{Bool, true, _&&_, and-assoc, and-comm}
 use mathlib.Core.List.{List, [], _∷_, _++_}
@@ -12,14 +11,12 @@ use lib.Dec.{ltb}
 use lib.ListN.{length, getD, take}
 use borrow.Author.Tests.{ltb-true, lt-ltb}
 use Rattle.basics.proofs.Truth.{and-true, and-intro}
-use Rattle.basics.proofs.Lists.{length-tabulate}
-use Rattle.blocks.specs.Terms.{termOf}
-use Rattle.blocks.specs.Layout.{positions, rules, costOf, leftOf, rightOf}
+use Rattle.blocks.specs.Layout.{positions, rules, costOf}
 use Rattle.blocks.specs.Validity.{Valid}
 use Rattle.blocks.specs.States.{stateOk}
-use Rattle.psvn.specs.Rules.{given, rewritten, applies, step, meets}
+use Rattle.psvn.specs.Rules.{applies, step, meets}
 use Rattle.psvn.specs.Runs.{RuleNumbers, applyInTurn, run, totalCost, reaches}
-use Rattle.psvn.proofs.Stepping.{step-state}
+use Rattle.psvn.proofs.Stepping.{step-length, step-state}
 
 module _ (b : List ℕ) where
   -- one rule more
@@ -56,14 +53,9 @@ module _ (b : List ℕ) where
       (in-turn-intro (step b x s) rs (λ i l. h (suc i) (omega arith)))
 
   -- states keep their length, and stay states
-  pub step-length : (r : ℕ) (s : List ℕ) → length (step b r s) ≡ positions b
-  unfolding step rewritten
-  step-length r s =
-      length-tabulate (positions b) (λ i. given (positions b) (leftOf b r) s i (termOf (rightOf b r i)))
-
   pub run-length : (s rs : List ℕ) → length s ≡ positions b → length (run b s rs) ≡ positions b
   run-length s [] e = e
-  run-length s (x ∷ rs) e = run-length (step b x s) rs (step-length x s)
+  run-length s (x ∷ rs) e = run-length (step b x s) rs (step-length b x s)
 
   pub run-state :
       Valid b → (s rs : List ℕ) → stateOk b s ≡ true → RuleNumbers b rs → stateOk b (run b s rs) ≡ true

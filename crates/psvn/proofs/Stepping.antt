@@ -1,4 +1,4 @@
--- States stay states: applying a rule keeps a valid state valid (`step-state`), the relabelled state of a valid state is an abstract one
+-- States stay states: applying a rule keeps a valid state valid (`step-state`) and makes a state of n labels of any list (`step-length`), the relabelled state of a valid state is an abstract one
 -- (`relabelled-state`), and the abstract states are those of the relabelled block (`abstract-states`). Runs, searches and tables rest on these.
 use mathlib.Core.Path.{_≡_, refl, ap}
 use mathlib.Core.Bool.{Bool, true, _&&_}
@@ -9,17 +9,17 @@ use lib.ListN.{length, getD}
 use borrow.Author.Tests.{ltb-true}
 use Rattle.basics.specs.Bounded.{first}
 use Rattle.basics.proofs.Bounded.{first-holds, all-ext}
-use Rattle.basics.proofs.Lists.{length-tabulate, getD-tabulate}
 use Rattle.blocks.specs.Terms.{termOf, termOk}
-use Rattle.blocks.specs.Layout.{positions, rules, labelCount, abstractCount, mapAt, leftOf, rightOf}
+use Rattle.blocks.specs.Layout.{positions, rules, labelCount, abstractCount, leftOf, rightOf}
 use Rattle.blocks.specs.Validity.{boundIn, Valid}
 use Rattle.blocks.specs.States.{labelled, stateOk, abstractOk}
-use Rattle.psvn.specs.Rules.{bound, given, rewritten, step}
+use Rattle.psvn.specs.Rules.{bound, given, step}
 use Rattle.psvn.specs.Relabelling.{relabelBlock, relabelState}
 use Rattle.blocks.proofs.TermCases.{View, label, variable, dash, refused, view, is-label, is-variable, is-dash, is-refused}
 use Rattle.blocks.proofs.Accepted.{map-below, right-side, right-bound, side-term}
-use Rattle.blocks.proofs.StateLaws.{labelled-at, labelled-intro}
-use Rattle.psvn.proofs.Relabelled.{positions-relabelled, label-count-relabelled}
+use Rattle.blocks.proofs.StateLaws.{state-label, labelled-intro}
+use Rattle.psvn.proofs.Making.{rewritten-at, rewritten-length}
+use Rattle.psvn.proofs.Relabelled.{positions-relabelled, label-count-relabelled, relabelled-labels, relabelled-label}
 
 -- the label that a bound term gives is below the count at its position
 module _
@@ -39,32 +39,29 @@ module _
       go (dash e) = rw (is-dash t e) (below i l)
       go (refused a b) = rw (is-refused t a b) (below i l)
 
-module _ (b : List ℕ) (v : Valid b) where
+module _ (b : List ℕ) where
   pub count-alike : (i j : ℕ) → labelCount b i ≡ labelCount b j
   unfolding labelCount
   count-alike i j = refl
 
+  pub step-length : (r : ℕ) (s : List ℕ) → length (step b r s) ≡ positions b
+  unfolding step
+  step-length r s = rewritten-length (positions b) (leftOf b r) (rightOf b r) s
+
+module _ (b : List ℕ) (v : Valid b) where
   pub step-state : (r : ℕ) → r < rules b → (s : List ℕ) → stateOk b s ≡ true → stateOk b (step b r s) ≡ true
-  unfolding step rewritten
+  unfolding step
   step-state r lr s ok =
       let n = positions b in
-      let f : ℕ → ℕ = λ i. given n (leftOf b r) s i (termOf (rightOf b r i)) in
-      labelled-intro n (labelCount b) (step b r s) (length-tabulate n f) (λ i l.
-      rw (getD-tabulate n f i l)
-      (given-below n (labelCount b) count-alike (leftOf b r) s (labelled-at n (labelCount b) s ok) i (rightOf b r i) l
+      labelled-intro n (labelCount b) (step b r s) (step-length b r s) (λ i l.
+      rw (rewritten-at n (leftOf b r) (rightOf b r) s i l)
+      (given-below n (labelCount b) (count-alike b) (leftOf b r) s (state-label b s ok) i (rightOf b r i) l
       (side-term b (rightOf b r) (right-side b v r lr) i l) (right-bound b v r lr i l)))
 
-  pub map-in : (i x : ℕ) → x < labelCount b i → mapAt b i x < abstractCount b i
-  unfolding mapAt labelCount abstractCount
-  map-in i x l = map-below b v x l
-
   pub relabelled-state : (s : List ℕ) → stateOk b s ≡ true → abstractOk b (relabelState b s) ≡ true
-  unfolding relabelState
   relabelled-state s ok =
-      let n = positions b in
-      let f : ℕ → ℕ = λ i. mapAt b i (getD s i 0) in
-      labelled-intro n (abstractCount b) (relabelState b s) (length-tabulate n f) (λ i l.
-      rw (getD-tabulate n f i l) (map-in i (getD s i 0) (labelled-at n (labelCount b) s ok i l)))
+      labelled-intro (positions b) (abstractCount b) (relabelState b s) (relabelled-labels b s) (λ i l.
+      rw (relabelled-label b s i l) (map-below b v i (getD s i 0) (state-label b s ok i l)))
 
 -- the abstract states are the states of the relabelled block
 pub abstract-states : (b u : List ℕ) → stateOk (relabelBlock b) u ≡ abstractOk b u

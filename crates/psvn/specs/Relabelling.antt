@@ -28,9 +28,16 @@ relabelRule b r = costOf b r ∷ (relabelSide b (leftOf b r) ++ relabelSide b (r
 unfoldable pub relabelGoal : List ℕ → ℕ → List ℕ
 relabelGoal b g = relabelSide b (goalOf b g)
 
+-- all relabelled rules, and all relabelled goals, behind one another
+abbrev pub relabelRules : List ℕ → List ℕ
+relabelRules b = joined (rules b) (relabelRule b)
+
+abbrev pub relabelGoals : List ℕ → List ℕ
+relabelGoals b = joined (goals b) (relabelGoal b)
+
 -- the relabelled exercise: L and K both the old K, the identity map, every constant sent through the map, all else as before
 unfoldable pub relabelBlock : List ℕ → List ℕ
-relabelBlock b = relabelHead b ++ (joined (rules b) (relabelRule b) ++ joined (goals b) (relabelGoal b))
+relabelBlock b = relabelHead b ++ (relabelRules b ++ relabelGoals b)
 
 -- the relabelled state: each label through the map at its position
 unfoldable pub relabelState : List ℕ → List ℕ → List ℕ

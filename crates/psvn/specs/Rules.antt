@@ -12,7 +12,7 @@ use Rattle.blocks.specs.Layout.{positions, goals, leftOf, rightOf, goalOf}
 use Rattle.blocks.specs.declared.terms.Term.{Term}
 use Rattle.blocks.specs.declared.terms.Term.the-variants.{Label, Variable, Dash, Refused}
 
--- the label that the side binds the variable v to: that of the first position where v stands
+-- the label that the side binds the variable v to: that of the first position where v stands; 0 if it stands nowhere, as no right variable of an accepted block does
 unfoldable pub bound : ℕ → (ℕ → ℕ) → List ℕ → ℕ → ℕ
 bound n side s v = getD s (first n (λ j. eqb (side j) v)) 0
 

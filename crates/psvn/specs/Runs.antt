@@ -12,7 +12,7 @@ use Rattle.psvn.specs.Rules.{applies, step, meets}
 abbrev pub RuleNumbers : List ℕ → List ℕ → Type 0
 RuleNumbers b rs = (i : ℕ) → i < length rs → getD rs i 0 < rules b
 
--- the rules apply in turn from the state s
+-- the rules apply in turn from the state s; it is not asked whether the numbers are those of rules
 abbrev pub applyInTurn : List ℕ → List ℕ → List ℕ → Bool
 applyInTurn b s [] = true
 applyInTurn b s (r ∷ rs) = applies b r s && applyInTurn b (step b r s) rs
@@ -27,7 +27,7 @@ abbrev pub totalCost : List ℕ → List ℕ → ℕ
 totalCost b [] = 0
 totalCost b (r ∷ rs) = costOf b r + totalCost b rs
 
--- the list reaches a goal from s: its rules apply in turn, and the last state, s itself for the empty list, meets a goal
+-- the list reaches a goal from s: its numbers are those of rules, they apply in turn, and the last state, s itself for the empty list, meets a goal
 abbrev pub reaches : List ℕ → List ℕ → List ℕ → Bool
 reaches b s [] = meets b s
 reaches b s (r ∷ rs) = ltb r (rules b) && (applies b r s && reaches b (step b r s) rs)

@@ -4,11 +4,11 @@ ghost use mathlib.Core.Bool.{true};
 ghost use Prim.Native.Nat.{_+_, _≤_, _<_};
 ghost use lib.ListN.{length};
 ghost use lib.Seq.{sets};
-ghost use Rattle.basics.specs.Lists.{atFront, joined};
+ghost use Rattle.basics.specs.Lists.{atFront};
 ghost use Rattle.blocks.specs.Terms.{termOf, termOk};
-ghost use Rattle.blocks.specs.Layout.{positions, rules, goals, labelCount, mapAt, sideAt};
+ghost use Rattle.blocks.specs.Layout.{positions, rules, labelCount, mapAt, sideAt};
 ghost use Rattle.blocks.specs.Validity.{Sized, Valid, sideOk};
-ghost use Rattle.psvn.specs.Relabelling.{relabelTerm, relabelSide, relabelRule, relabelGoal, relabelBlock};
+ghost use Rattle.psvn.specs.Relabelling.{relabelTerm, relabelSide, relabelRule, relabelRules, relabelGoals, relabelBlock};
 use blocks::labels::byte_of;
 use blocks::layout;
 use blocks::terms::Term;
@@ -54,8 +54,8 @@ fn relabel_rule(block: &[u8], r: usize, out: &mut [u8], to: usize) -> usize
 
 // Writes the relabelled rules from `to` on, and gives the place behind them.
 fn relabel_rules(block: &[u8], out: &mut [u8], to: usize) -> usize
-    requires { ⌜ Valid (now block) × (to + length (joined (rules (now block)) (relabelRule (now block))) ≤ length (now out)) ⌝ }
-    ensures { λ at. ⌜ (at ≡ to + length (joined (rules (now (block .entry))) (relabelRule (now (block .entry))))) × (now (out .exit) ≡ sets (now (out .entry)) to (joined (rules (now (block .entry))) (relabelRule (now (block .entry))))) ⌝ }
+    requires { ⌜ Valid (now block) × (to + length (relabelRules (now block)) ≤ length (now out)) ⌝ }
+    ensures { λ at. ⌜ (at ≡ to + length (relabelRules (now (block .entry)))) × (now (out .exit) ≡ sets (now (out .entry)) to (relabelRules (now (block .entry)))) ⌝ }
 {
     let rules = layout::rules(block);
     let mut at = to;
@@ -69,8 +69,8 @@ fn relabel_rules(block: &[u8], out: &mut [u8], to: usize) -> usize
 
 // Writes the relabelled goals from `to` on.
 fn relabel_goals(block: &[u8], out: &mut [u8], to: usize)
-    requires { ⌜ Valid (now block) × (to + length (joined (goals (now block)) (relabelGoal (now block))) ≤ length (now out)) ⌝ }
-    ensures { λ _. ⌜ now (out .exit) ≡ sets (now (out .entry)) to (joined (goals (now (block .entry))) (relabelGoal (now (block .entry)))) ⌝ }
+    requires { ⌜ Valid (now block) × (to + length (relabelGoals (now block)) ≤ length (now out)) ⌝ }
+    ensures { λ _. ⌜ now (out .exit) ≡ sets (now (out .entry)) to (relabelGoals (now (block .entry))) ⌝ }
 {
     let goals = layout::goals(block);
     let mut at = to;

@@ -52,7 +52,7 @@ fn side_matches(block: &[u8], at: usize, state: &[u8]) -> bool
     true
 }
 
-// Writes the state that the right side at `right` makes of a state under the left side at `left`.
+// Writes the state that the right side at `right` makes of a state under the left side at `left`, at the front of `out`.
 fn rewrite(block: &[u8], left: usize, right: usize, state: &[u8], out: &mut [u8])
     requires { ⌜ (left + length (now state) ≤ length (now block)) × (right + length (now state) ≤ length (now block)) × (length (now state) ≤ length (now out)) ⌝ }
     ensures { λ _. ⌜ now (out .exit) ≡ atFront (rewritten (length (now (state .entry))) (sideAt (now (block .entry)) left) (sideAt (now (block .entry)) right) (now (state .entry))) (now (out .entry)) ⌝ }
@@ -93,7 +93,7 @@ pub fn applies(block: &[u8], r: usize, state: &[u8]) -> bool
     side_matches(block, layout::left_at(block, r), state)
 }
 
-// Writes the state that rule r makes of a state.
+// Writes the state that rule r makes of a state at the front of `out`.
 pub fn step(block: &[u8], r: usize, state: &[u8], out: &mut [u8])
     requires { ⌜ Sized (now block) × (r < rules (now block)) × (length (now state) ≡ positions (now block)) × (positions (now block) ≤ length (now out)) ⌝ }
     ensures { λ _. ⌜ now (out .exit) ≡ atFront (step (now (block .entry)) r (now (state .entry))) (now (out .entry)) ⌝ }

@@ -17,11 +17,11 @@ abbrev pub relabellingOf : Relabelling → Answer ℕ
 relabellingOf (Done length) = told length
 relabellingOf (Refused refusal) = refused (refusalNumber refusal)
 
--- 3 to 7, then 11, which measures the block to be written
-unfoldable pub relabelConditions : List ℕ → List ℕ → List Condition
-relabelConditions b out = blockConditions b ++ (11 unless leb (length (relabelBlock b)) (length out) ∷ [])
+-- 3 to 7, then 11, which measures the block to be written; `room` is the length of the buffer
+unfoldable pub relabelConditions : List ℕ → ℕ → List Condition
+relabelConditions b room = blockConditions b ++ (11 unless leb (length (relabelBlock b)) room ∷ [])
 
 unfoldable pub relabelExercise : List ℕ → List ℕ → Outcome ℕ
 relabelExercise b out =
-    guarded (verdict (relabelConditions b out)) out
+    guarded (verdict (relabelConditions b (length out))) out
     (outcome (told (length (relabelBlock b))) (atFront (relabelBlock b) out))

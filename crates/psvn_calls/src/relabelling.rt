@@ -1,6 +1,5 @@
 // Relabelling a block.
 ghost use mathlib.Core.Path.{_≡_};
-ghost use lib.ListN.{length};
 ghost use Rattle.refusals.specs.Answers.{outcome};
 ghost use Rattle.psvn_calls.specs.Relabelling.{relabellingOf, relabelExercise};
 use refusals::Refusal;

@@ -14,7 +14,7 @@ infix 68 _unless_
 pub data Condition : Type 0 where
   _unless_ : ℕ → Bool → Condition
 
--- "The lowest number wins": the conditions stand in the order of their numbers, and the first that fails gives its number
+-- "The lowest number wins": the conditions stand in the order of their numbers (the reader's in its own order), and the first that fails gives its number
 abbrev pub verdict : List Condition → Answer (Unit {0})
 verdict [] = told tt
 verdict (number unless holds ∷ conditions) = cond holds (verdict conditions) (refused number)

@@ -8,7 +8,7 @@ use mathlib.Core.List.{List, [], _∷_}
 use Prim.Native.Nat.{ℕ, suc, _≤_, _<_}
 use native.Mathlib.Omega.{arith}
 use lib.ListN.{length}
-use Rattle.basics.proofs.Order.{below?}
+use Rattle.basics.proofs.Comparing.{below?}
 use Rattle.rounds.specs.Systems.{System, Estimate, at, Lawful, Passing}
 use Rattle.rounds.specs.OpenLists.{Before, totalCost, Reaches}
 use Rattle.rounds.specs.Rounds.{Allowance, free, upto, on, Answer, found, noPlan, spent, visits, round, search}

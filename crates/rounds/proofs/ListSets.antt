@@ -7,7 +7,7 @@ use mathlib.Core.List.{List, [], _∷_, head-eq-of-cons-eq}
 use Prim.Native.Nat.{ℕ, zero, suc, _+_, _≤_, _<_}
 use native.Mathlib.Omega.{arith}
 use lib.ListN.{length}
-use Rattle.basics.proofs.Order.{below?}
+use Rattle.basics.proofs.Comparing.{below?}
 use Rattle.rounds.specs.OpenLists.{Sooner}
 
 -- up to d rules

@@ -12,7 +12,7 @@ use lib.Seq.{length-take-le}
 use borrow.Author.Tests.{le-leb, lt-leb}
 use Rattle.basics.specs.Lists.{atFront}
 use Rattle.basics.proofs.Lists.{front-taken}
-use Rattle.basics.proofs.Order.{below?}
+use Rattle.basics.proofs.Comparing.{below?}
 use Rattle.blocks.specs.Layout.{positions, rules, goals, labelCount}
 use Rattle.blocks.specs.Validity.{Valid}
 use Rattle.blocks.specs.States.{stateOk}

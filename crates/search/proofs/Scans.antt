@@ -13,7 +13,7 @@ use lib.Dec.{eqb, ltb}
 use lib.ListN.{length, getD}
 use borrow.Author.Tests.{lt-ltb, le-leb, lt-leb}
 use Rattle.basics.proofs.Truth.{and-intro, and-right-false}
-use Rattle.basics.proofs.Order.{below?, same?}
+use Rattle.basics.proofs.Comparing.{below?, same?}
 use Rattle.blocks.specs.Layout.{rules}
 use Rattle.words.specs.Sides.{appliesWord, stepWord, costWord}
 use Rattle.words.specs.Ranking.{rankWord}

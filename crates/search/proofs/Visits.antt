@@ -10,8 +10,8 @@ use native.Mathlib.Numerals.{add-one}
 use lib.ListN.{length, getD, set, take, drop, length-set}
 use lib.Seq.{getD-set-same, slice-empty, slice-cons}
 use borrow.Author.Tests.{lt-ltb, le-ltb}
-use Rattle.basics.specs.Frames.{Outside}
-use Rattle.basics.proofs.Frames.{outside-none, outside-set, outside-then, outside-within}
+use Rattle.basics.specs.Parts.{Outside}
+use Rattle.basics.proofs.Parts.{outside-none, outside-set, outside-then, outside-within}
 use Rattle.words.specs.Sides.{appliesWord, stepWord, costWord, meetsWord}
 use Rattle.rounds.specs.Rounds.{Progress, on, hit, extend}
 use Rattle.rounds.proofs.Equations as equations

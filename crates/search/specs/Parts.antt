@@ -7,7 +7,7 @@ use mathlib.Core.List.{List}
 use mathlib.Core.Option.{some}
 use Prim.Native.Nat.{ℕ, suc, _+_, _-_, _^_, _≤_, _<_}
 use lib.ListN.{length, getD, take, drop}
-use Rattle.basics.specs.Frames.{Outside}
+use Rattle.basics.specs.Parts.{Outside}
 use Rattle.basics.specs.Lists.{atFront}
 use Rattle.blocks.specs.Layout.{positions, rules, goals, abstractStates}
 use Rattle.blocks.specs.States.{stateOk}

@@ -16,7 +16,8 @@ use Rattle.psvn.specs.Relabelling.{relabelBlock}
 use Rattle.psvn.specs.Ranks.{rank, unrank}
 use Rattle.psvn.proofs.Relabelled.{positions-relabelled, abstracts-relabelled}
 use Rattle.psvn.proofs.Stepping.{step-state, abstract-states}
-use Rattle.psvn.proofs.RelabelTwice.{identity-state, relabelled-valid}
+use Rattle.psvn.proofs.RelabelTwice.{identity-state}
+use Rattle.psvn.proofs.RelabelledValid.{relabelled-valid}
 use Rattle.psvn.proofs.RankLaws.{rank-below, unrank-rank}
 use Rattle.basics.specs.Digits.{valueTo}
 use Rattle.distances.specs.Graphs.{leadsOn, reaches, totalCost}

@@ -13,7 +13,7 @@ use Rattle.blocks.specs.States.{stateOk}
 use Rattle.psvn.specs.Rules.{applies, step, meets}
 use Rattle.psvn.specs.Relabelling.{relabelBlock, relabelState}
 use Rattle.psvn.specs.Ranks.{rank}
-use Rattle.psvn.proofs.Relabelled.{rules-relabelled, states-relabelled, cost-relabelled}
+use Rattle.psvn.proofs.Relabelled.{rules-relabelled, abstract-states-relabelled, cost-relabelled}
 use Rattle.psvn.proofs.Homomorphism.{applies-relabelled, step-relabelled, meets-relabelled}
 use Rattle.psvn.proofs.Stepping.{step-state, relabelled-state, abstract-states}
 use Rattle.distances.specs.Graphs.{mark}
@@ -68,4 +68,4 @@ module _ (b : List ℕ) (v : Valid b) where
   -- the table of zeros passes
   pub zeros-pass-test : (t : List ℕ) → ((k : ℕ) → k < abstractStates b → getD t k 0 ≡ 0) → passesTest b t ≡ true
   unfolding passesTest
-  zeros-pass-test t z = zeros-pass (graphOf (relabelBlock b)) t (λ k l. z k (omega (arith, states-relabelled b)))
+  zeros-pass-test t z = zeros-pass (graphOf (relabelBlock b)) t (λ k l. z k (omega (arith, abstract-states-relabelled b)))

@@ -9,13 +9,13 @@ use native.Mathlib.Omega.{arith}
 use lib.ListN.{getD}
 use Rattle.basics.specs.Digits.{valueTo}
 use Rattle.basics.proofs.Digits.{value-grows}
-use Rattle.basics.proofs.Lists.{getD-tabulate}
 use Rattle.blocks.specs.Layout.{positions, abstractCount, abstractStates, mapAt}
 use Rattle.blocks.specs.Validity.{Valid}
 use Rattle.blocks.specs.States.{stateOk}
 use Rattle.blocks.proofs.StateLaws.{labelled-at}
 use Rattle.psvn.specs.Relabelling.{relabelState}
 use Rattle.psvn.specs.Ranks.{rank}
+use Rattle.psvn.proofs.Relabelled.{relabelled-label}
 use Rattle.psvn.proofs.Stepping.{relabelled-state}
 use Rattle.psvn.proofs.RankLaws.{rank-below}
 
@@ -24,10 +24,9 @@ partRank b s i = valueTo (abstractCount b) (relabelState b s) i
 
 module _ (b s : List ℕ) where
   pub part-more : (i : ℕ) → i < positions b → partRank b s (i + 1) ≡ partRank b s i * abstractCount b i + mapAt b i (getD s i 0)
-  unfolding relabelState
   part-more i l =
       ap (partRank b s) (add-one i)
-      ∙ ap (λ (x : ℕ). partRank b s i * abstractCount b i + x) (getD-tabulate (positions b) (λ i. mapAt b i (getD s i 0)) i l)
+      ∙ ap (λ (x : ℕ). partRank b s i * abstractCount b i + x) (relabelled-label b s i l)
 
   pub part-all : (i : ℕ) → i ≡ positions b → partRank b s i ≡ rank b (relabelState b s)
   unfolding rank

@@ -14,7 +14,7 @@ use Rattle.psvn.specs.Rules.{applies, step, meets}
 use Rattle.psvn.specs.Relabelling.{relabelState}
 use Rattle.psvn.specs.Ranks.{rank, unrank}
 use Rattle.psvn.proofs.Stepping.{step-state}
-use Rattle.psvn.proofs.RankLaws.{unrank-state, rank-unrank}
+use Rattle.psvn.proofs.RankLaws.{unrank-abstract, rank-unrank}
 use Rattle.words.specs.Packing.{unpack}
 use Rattle.words.specs.Sides.{appliesWord, stepWord, meetsWord}
 use Rattle.words.specs.Ranking.{rankWord, wordOf}
@@ -35,7 +35,7 @@ module _ (a words moves weights : List ℕ) (ready : Ready a words moves weights
   few = headed .few
 
   unranked : (u : ℕ) → stateOk a (unrank a u) ≡ true
-  unranked u = ready .relabelled .abstract (unrank a u) ∙ unrank-state a headed u
+  unranked u = ready .relabelled .abstract (unrank a u) ∙ unrank-abstract a headed u
 
   -- the word of a rank
   module _ (u : ℕ) where

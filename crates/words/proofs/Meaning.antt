@@ -15,17 +15,17 @@ use borrow.Author.Tests.{eq-eqb, eqb-true}
 use Rattle.basics.specs.Digits.{valueTo}
 use Rattle.basics.proofs.Truth.{true-false, and-true, and-intro, not-so}
 use Rattle.basics.proofs.Bounded.{some-ext}
-use Rattle.basics.proofs.Lists.{getD-tabulate}
-use Rattle.basics.proofs.Order.{same?}
+use Rattle.basics.proofs.Comparing.{same?}
 use Rattle.blocks.specs.Layout.{positions, rules, goals, labelCount, abstractCount, mapAt, costOf, goalOf}
 use Rattle.blocks.specs.Validity.{Headed}
 use Rattle.blocks.specs.States.{stateOk}
-use Rattle.blocks.proofs.StateLaws.{labelled-length, labelled-at, state-length, state-label, label-below}
+use Rattle.blocks.proofs.StateLaws.{labelled-length, labelled-at, state-length, state-label, abstract-count-low, label-below}
 use Rattle.psvn.specs.Rules.{matches, applies, step, goalMet, meets}
 use Rattle.psvn.specs.Relabelling.{relabelState}
 use Rattle.psvn.specs.Ranks.{rank, unrank}
 use Rattle.psvn.proofs.Making.{matches-itself, itself-matches}
-use Rattle.psvn.proofs.RankLaws.{unrank-state}
+use Rattle.psvn.proofs.Relabelled.{relabelled-label}
+use Rattle.psvn.proofs.RankLaws.{unrank-abstract}
 use Rattle.words.specs.Packing.{digit, digitPair, pack, unpack}
 use Rattle.words.specs.Sides.{maskAt, valueAt, goalPlace, rewrittenWord, matchesWord, appliesWord, stepWord, costWord, meetsWord}
 use Rattle.words.specs.Ranking.{rankPairs, rankWord, wordOf, placeValue, weightOf}
@@ -87,10 +87,8 @@ module _ {b words moves weights : List ℕ} (c : Compiled b words moves weights)
 
   module _ (w : ℕ) (ok : stateOk b (unpack (positions b) w) ≡ true) where
     label-of : (j : ℕ) → j < positions b → getD (relabelState b (unpack (positions b) w)) j 0 ≡ mapAt b j (digit w j)
-    unfolding relabelState
     label-of j l =
-        getD-tabulate (positions b) (λ i. mapAt b i (getD (unpack (positions b) w) i 0)) j l
-        ∙ ap (mapAt b j) (unpack-at (positions b) w j l)
+        relabelled-label b (unpack (positions b) w) j l ∙ ap (mapAt b j) (unpack-at (positions b) w j l)
 
     -- the weights of the first j labels: the number of the labels before position j, times what they count
     sum-placed :
@@ -152,22 +150,20 @@ module _ {b : List ℕ} (h : Headed b) where
       (unpack-pack (positions b) s e small, rw (sym e) (pack-below s small))
 
   unrank-small : (k : ℕ) → Small (unrank b k)
-  unfolding abstractCount
   unrank-small k i l =
-      let ok = unrank-state b h k in
+      let ok = unrank-abstract b h k in
       omega (
         arith,
         labelled-at (positions b) (abstractCount b) (unrank b k) ok i (omega (arith, labelled-length (positions b) (abstractCount b) (unrank b k) ok)),
-        h .sizes .k-high,
-        h .sizes .l-high,
+        abstract-count-low b h i,
       )
 
   pub word-of-small : (k : ℕ) → wordOf b k < 16 ^ positions b
   unfolding wordOf
   word-of-small k =
-      rw (sym (labelled-length (positions b) (abstractCount b) (unrank b k) (unrank-state b h k))) (pack-below (unrank b k) (unrank-small k))
+      rw (sym (labelled-length (positions b) (abstractCount b) (unrank b k) (unrank-abstract b h k))) (pack-below (unrank b k) (unrank-small k))
 
   pub unpack-word-of : (k : ℕ) → unpack (positions b) (wordOf b k) ≡ unrank b k
   unfolding wordOf
   unpack-word-of k =
-      unpack-pack (positions b) (unrank b k) (labelled-length (positions b) (abstractCount b) (unrank b k) (unrank-state b h k)) (unrank-small k)
+      unpack-pack (positions b) (unrank b k) (labelled-length (positions b) (abstractCount b) (unrank b k) (unrank-abstract b h k)) (unrank-small k)

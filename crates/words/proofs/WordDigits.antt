@@ -11,8 +11,7 @@ use lib.Dec.{lit<}
 use lib.Pow.{pow-add, shl-exact}
 use lib.ListN.{length, getD}
 use Rattle.basics.specs.Lists.{tabulateFrom}
-use Rattle.basics.proofs.Lists.{length-tabulate, getD-tabulate, tabulate-ext}
-use Rattle.basics.proofs.Order.{same-list}
+use Rattle.basics.proofs.Lists.{length-tabulate, getD-tabulate, tabulate-ext, same-list}
 use Rattle.words.specs.Packing.{digit, digitPair, pack, unpack}
 
 -- powers of 16 and of 2

@@ -3,9 +3,9 @@
 use mathlib.Core.Path.{_≡_, sym, ap, ap₂, _∙_}
 use Prim.Native.Nat.{ℕ, suc, _≤_, _-_, _*_, _^_}
 use native.Mathlib.Nat.{pow-zero, pow-suc, pow-le-pow-right}
-use native.Mathlib.Numerals.{add-one}
 use native.Mathlib.Omega.{arith}
 use borrow.Author.Needs.{needs}
+use Rattle.basics.proofs.Digits.{power-more}
 use Rattle.blocks.specs.Layout.{abstractStates}
 use Rattle.blocks.proofs.layout.abstract_states.Statement.{statement}
 use Rattle.blocks.proofs.layout.abstract_states.Tie as tie
@@ -46,13 +46,8 @@ loop-less c = search needs
 
 loop-again : tie.Need-loop-again Inv-loop μ-loop
 loop-again c =
-    let k = c .before .before .abstracts .result in
-    let i = c .before .loop .i in (
-      search needs,
-      ap (λ (x : ℕ). x * k) (c .before .loop .inv .1) ∙ sym (pow-suc k i) ∙ ap (λ (x : ℕ). k ^ x) (sym (add-one i)),
-      search needs,
-      search needs,
-    )
+    let l = c .before .loop in
+    (search needs, power-more (c .before .before .abstracts .result) (l .i) (l .power) (l .inv .1), search needs, search needs)
 
 returns : tie.Need-returns Inv-loop μ-loop
 unfolding abstractStates

@@ -11,7 +11,7 @@ use borrow.Author.Needs.{needs}
 use Rattle.basics.specs.Lists.{tabulate}
 use Rattle.basics.proofs.Lists.{sets-more, sets-behind}
 use Rattle.blocks.specs.Layout.{headByte, positions, abstracts, rules, goals, relabelHead}
-use Rattle.blocks.proofs.Offsets.{head-length}
+use Rattle.blocks.proofs.Offsets.{relabel-head-length}
 use Rattle.blocks.proofs.layout.relabel_head.Statement.{statement}
 use Rattle.blocks.proofs.layout.relabel_head.Tie as tie
 
@@ -30,29 +30,29 @@ shared-slice-read-out c = search needs
 
 slice-write-out : tie.Need-slice-write-out Inv-loop μ-loop
 unfolding headByte
-slice-write-out c = omega (arith, head-length (now (c .before .before .before .before .args .block)))
+slice-write-out c = omega (arith, relabel-head-length (now (c .before .before .before .before .args .block)))
 
 slice-write-out-2 : tie.Need-slice-write-out-2 Inv-loop μ-loop
 unfolding headByte
-slice-write-out-2 c = simp length-set (omega (arith, head-length (now (c .before .before .before .before .args .block))))
+slice-write-out-2 c = simp length-set (omega (arith, relabel-head-length (now (c .before .before .before .before .args .block))))
 
 slice-write-out-3 : tie.Need-slice-write-out-3 Inv-loop μ-loop
 unfolding headByte
-slice-write-out-3 c = simp length-set (omega (arith, head-length (now (c .before .before .before .before .args .block))))
+slice-write-out-3 c = simp length-set (omega (arith, relabel-head-length (now (c .before .before .before .before .args .block))))
 
 shared-slice-read-out-2 : tie.Need-shared-slice-read-out-2 Inv-loop μ-loop
 shared-slice-read-out-2 c = search needs
 
 slice-write-out-4 : tie.Need-slice-write-out-4 Inv-loop μ-loop
 unfolding headByte
-slice-write-out-4 c = simp length-set (omega (arith, head-length (now (c .before .before .before .before .before .args .block))))
+slice-write-out-4 c = simp length-set (omega (arith, relabel-head-length (now (c .before .before .before .before .before .args .block))))
 
 shared-slice-read-out-3 : tie.Need-shared-slice-read-out-3 Inv-loop μ-loop
 shared-slice-read-out-3 c = search needs
 
 slice-write-out-5 : tie.Need-slice-write-out-5 Inv-loop μ-loop
 unfolding headByte
-slice-write-out-5 c = simp length-set (omega (arith, head-length (now (c .before .before .before .before .before .before .args .block))))
+slice-write-out-5 c = simp length-set (omega (arith, relabel-head-length (now (c .before .before .before .before .before .before .args .block))))
 
 loop-holds : tie.Need-loop-holds Inv-loop μ-loop
 loop-holds c = (omega arith, search needs)
@@ -76,7 +76,7 @@ kept c = ap length (c .loop .inv .1) ∙ length-sets _ 5 (tabulate (c .loop .x) 
 
 slice-write-out-6 : tie.Need-slice-write-out-6 Inv-loop μ-loop
 unfolding headByte
-slice-write-out-6 c = omega (arith, kept (c .before .before), head-length (now (c .before .before .before .before .before .before .before .before .before .args .block)))
+slice-write-out-6 c = omega (arith, kept (c .before .before), relabel-head-length (now (c .before .before .before .before .before .before .before .before .before .args .block)))
 
 add-x : tie.Need-add-x Inv-loop μ-loop
 add-x c = omega (arith, c .before .before .before .before .before .before .shared-slice-known2 .given 2)
@@ -109,7 +109,7 @@ returns c =
     let o = now (c .before .before .before .before .before .before .before .before .before .args .out) in
     let head = positions b ∷ abstracts b ∷ abstracts b ∷ rules b ∷ goals b ∷ [] in
     let e : c .before .before .loop .x ≡ abstracts b = omega arith in (
-      omega (arith, head-length b),
+      omega (arith, relabel-head-length b),
       sets-behind o 0 head (tabulate (abstracts b) (λ y. y)) {m = sets o 0 head} refl refl (c .before .before .loop .inv .1 ∙ ap (λ (k : ℕ). sets (sets o 0 head) 5 (tabulate k (λ y. y))) e),
     )
 

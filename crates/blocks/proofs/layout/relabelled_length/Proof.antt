@@ -3,7 +3,7 @@
 use native.Mathlib.Omega.{arith}
 use denote.Ref.{now}
 use borrow.Author.Needs.{needs}
-use Rattle.blocks.proofs.Offsets.{relabelled-is, map-fits}
+use Rattle.blocks.proofs.Offsets.{relabelled-length-is, map-fits}
 use Rattle.blocks.proofs.layout.relabelled_length.Statement.{statement}
 use Rattle.blocks.proofs.layout.relabelled_length.Tie as tie
 
@@ -28,7 +28,7 @@ returns : tie.Need-returns
 returns c =
     let s = c .before .before .before .before in
     let b = now (s .args .block) in
-    omega (arith, map-fits b, relabelled-is b (s .pre))
+    omega (arith, map-fits b, relabelled-length-is b)
 
 pub relabelled-length-spec : {M : Type 1} → statement M
 relabelled-length-spec =

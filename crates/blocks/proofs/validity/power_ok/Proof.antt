@@ -1,12 +1,12 @@
 -- `blocks::validity::power_ok` meets its contract.
 -- The loop's invariant: the power of the turns so far, which is in the limit, so that one more factor cannot wrap.
-use mathlib.Core.Path.{_≡_, sym, ap, _∙_}
+use mathlib.Core.Path.{_≡_, sym, ap}
 use Prim.Native.Nat.{ℕ, suc, _≤_, _-_, _*_, _^_}
 use native.Mathlib.Nat.{pow-zero, pow-suc, mul-le-mul-left, pow-le-pow-right}
-use native.Mathlib.Numerals.{add-one}
 use native.Mathlib.Omega.{arith}
 use borrow.Author.Tests.{le-leb, lt-leb}
 use borrow.Author.Needs.{needs}
+use Rattle.basics.proofs.Digits.{power-more}
 use Rattle.blocks.proofs.validity.power_ok.Statement.{statement}
 use Rattle.blocks.proofs.validity.power_ok.Tie as tie
 
@@ -43,12 +43,8 @@ loop-less c = search needs
 
 loop-again : tie.Need-loop-again Inv-loop μ-loop
 loop-again c =
-    let k = c .before .before .before .args .k in
-    let i = c .before .before .loop .i in (
-      search needs,
-      ap (λ (x : ℕ). x * k) (c .before .before .loop .inv .1) ∙ sym (pow-suc k i) ∙ ap (λ (x : ℕ). k ^ x) (sym (add-one i)),
-      search needs,
-    )
+    let l = c .before .before .loop in
+    (search needs, power-more (c .before .before .before .args .k) (l .i) (l .power) (l .inv .1), search needs)
 
 returns-2 : tie.Need-returns-2 Inv-loop μ-loop
 returns-2 c =

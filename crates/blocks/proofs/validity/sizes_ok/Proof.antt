@@ -59,10 +59,10 @@ returns c =
     let k = c .before .before .before .before .before .before .before .lies-within2 .ensures ∙ ap₂ (within 1) (c .before .before .before .before .before .before .before .before .before .abstracts .ensures .0) (c .before .before .before .before .before .before .before .before .labels .ensures .0) in
     let l = c .before .before .before .before .lies-within3 .ensures ∙ ap (λ (l : ℕ). within 1 l 16) (c .before .before .before .before .before .labels2 .ensures .0) in
     let n = c .before .lies-within4 .ensures ∙ ap (λ (n : ℕ). within 1 n 16) (c .before .before .positions .ensures .0) in
-    let lists = c .before .before .before .before .before .before .before .before .before .before .and .ensures ∙ ap₂ _&&_ r g in
-    let maps = c .before .before .before .before .before .before .and2 .ensures ∙ ap₂ _&&_ k lists in
-    let names = c .before .before .before .and3 .ensures ∙ ap₂ _&&_ l maps in
-    c .and4 .ensures ∙ ap₂ _&&_ n names
+    let from-rules = c .before .before .before .before .before .before .before .before .before .before .and .ensures ∙ ap₂ _&&_ r g in
+    let from-abstracts = c .before .before .before .before .before .before .and2 .ensures ∙ ap₂ _&&_ k from-rules in
+    let from-labels = c .before .before .before .and3 .ensures ∙ ap₂ _&&_ l from-abstracts in
+    c .and4 .ensures ∙ ap₂ _&&_ n from-labels
 
 pub sizes-ok-spec : {M : Type 1} → statement M
 sizes-ok-spec =

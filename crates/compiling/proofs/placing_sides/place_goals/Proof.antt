@@ -5,8 +5,8 @@ use Prim.Native.Nat.{ℕ, _≤_, _<_, _-_, _*_}
 use native.Mathlib.Omega.{arith}
 use denote.Ref.{now}
 use borrow.Author.Count.{below-more}
-use Rattle.basics.specs.Frames.{Outside}
-use Rattle.basics.proofs.Frames.{outside-none, outside-then, outside-within}
+use Rattle.basics.specs.Parts.{Outside}
+use Rattle.basics.proofs.Parts.{outside-none, outside-then, outside-within}
 use Rattle.blocks.specs.Layout.{positions, goals, goalOf}
 use Rattle.blocks.proofs.Offsets.{goal-inside}
 use Rattle.words.specs.Sides.{goalPlace}

@@ -4,8 +4,8 @@ use mathlib.Core.Path.{_≡_, subst, _∙_}
 use Prim.Native.Nat.{ℕ, _≤_, _-_, _+_, _*_}
 use native.Mathlib.Omega.{arith}
 use denote.Ref.{now}
-use Rattle.basics.specs.Frames.{Outside}
-use Rattle.basics.proofs.Frames.{outside-none, outside-then}
+use Rattle.basics.specs.Parts.{Outside}
+use Rattle.basics.proofs.Parts.{outside-none, outside-then}
 use Rattle.blocks.specs.Layout.{sideAt}
 use Rattle.compiling.specs.PlacingSides.{Begun}
 use Rattle.compiling.proofs.SidePlaced.{begun-none, side-placed}

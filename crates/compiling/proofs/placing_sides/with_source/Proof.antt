@@ -3,7 +3,7 @@
 use Prim.Native.Nat.{_+_, _*_}
 use native.Mathlib.Omega.{arith}
 use denote.Ref.{now}
-use Rattle.basics.proofs.Frames.{outside-none}
+use Rattle.basics.proofs.Parts.{outside-none}
 use Rattle.compiling.proofs.TermsPlaced.{kept-more, unbound-more, move-more, moves-outside}
 use borrow.Author.Needs.{needs}
 use Rattle.compiling.proofs.placing_sides.with_source.Statement.{statement}

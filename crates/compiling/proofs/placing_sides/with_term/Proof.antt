@@ -3,7 +3,7 @@
 use mathlib.Core.Path.{sym, _∙_}
 use Prim.Native.Nat.{_+_, _*_}
 use denote.Ref.{now}
-use Rattle.basics.proofs.Frames.{outside-none}
+use Rattle.basics.proofs.Parts.{outside-none}
 use Rattle.blocks.specs.Layout.{sideAt}
 use Rattle.compiling.proofs.TermsPlaced.{taken-variable, taken-dash, taken-refused}
 use borrow.Author.Needs.{needs}

@@ -8,10 +8,10 @@ use denote.Ref.{now}
 use lib.ListN.{length, getD}
 use lib.Seq.{getD-set-same, getD-set-other}
 use borrow.Author.Count.{below-more}
-use Rattle.basics.specs.Frames.{Outside}
-use Rattle.basics.proofs.Frames.{outside-none, outside-set}
+use Rattle.basics.specs.Parts.{Outside}
+use Rattle.basics.proofs.Parts.{outside-none, outside-set}
 use Rattle.blocks.specs.Layout.{labelCount, abstractCount, mapAt}
-use Rattle.psvn.proofs.Stepping.{map-in}
+use Rattle.blocks.proofs.Accepted.{map-below}
 use Rattle.compiling.proofs.WeightsPlaced.{low-more}
 use borrow.Author.Needs.{needs}
 use Rattle.compiling.proofs.placing_weights.place_row.Statement.{statement}
@@ -37,7 +37,7 @@ high c =
     let a = c .before .before .before .before .before .before .before .args in
     let h = c .before .before .before .before .before .before .before .pre in
     let x = c .before .before .before .before .loop .x in
-    let m = map-in (now (a .block)) (h .0) (a .i) x (omega arith) in
+    let m = map-below (now (a .block)) (h .0) (a .i) x (omega arith) in
     let le : c .wide .result ≤ abstractCount (now (a .block)) (a .i) = omega (arith, mapped c) in
     omega (arith, h .2, mul-le-mul-right (a .p) le)
 
@@ -45,12 +45,10 @@ label-count-requires : tie.Need-label-count-requires Inv-loop μ-loop
 label-count-requires c κs = (c .before .pre .0 .sized .head, c .before .pre .1)
 
 loop-holds : tie.Need-loop-holds Inv-loop μ-loop
-unfolding labelCount
 loop-holds c =
-    let a = c .before .before .args in
-    let h = c .before .before .pre .0 .sized .head .sizes .l-high in (
+    let a = c .before .before .args in (
       search needs,
-      omega (arith, c .label-count .ensures),
+      search needs,
       search needs,
       outside-none (16 * a .i) (16 * a .i + 16) (now (a .singles)),
       λ k l. absurd (omega arith),

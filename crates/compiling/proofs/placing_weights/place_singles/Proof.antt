@@ -7,7 +7,8 @@ use native.Mathlib.Omega.{arith}
 use denote.Ref.{now}
 use lib.ListN.{length, getD}
 use Rattle.blocks.specs.Layout.{positions, labelCount, abstractCount}
-use Rattle.psvn.proofs.RankLaws.{states-span, some-abstract}
+use Rattle.blocks.proofs.StateLaws.{some-abstract}
+use Rattle.psvn.proofs.RankLaws.{states-span}
 use Rattle.words.specs.Ranking.{placeValue, weightOf}
 use Rattle.words.proofs.WordRanks.{place-more, place-last, place-below}
 use Rattle.compiling.proofs.WeightsPlaced.{rows-more}

@@ -11,7 +11,7 @@ use borrow.Author.Needs.{needs}
 use Rattle.basics.specs.Lists.{atFront}
 use Rattle.basics.proofs.Lists.{front-taken}
 use Rattle.psvn.specs.Relabelling.{relabelBlock}
-use Rattle.psvn.proofs.Relabelled.{relabelled-length, states-relabelled}
+use Rattle.psvn.proofs.Relabelled.{relabelled-length, abstract-states-relabelled}
 use Rattle.distances.specs.LeastCosts.{leastCosts}
 use Rattle.tables.specs.Abstraction.{graphOf}
 use Rattle.tables.proofs.OverRanks.{relabelled-block}
@@ -70,7 +70,7 @@ fill-relabelled-requires c κs =
     let s = c .before .before .before .before .before .before .before .before .before in
     let b = now (s .args .block) in
     let e = first-entries (c .before .before .before .before .before) in
-    rw (part (c .before)) (relabelled-block b (s .pre .0), omega (arith, e, states-relabelled b, c .before .before .before .before .before .abstract-states .ensures .0))
+    rw (part (c .before)) (relabelled-block b (s .pre .0), omega (arith, e, abstract-states-relabelled b, c .before .before .before .before .before .abstract-states .ensures .0))
 
 same-length : tie.Need-same-length
 same-length c = search needs

@@ -13,7 +13,7 @@ use Rattle.refusals.specs.Answers.{Answer, told, verdict, Outcome, outcome, gua
 use Rattle.refusals.specs.Refusals.{verdictOf}
 use Rattle.refusals.proofs.Verdicts.{verdict-behind, verdict-before}
 use Rattle.blocks.specs.Validity.{blockConditions}
-use Rattle.blocks.proofs.FrameLaws.{block-short}
+use Rattle.blocks.proofs.Offsets.{block-short}
 use Rattle.frames.specs.Lines.{linesOf}
 use Rattle.frames.specs.Reading.{blockOf, frameConditions, contentConditions, readConditions, readExercise}
 use Rattle.frames.proofs.AcceptedText.{FramesAccepted, frames-accepted, block-length, block-sized, content-decides}

@@ -6,26 +6,18 @@ use Prim.Native.Nat.{ℕ, _+_}
 use native.Mathlib.Omega.{arith}
 use lib.ListN.{length, length-append}
 use denote.Ref.{now}
-use Rattle.basics.specs.Lists.{joined}
 use Rattle.basics.proofs.Lists.{sets-behind, sets-front}
-use Rattle.blocks.specs.Layout.{rules, goals, relabelHead}
-use Rattle.psvn.specs.Relabelling.{relabelRule, relabelGoal, relabelBlock}
+use Rattle.blocks.specs.Layout.{relabelHead}
+use Rattle.psvn.specs.Relabelling.{relabelRules, relabelGoals, relabelBlock}
 use Rattle.psvn.proofs.relabelling.relabel_block.Statement.{statement}
 use Rattle.psvn.proofs.relabelling.relabel_block.Tie as tie
 
--- the rules and the goals of the relabelled block
-abbrev all-rules : List ℕ → List ℕ
-all-rules b = joined (rules b) (relabelRule b)
-
-abbrev all-goals : List ℕ → List ℕ
-all-goals b = joined (goals b) (relabelGoal b)
-
 -- the three parts' lengths
-parts : (b : List ℕ) → length (relabelBlock b) ≡ length (relabelHead b) + (length (all-rules b) + length (all-goals b))
+parts : (b : List ℕ) → length (relabelBlock b) ≡ length (relabelHead b) + (length (relabelRules b) + length (relabelGoals b))
 unfolding relabelBlock
 parts b =
-    length-append (relabelHead b) (all-rules b ++ all-goals b)
-    ∙ ap (λ (k : ℕ). length (relabelHead b) + k) (length-append (all-rules b) (all-goals b))
+    length-append (relabelHead b) (relabelRules b ++ relabelGoals b)
+    ∙ ap (λ (k : ℕ). length (relabelHead b) + k) (length-append (relabelRules b) (relabelGoals b))
 
 relabel-head-requires : tie.Need-relabel-head-requires
 relabel-head-requires c κs = (c .before .before .before .pre .0 .sized .head, omega (arith, parts (now (c .before .before .before .args .block))))
@@ -55,9 +47,9 @@ returns c =
     let o = now (s .args .out) in
     let h = c .before .before .before .before .before .before .before .before .before .before .relabel-head .ensures in
     let r = c .before .before .before .before .before .before .relabel-rules .ensures in
-    let body = sets-behind _ _ (all-rules b) (all-goals b) (r .1) (r .0) (c .before .before .relabel-goals .ensures) in
-    sets-behind o 0 (relabelHead b) (all-rules b ++ all-goals b) (h .1) (omega (arith, h .0)) body
-    ∙ sets-front o (relabelHead b ++ (all-rules b ++ all-goals b)) (s .pre .1)
+    let body = sets-behind _ _ (relabelRules b) (relabelGoals b) (r .1) (r .0) (c .before .before .relabel-goals .ensures) in
+    sets-behind o 0 (relabelHead b) (relabelRules b ++ relabelGoals b) (h .1) (omega (arith, h .0)) body
+    ∙ sets-front o (relabelHead b ++ (relabelRules b ++ relabelGoals b)) (s .pre .1)
 
 pub relabel-block-spec : {M : Type 1} → statement M
 relabel-block-spec =

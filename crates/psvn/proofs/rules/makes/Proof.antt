@@ -12,10 +12,9 @@ use borrow.Author.Count.{below-more}
 use borrow.Author.Tests.{eq-eqb, ne-eqb}
 use borrow.Author.Needs.{needs}
 use Rattle.basics.proofs.Bounded.{all-passed, all-false}
-use Rattle.basics.proofs.Lists.{getD-tabulate}
-use Rattle.blocks.specs.Terms.{termOf}
 use Rattle.blocks.specs.Layout.{sideAt}
-use Rattle.psvn.specs.Rules.{given, rewritten}
+use Rattle.psvn.specs.Rules.{rewritten}
+use Rattle.psvn.proofs.Making.{rewritten-at}
 use Rattle.psvn.proofs.rules.makes.Statement.{statement}
 use Rattle.psvn.proofs.rules.makes.Tie as tie
 
@@ -23,13 +22,6 @@ use Rattle.psvn.proofs.rules.makes.Tie as tie
 abbrev holds : List ℕ → ℕ → ℕ → List ℕ → List ℕ → ℕ → Bool
 holds block left right old new k =
     eqb (getD (rewritten (length old) (sideAt block left) (sideAt block right) old) k 0) (getD new k 0)
-
-made :
-    (block : List ℕ) (left right : ℕ) (old : List ℕ) (k : ℕ) → k < length old
-    → given (length old) (sideAt block left) old k (termOf (sideAt block right k)) ≡ getD (rewritten (length old) (sideAt block left) (sideAt block right) old) k 0
-unfolding rewritten
-made block left right old k l =
-    sym (getD-tabulate (length old) (λ i. given (length old) (sideAt block left) old i (termOf (sideAt block right i))) k l)
 
 abbrev Inv-loop : tie.InvT-loop
 Inv-loop block left right old new n i₀ i =
@@ -59,7 +51,7 @@ returns c =
     let o = now (a .old) in
     let i = c .before .before .before .before .before .before .loop .i in
     sym (all-false (holds (now (a .block)) (a .left) (a .right) o (now (a .new))) (length o) i (omega arith)
-    (ne-eqb _ _ (λ e. c .if1 .taken (c .before .before .before .label-given .ensures ∙ made (now (a .block)) (a .left) (a .right) o i (omega arith) ∙ e))))
+    (ne-eqb _ _ (λ e. c .if1 .taken (c .before .before .before .label-given .ensures ∙ sym (rewritten-at (length o) (sideAt (now (a .block)) (a .left)) (sideAt (now (a .block)) (a .right)) o i (omega arith)) ∙ e))))
 
 add-i : tie.Need-add-i Inv-loop μ-loop
 add-i c = search needs
@@ -70,11 +62,12 @@ loop-less c = search needs
 loop-again : tie.Need-loop-again Inv-loop μ-loop
 loop-again c =
     let a = c .before .before .before .before .before .before .before .before .before .before .args in
+    let o = now (a .old) in
     let i = c .before .before .before .before .before .before .loop .i in (
       search needs,
       search needs,
       below-more _ _ (c .before .before .before .before .before .before .loop .inv .2)
-          (eq-eqb _ _ (sym (made (now (a .block)) (a .left) (a .right) (now (a .old)) i (omega arith)) ∙ sym (c .before .before .before .label-given .ensures) ∙ c .if1 .left)),
+          (eq-eqb _ _ (rewritten-at (length o) (sideAt (now (a .block)) (a .left)) (sideAt (now (a .block)) (a .right)) o i (omega arith) ∙ sym (c .before .before .before .label-given .ensures) ∙ c .if1 .left)),
     )
 
 returns-2 : tie.Need-returns-2 Inv-loop μ-loop

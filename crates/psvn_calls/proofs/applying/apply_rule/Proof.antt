@@ -8,17 +8,17 @@ use borrow.Author.Needs.{needs}
 use Rattle.basics.specs.Lists.{atFront}
 use Rattle.refusals.specs.Answers.{Answer, told, verdict, Outcome, outcome, guarded}
 use Rattle.refusals.specs.Refusals.{verdictOf}
-use Rattle.blocks.specs.Layout.{positions, labelCount}
+use Rattle.blocks.specs.Layout.{positions}
 use Rattle.psvn.specs.Rules.{applies, step}
-use Rattle.blocks.proofs.StateLaws.{labelled-length}
+use Rattle.blocks.proofs.StateLaws.{state-length}
 use Rattle.psvn_calls.specs.Applying.{Applied, done, does-not-apply, applyConditions, applyRule}
 use Rattle.psvn_calls.proofs.Conditions.{ApplyAccepted, apply-accepted}
 use Rattle.psvn_calls.proofs.applying.apply_rule.Statement.{statement}
 use Rattle.psvn_calls.proofs.applying.apply_rule.Tie as tie
 
 -- what stands against the call
-abbrev told-of : tie.Start → Answer (Unit {0})
-told-of s =
+abbrev verdict-of : tie.Start → Answer (Unit {0})
+verdict-of s =
     verdict (applyConditions (now (s .args .block)) (s .args .rule) (now (s .args .state)) (length (now (s .args .out))))
 
 -- the outcome by the verdict and by whether the rule applies
@@ -45,7 +45,7 @@ enum-told : tie.Need-enum-told
 enum-told c = search needs
 
 -- the call is accepted
-accepted : (c : tie.After-enum-told) → told-of (c .before .before .before .before .before .before) ≡ told tt
+accepted : (c : tie.After-enum-told) → verdict-of (c .before .before .before .before .before .before) ≡ told tt
 accepted c = sym (c .before .before .check-application .ensures) ∙ ap verdictOf (c .enum-told .given .1)
 
 abbrev Ready : tie.Start → Type 0
@@ -59,7 +59,7 @@ ready c =
 long : (c : tie.After-enum-told) → length (now (c .before .before .before .before .before .before .args .state)) ≡ positions (now (c .before .before .before .before .before .before .args .block))
 long c =
     let b = now (c .before .before .before .before .before .before .args .block) in
-    labelled-length (positions b) (labelCount b) (now (c .before .before .before .before .before .before .args .state)) (ready c .state)
+    state-length b (now (c .before .before .before .before .before .before .args .state)) (ready c .state)
 
 applies-requires : tie.Need-applies-requires
 applies-requires c κs = (ready c .valid .sized, ready c .rule, long c)

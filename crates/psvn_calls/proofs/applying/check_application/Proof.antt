@@ -19,8 +19,8 @@ use Rattle.psvn_calls.proofs.applying.check_application.Statement.{stat
 use Rattle.psvn_calls.proofs.applying.check_application.Tie as tie
 
 -- what stands against the call, and whether its rule number and its room are right
-abbrev told-of : tie.Start → Answer (Unit {0})
-told-of s = verdict (applyConditions (now (s .args .block)) (s .args .rule) (now (s .args .state)) (s .args .room))
+abbrev verdict-of : tie.Start → Answer (Unit {0})
+verdict-of s = verdict (applyConditions (now (s .args .block)) (s .args .rule) (now (s .args .state)) (s .args .room))
 
 abbrev rule-ok : tie.Start → Bool
 rule-ok s = ltb (s .args .rule) (rules (now (s .args .block)))
@@ -51,7 +51,7 @@ accepted c = sym (c .before .before .check-state .ensures) ∙ ap verdictOf (c .
 -- then rule number and room decide
 decided :
     (c : tie.After-enum-told) (rule room : Bool) → rule-ok (c .before .before .before .before .before) ≡ rule → room-ok (c .before .before .before .before .before) ≡ room
-    → told-of (c .before .before .before .before .before) ≡ verdict (9 unless rule ∷ 11 unless room ∷ [])
+    → verdict-of (c .before .before .before .before .before) ≡ verdict (9 unless rule ∷ 11 unless room ∷ [])
 unfolding applyConditions
 decided c rule room p q =
     let a = c .before .before .before .before .before .args in

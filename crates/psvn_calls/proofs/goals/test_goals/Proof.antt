@@ -6,9 +6,8 @@ use denote.Ref.{now}
 use borrow.Author.Needs.{needs}
 use Rattle.refusals.specs.Answers.{Answer, told, verdict, answered}
 use Rattle.refusals.specs.Refusals.{verdictOf}
-use Rattle.blocks.specs.Layout.{positions, labelCount}
 use Rattle.psvn.specs.Rules.{meets}
-use Rattle.blocks.proofs.StateLaws.{labelled-length}
+use Rattle.blocks.proofs.StateLaws.{state-length}
 use Rattle.psvn_calls.specs.Checking.{stateConditions}
 use Rattle.psvn_calls.specs.Goals.{testGoals}
 use Rattle.psvn_calls.proofs.Conditions.{StateAccepted, state-accepted}
@@ -40,7 +39,7 @@ ready c = state-accepted (now (c .before .before .before .before .before .args .
 meets-requires : tie.Need-meets-requires
 meets-requires c κs =
     let b = now (c .before .before .before .before .before .args .block) in
-    (ready c .valid .sized, labelled-length (positions b) (labelCount b) (now (c .before .before .before .before .before .args .state)) (ready c .state))
+    (ready c .valid .sized, state-length b (now (c .before .before .before .before .before .args .state)) (ready c .state))
 
 returns-2 : tie.Need-returns-2
 unfolding testGoals

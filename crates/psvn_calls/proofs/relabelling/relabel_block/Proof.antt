@@ -55,7 +55,7 @@ valid c = accepted-valid (now (c .before .before .before .before .before .args .
 decided :
     (c : tie.After-enum-told) (room : Bool)
     → leb (length (relabelBlock (now (c .before .before .before .before .before .args .block)))) (length (now (c .before .before .before .before .before .args .out))) ≡ room
-    → verdict (relabelConditions (now (c .before .before .before .before .before .args .block)) (now (c .before .before .before .before .before .args .out))) ≡ verdict (11 unless room ∷ [])
+    → verdict (relabelConditions (now (c .before .before .before .before .before .args .block)) (length (now (c .before .before .before .before .before .args .out)))) ≡ verdict (11 unless room ∷ [])
 unfolding relabelConditions
 decided c room p =
     verdict-behind (blockConditions (now (c .before .before .before .before .before .args .block))) _ (accepted c)

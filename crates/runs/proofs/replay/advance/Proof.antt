@@ -11,7 +11,7 @@ use borrow.Author.Needs.{needs}
 use Rattle.basics.specs.Lists.{atFront}
 use Rattle.basics.proofs.Lists.{front-whole, copied-whole}
 use Rattle.psvn.specs.Rules.{step}
-use Rattle.psvn.proofs.RunLaws.{step-length}
+use Rattle.psvn.proofs.Stepping.{step-length}
 use Rattle.runs.proofs.replay.advance.Statement.{statement}
 use Rattle.runs.proofs.replay.advance.Tie as tie
 

@@ -9,7 +9,7 @@ use denote.Ref.{now}
 use borrow.Author.Needs.{needs}
 use Rattle.basics.proofs.Lists.{front-taken}
 use Rattle.psvn.specs.Relabelling.{relabelBlock}
-use Rattle.psvn.proofs.Relabelled.{relabelled-length, states-relabelled}
+use Rattle.psvn.proofs.Relabelled.{relabelled-length, abstract-states-relabelled}
 use Rattle.distances.specs.LowerBounds as test
 use Rattle.tables.specs.Abstraction.{graphOf}
 use Rattle.tables.specs.Tables.{passesTest}
@@ -51,7 +51,7 @@ passes-relabelled-requires : tie.Need-passes-relabelled-requires
 passes-relabelled-requires c κs =
     let s = c .before .before .before .before .before .before .before in
     let b = now (s .args .block) in
-    rw (part c) (relabelled-block b (s .pre .0), omega (arith, states-relabelled b, s .pre .1))
+    rw (part c) (relabelled-block b (s .pre .0), omega (arith, abstract-states-relabelled b, s .pre .1))
 
 returns : tie.Need-returns
 unfolding passesTest

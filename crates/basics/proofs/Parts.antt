@@ -6,7 +6,7 @@ use Prim.Native.Nat.{ℕ, _≤_, _<_}
 use native.Mathlib.Omega.{arith}
 use lib.ListN.{set, length-set}
 use lib.Seq.{getD-set-other}
-use Rattle.basics.specs.Frames.{Outside}
+use Rattle.basics.specs.Parts.{Outside}
 
 pub outside-none : (low high : ℕ) (l : List ℕ) → Outside low high l l
 outside-none low high l = record { len = refl; before = λ j h. refl; behind = λ j h. refl }
