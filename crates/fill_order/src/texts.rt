@@ -34,7 +34,7 @@ fn front(buffer: &[u8], length: usize) -> &[u8] {
 
 // Reads an exercise and prints how it was filled.
 fn print_text(text: &[u8]) {
-    let mut block = [0u8; 2304];
+    let mut block = [0u8; blocks::layout::BLOCK_ROOM];
     let reading = frames::read_exercise(text, &mut block);
     match reading {
         Reading::Done(length) => print_fill(front(&block, length)),

@@ -77,7 +77,7 @@ pub fn fill(block: &[u8], table: &mut [u32]) -> bool
 {
     let length = layout::relabelled_length(block);
     let states = layout::abstract_states(block);
-    let mut relabelled = [0u8; 2304];
+    let mut relabelled = [0u8; layout::BLOCK_ROOM];
     relabel_block(block, &mut relabelled);
     fill_relabelled(&relabelled[..length], &mut table[..states])
 }

@@ -3,13 +3,12 @@
 ghost use mathlib.Core.Path.{_≡_};
 ghost use Prim.Native.Nat.{_≤_, _<_};
 ghost use lib.ListN.{length};
+use blocks::validity::MOST_STATES;
 
 // No state.
 pub const END: u16 = 65535;
 
-// How many states there can be, and where their next and previous states stand.
-const MOST: usize = 16384;
-
+// Where the next and the previous states stand.
 const NEXT: usize = 256;
 
 const PREVIOUS: usize = 16640;
@@ -50,7 +49,7 @@ pub fn list_with_state(links: &[u16; 33024], k: usize) -> usize
     let mut list = k;
     let mut left: usize = 256;
     while left > 0 {
-        if first(links, list) < MOST {
+        if first(links, list) < MOST_STATES {
             return list;
         }
         list = (list + 1) % 256;
@@ -67,7 +66,7 @@ pub fn put_in(links: &mut [u16; 33024], k: usize, u: usize)
     let after = index(head);
     links[NEXT + u] = head;
     links[PREVIOUS + u] = END;
-    if after < MOST {
+    if after < MOST_STATES {
         links[PREVIOUS + after] = link_to(u);
     }
     links[k] = link_to(u);
@@ -79,12 +78,12 @@ pub fn take_out(links: &mut [u16; 33024], k: usize, u: usize)
 {
     let before = links[PREVIOUS + u];
     let after = links[NEXT + u];
-    if index(before) < MOST {
+    if index(before) < MOST_STATES {
         links[NEXT + index(before)] = after;
     } else {
         links[k] = after;
     }
-    if index(after) < MOST {
+    if index(after) < MOST_STATES {
         links[PREVIOUS + index(after)] = before;
     }
 }

@@ -125,7 +125,7 @@ pub fn read_exercise(text: &[u8], out: &mut [u8]) -> Reading
     if let Verdict::Refused(refusal) = checked {
         return Reading::Refused(refusal);
     }
-    let mut block = [0u8; 2304];
+    let mut block = [0u8; layout::BLOCK_ROOM];
     let length = decode_lines(text, &mut block);
     let content = blocks::validity::check(&block[..length]);
     if let Verdict::Refused(refusal) = content {

@@ -88,7 +88,7 @@ pub fn passes(block: &[u8], table: &[u32]) -> bool
     ensures { λ x. ⌜ x ≡ passesTest (now (block .entry)) (now (table .entry)) ⌝ }
 {
     let length = layout::relabelled_length(block);
-    let mut relabelled = [0u8; 2304];
+    let mut relabelled = [0u8; layout::BLOCK_ROOM];
     relabel_block(block, &mut relabelled);
     passes_relabelled(&relabelled[..length], table)
 }
