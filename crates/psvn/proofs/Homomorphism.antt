@@ -131,6 +131,7 @@ module _
           ∙ sym (given-relabelled k (right k) l (okr k l) (bd k l))
           ∙ ap (λ (t : ℕ). given n side′ s′ k (termOf t)) (sym (q k l)))
 
+-- all positions have one map
 pub map-alike : (b : List ℕ) (i j x : ℕ) → mapAt b i x ≡ mapAt b j x
 unfolding mapAt
 map-alike b i j x = refl

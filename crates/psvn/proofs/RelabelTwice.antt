@@ -52,16 +52,15 @@ module _ (b : List ℕ) (v : Valid b) where
       go (dash e) = other (omega arith)
       go (refused a c) = other (omega arith)
 
-  -- a side that is right, and its relabelled side
-  module _
-      (side side′ : ℕ → ℕ) (ok : sideOk b side ≡ true)
-      (mapped : (i : ℕ) → i < positions b → side′ i ≡ relabelTerm (mapAt b i) (side i)) where
-    side-twice : relabelSide (relabelBlock b) side′ ≡ relabelSide b side
-    unfolding relabelSide
-    side-twice =
-        rw (positions-relabelled b)
-        (tabulate-ext (positions b) (λ i. relabelTerm (mapAt (relabelBlock b) i) (side′ i)) (λ i. relabelTerm (mapAt b i) (side i)) (λ i l.
-        ap (relabelTerm (mapAt (relabelBlock b) i)) (mapped i l) ∙ term-fixed i (side i) l (side-term b side ok i l)))
+  -- and so do the sides, the rules and the goals
+  side-twice :
+      (side side′ : ℕ → ℕ) → sideOk b side ≡ true → ((i : ℕ) → i < positions b → side′ i ≡ relabelTerm (mapAt b i) (side i))
+      → relabelSide (relabelBlock b) side′ ≡ relabelSide b side
+  unfolding relabelSide
+  side-twice side side′ ok mapped =
+      rw (positions-relabelled b)
+      (tabulate-ext (positions b) (λ i. relabelTerm (mapAt (relabelBlock b) i) (side′ i)) (λ i. relabelTerm (mapAt b i) (side i)) (λ i l.
+      ap (relabelTerm (mapAt (relabelBlock b) i)) (mapped i l) ∙ term-fixed i (side i) l (side-term b side ok i l)))
 
   rule-twice : (r : ℕ) → r < rules b → relabelRule (relabelBlock b) r ≡ relabelRule b r
   unfolding relabelRule

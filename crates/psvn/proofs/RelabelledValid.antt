@@ -33,17 +33,16 @@ module _ (b : List ℕ) (v : Valid b) where
       go (dash e) = rw (relabel-other (mapAt b i) t (omega arith), is-dash t e)
       go (refused a c) = absurd (false≢true (rw (is-refused t a c) at ok))
 
-  -- a side that is right, and its relabelled side
-  module _
-      (side side′ : ℕ → ℕ) (ok : sideOk b side ≡ true)
-      (mapped : (i : ℕ) → i < positions b → side′ i ≡ relabelTerm (mapAt b i) (side i)) where
-    side-relabelled : sideOk (relabelBlock b) side′ ≡ true
-    unfolding sideOk
-    side-relabelled =
-        rw (positions-relabelled b)
-        (all-intro (λ i. termOk (labelCount (relabelBlock b) i) (termOf (side′ i))) (positions b) (λ i l.
-        ap₂ (λ (k t : ℕ). termOk k (termOf t)) (label-count-relabelled b i) (mapped i l)
-        ∙ term-relabelled i (side i) l (side-term b side ok i l)))
+  -- and so is a relabelled side
+  side-relabelled :
+      (side side′ : ℕ → ℕ) → sideOk b side ≡ true → ((i : ℕ) → i < positions b → side′ i ≡ relabelTerm (mapAt b i) (side i))
+      → sideOk (relabelBlock b) side′ ≡ true
+  unfolding sideOk
+  side-relabelled side side′ ok mapped =
+      rw (positions-relabelled b)
+      (all-intro (λ i. termOk (labelCount (relabelBlock b) i) (termOf (side′ i))) (positions b) (λ i l.
+      ap₂ (λ (k t : ℕ). termOk k (termOf t)) (label-count-relabelled b i) (mapped i l)
+      ∙ term-relabelled i (side i) l (side-term b side ok i l)))
 
   -- the conditions on a block, one by one
   sizes-relabelled : Sizes (relabelBlock b)

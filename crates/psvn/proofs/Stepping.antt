@@ -1,4 +1,4 @@
--- States stay states: applying a rule keeps a valid state valid (`step-state`) and makes a state of n labels of any list (`step-length`), the relabelled state of a valid state is an abstract one
+-- States stay states: applying a rule keeps a valid state valid (`step-state`; n labels it has in any case: `step-length`), the relabelled state of a valid state is an abstract one
 -- (`relabelled-state`), and the abstract states are those of the relabelled block (`abstract-states`). Runs, searches and tables rest on these.
 use mathlib.Core.Path.{_≡_, refl, ap}
 use mathlib.Core.Bool.{Bool, true, _&&_}
@@ -40,6 +40,7 @@ module _
       go (refused a b) = rw (is-refused t a b) (below i l)
 
 module _ (b : List ℕ) where
+  -- all positions have the same labels
   pub count-alike : (i j : ℕ) → labelCount b i ≡ labelCount b j
   unfolding labelCount
   count-alike i j = refl
