@@ -1,5 +1,5 @@
 -- Rules and goals placed one after another: the two sides of a rule (`sides-placed`), a rule with its cost, which keeps the rules before it (`rule-placed`), a goal, which keeps those before it (`goal-kept`),
--- and the whole (`compiled`). The loops over rules and goals, and compiling a block, rest on these.
+-- and the whole (`compiled`). The loops over rules and goals, and compiling a block, rest on these; what is said of sides carries over to their numbers' other names (`named`).
 use mathlib.Core.Path.{_≡_, refl, ap, _∙_, subst}
 use mathlib.Core.List.{List}
 use Prim.Native.Nat.{ℕ, _+_, _*_, _%_, _≤_, _<_}
@@ -34,8 +34,8 @@ sides-placed n left right r words₀ moves₀ words₁ moves₁ words₂ moves�
           (outside-within (64 * r) (64 * r + 64) (omega arith) (omega arith) (q .moves));
     }
 
--- a side or two placed, their numbers by other names
-named :
+-- what is said of sides, their numbers by other names
+pub named :
     {n n′ l l′ s s′ : ℕ} (P : ℕ → (ℕ → ℕ) → (ℕ → ℕ) → Type 0) (b : List ℕ) → n ≡ n′ → l ≡ l′ → s ≡ s′
     → P n (sideAt b l) (sideAt b s) → P n′ (sideAt b l′) (sideAt b s′)
 named {n} {n′} {l} {l′} {s} {s′} P b e f g p =

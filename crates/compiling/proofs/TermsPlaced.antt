@@ -1,6 +1,6 @@
 -- Where a term takes its label from (`taken-variable`, `taken-dash`, `taken-refused`), and one term more of a side on the way, in four cases: a constant
 -- (`constant-more`), a position that keeps its label (`kept-more`), a move (`move-more`), and a variable that stands nowhere on the left (`unbound-more`).
--- The functions that add a term rest on these.
+-- The functions that add a term rest on these, and on `label-lt`.
 use mathlib.Core.Path.{_≡_, refl, sym, ap, ap₂, _∙_}
 use mathlib.Core.Logic.{_⊎_, ⊎-elim}
 use mathlib.Core.List.{List}
@@ -46,7 +46,7 @@ labelIn (Variable v) = 0
 labelIn Dash = 0
 labelIn Refused = 0
 
-label-lt : (byte : ℕ) (c : ConcreteLabel) → termOf byte ≡ Label c → c .0 < 16
+pub label-lt : (byte : ℕ) (c : ConcreteLabel) → termOf byte ≡ Label c → c .0 < 16
 label-lt byte c e = rw (sym (ap labelIn e)) (go (view byte))
   where
     go : View byte → labelIn (termOf byte) < 16

@@ -10,6 +10,7 @@ mod placing_weights;
 use placing_sides::place_goals;
 use placing_sides::place_rules;
 pub use placing_sides::place_sides;
+pub use placing_weights::place_singles;
 use placing_weights::place_weights;
 
 // Compiles an accepted block.

@@ -27,7 +27,8 @@ fn place_row(block: &[u8], i: usize, p: usize, singles: &mut [u16; 256])
 }
 
 // Writes the weights of single labels, from the last position on: a label counts as often as there are lists of abstract labels for the positions behind it.
-fn place_singles(block: &[u8], singles: &mut [u16; 256])
+// What a rule adds to a rank is made of these too.
+pub fn place_singles(block: &[u8], singles: &mut [u16; 256])
     requires { ⌜ Valid (now block) × (length (now singles) ≡ 256) × ((k : ℕ) → getD (now singles) k 0 ≡ 0) ⌝ }
     ensures { λ _. ⌜ Singles (now (block .entry)) (now (singles .exit)) ⌝ }
 {
@@ -53,7 +54,7 @@ fn place_pairs(singles: &[u16; 256], weights: &mut [u16; 2048])
     }
 }
 
-// Writes the weights. Those of single labels are needed here alone: a rank is summed by pairs, in half the steps.
+// Writes the weights. Those of single labels are not kept: a rank is summed by pairs, in half the steps.
 pub fn place_weights(block: &[u8], weights: &mut [u16; 2048])
     requires { ⌜ Valid (now block) × (length (now weights) ≡ 2048) ⌝ }
     ensures { λ _. ⌜ Weighted (now (block .entry)) (now (weights .exit)) ⌝ }

@@ -5,18 +5,17 @@ use mathlib.Core.Path.{_≡_, refl, sym, ap, ap₂, _∙_}
 use mathlib.Core.Logic.{_⊎_, inl, inr, ⊎-elim}
 use mathlib.Core.Bool.{Bool, true, false}
 use mathlib.Core.List.{List}
-use Prim.Native.Nat.{ℕ, zero, suc, _+_, _-_, _*_, _/_, _^_, _≤_, _<_}
-use native.Mathlib.Nat.{add-assoc, mul-assoc, add-mul, mul-one, zero-mul}
+use Prim.Native.Nat.{ℕ, zero, suc, _+_, _*_, _/_, _^_, _≤_, _<_}
+use native.Mathlib.Nat.{add-assoc}
 use native.Mathlib.Omega.{arith}
 use lib.Bits.{bitAnd}
 use lib.Dec.{eqb}
 use lib.ListN.{getD}
 use borrow.Author.Tests.{eq-eqb, eqb-true}
-use Rattle.basics.specs.Digits.{valueTo}
 use Rattle.basics.proofs.Truth.{true-false, and-true, and-intro, not-so}
 use Rattle.basics.proofs.Bounded.{some-ext}
 use Rattle.basics.proofs.Comparing.{same?}
-use Rattle.blocks.specs.Layout.{positions, rules, goals, labelCount, abstractCount, mapAt, costOf, goalOf}
+use Rattle.blocks.specs.Layout.{positions, rules, goals, labelCount, abstractCount, costOf, goalOf}
 use Rattle.blocks.specs.Validity.{Headed}
 use Rattle.blocks.specs.States.{stateOk}
 use Rattle.blocks.proofs.StateLaws.{labelled-length, labelled-at, state-length, state-label, abstract-count-low, label-below}
@@ -24,14 +23,13 @@ use Rattle.psvn.specs.Rules.{matches, applies, step, goalMet, meets}
 use Rattle.psvn.specs.Relabelling.{relabelState}
 use Rattle.psvn.specs.Ranks.{rank, unrank}
 use Rattle.psvn.proofs.Making.{matches-itself, itself-matches}
-use Rattle.psvn.proofs.Relabelled.{relabelled-label}
 use Rattle.psvn.proofs.RankLaws.{unrank-abstract}
 use Rattle.words.specs.Packing.{digit, digitPair, pack, unpack}
 use Rattle.words.specs.Sides.{maskAt, valueAt, goalPlace, rewrittenWord, matchesWord, appliesWord, stepWord, costWord, meetsWord}
-use Rattle.words.specs.Ranking.{rankPairs, rankWord, wordOf, placeValue, weightOf}
+use Rattle.words.specs.Ranking.{rankPairs, rankWord, wordOf, weightOf}
 use Rattle.words.specs.Compiled.{Sided, Compiled}
 use Rattle.words.proofs.WordDigits.{Small, digit-lt, pack-below, unpack-pack, unpack-injective, unpack-length, unpack-at}
-use Rattle.words.proofs.WordRanks.{place-more, place-last}
+use Rattle.words.proofs.WordRanks.{labelsRank, labels-rank}
 
 -- the pairs that n positions make, and the position that is left where n is odd
 even-or-odd : (n : ℕ) → (2 * (n / 2) ≡ n) ⊎ (suc (2 * (n / 2)) ≡ n)
@@ -57,11 +55,6 @@ matches-word n side words moves x s w l = go (matches n side (unpack n w)) refl
         true-false (itself-matches n side (unpack n w) (sym (s .makes w l) ∙ ap (unpack n) same)) e)
         ∙ sym e
 
--- the weights of a word's first j labels together
-abbrev labelsRank : List ℕ → ℕ → ℕ → ℕ
-labelsRank b w zero = 0
-labelsRank b w (suc j) = labelsRank b w j + weightOf b j (digit w j)
-
 module _ {b words moves weights : List ℕ} (c : Compiled b words moves weights) where
   pub applies-word :
       (r w : ℕ) → r < rules b → w < 16 ^ positions b → appliesWord words moves r w ≡ applies b r (unpack (positions b) w)
@@ -86,60 +79,40 @@ module _ {b words moves weights : List ℕ} (c : Compiled b words moves weights)
       matches-word (positions b) (goalOf b g) words moves (goalPlace g) (c .goal g lg) w l)
 
   module _ (w : ℕ) (ok : stateOk b (unpack (positions b) w) ≡ true) where
-    label-of : (j : ℕ) → j < positions b → getD (relabelState b (unpack (positions b) w)) j 0 ≡ mapAt b j (digit w j)
-    label-of j l =
-        relabelled-label b (unpack (positions b) w) j l ∙ ap (mapAt b j) (unpack-at (positions b) w j l)
-
-    -- the weights of the first j labels: the number of the labels before position j, times what they count
-    sum-placed :
-        (j : ℕ) → j ≤ positions b
-        → labelsRank b w j ≡ valueTo (abstractCount b) (relabelState b (unpack (positions b) w)) j * placeValue (abstractCount b) j (positions b - j)
-    sum-placed zero l = sym (zero-mul (placeValue (abstractCount b) 0 (positions b - 0)))
-    sum-placed (suc j) l =
-        let n = positions b in
-        let base = abstractCount b in
-        let u = relabelState b (unpack n w) in
-        let p = placeValue base (suc j) (n - suc j) in
-        ap₂ _+_
-        (sum-placed j (omega arith) ∙ ap (λ (y : ℕ). valueTo base u j * y) (place-more base n j l)
-        ∙ sym (mul-assoc (valueTo base u j) (base j) p))
-        (ap (λ (y : ℕ). y * p) (sym (label-of j l)))
-        ∙ sym (add-mul (valueTo base u j * base j) (getD u j 0) p)
-
     digit-low : (j : ℕ) → j < positions b → digit w j < labelCount b j
     digit-low j l =
         omega (arith, state-label b (unpack (positions b) w) ok j l, unpack-at (positions b) w j l)
 
+    weight-at : (j : ℕ) → j < positions b → weightOf b j (digit w j) ≡ weightOf b j (getD (unpack (positions b) w) j 0)
+    weight-at j l = ap (weightOf b j) (sym (unpack-at (positions b) w j l))
+
     -- the weights of the pairs are those of their labels
-    pairs-sum : (k : ℕ) → 2 * k ≤ positions b → rankPairs weights k w ≡ labelsRank b w (2 * k)
+    pairs-sum : (k : ℕ) → 2 * k ≤ positions b → rankPairs weights k w ≡ labelsRank b (unpack (positions b) w) (2 * k)
     unfolding rankPairs digitPair
     pairs-sum zero l = refl
     pairs-sum (suc k) l =
         let two : suc (suc (2 * k)) ≡ 2 * suc k = omega arith in
-        let first = weightOf b (2 * k) (digit w (2 * k)) in
-        let second = weightOf b (suc (2 * k)) (digit w (suc (2 * k))) in
-        ap₂ _+_ (pairs-sum k (omega arith))
-        (c .weighted .pair k (digit w (2 * k)) (digit w (suc (2 * k))) (omega arith) (digit-low (2 * k) (omega arith)) (digit-low (suc (2 * k)) (omega arith)))
-        ∙ sym (add-assoc (labelsRank b w (2 * k)) first second) ∙ ap (labelsRank b w) two
+        let sum = labelsRank b (unpack (positions b) w) in
+        let first = weight-at (2 * k) (omega arith) in
+        let second = weight-at (suc (2 * k)) (omega arith) in
+        let pair = c .weighted .pair k (digit w (2 * k)) (digit w (suc (2 * k))) (omega arith) (digit-low (2 * k) (omega arith)) (digit-low (suc (2 * k)) (omega arith)) in
+        ap₂ _+_ (pairs-sum k (omega arith)) (pair ∙ ap₂ _+_ first second) ∙ sym (add-assoc (sum (2 * k)) _ _) ∙ ap sum two
 
-    all-pairs : (k : ℕ) → (2 * k ≡ positions b) ⊎ (suc (2 * k) ≡ positions b) → rankWord weights (positions b) w ≡ labelsRank b w (positions b)
+    all-pairs : (k : ℕ) → (2 * k ≡ positions b) ⊎ (suc (2 * k) ≡ positions b) → rankWord weights (positions b) w ≡ labelsRank b (unpack (positions b) w) (positions b)
     unfolding rankWord rankPairs digitPair
     all-pairs k (inl e) =
         let half : (positions b + 1) / 2 ≡ k = omega arith in
-        ap (λ (j : ℕ). rankPairs weights j w) half ∙ pairs-sum k (omega arith) ∙ ap (labelsRank b w) e
+        ap (λ (j : ℕ). rankPairs weights j w) half ∙ pairs-sum k (omega arith) ∙ ap (labelsRank b (unpack (positions b) w)) e
     all-pairs k (inr e) =
         let half : (positions b + 1) / 2 ≡ suc k = omega arith in
         ap (λ (j : ℕ). rankPairs weights j w) half
         ∙ ap₂ _+_ (pairs-sum k (omega arith))
-        (c .weighted .last k (digit w (2 * k)) (digit w (suc (2 * k))) e (digit-low (2 * k) (omega arith)) (digit-lt w (suc (2 * k))))
-        ∙ ap (labelsRank b w) e
+        (c .weighted .last k (digit w (2 * k)) (digit w (suc (2 * k))) e (digit-low (2 * k) (omega arith)) (digit-lt w (suc (2 * k)))
+        ∙ weight-at (2 * k) (omega arith))
+        ∙ ap (labelsRank b (unpack (positions b) w)) e
 
     pub rank-word : rankWord weights (positions b) w ≡ rank b (relabelState b (unpack (positions b) w))
-    unfolding rank
-    rank-word =
-        let n = positions b in
-        let value = valueTo (abstractCount b) (relabelState b (unpack n w)) n in
-        all-pairs (n / 2) (even-or-odd n) ∙ sum-placed n (omega arith) ∙ ap (λ (y : ℕ). value * y) (place-last (abstractCount b) n) ∙ mul-one value
+    rank-word = all-pairs (positions b / 2) (even-or-odd (positions b)) ∙ labels-rank b (unpack (positions b) w)
 
 -- the words of states and of ranks
 module _ {b : List ℕ} (h : Headed b) where

@@ -1,13 +1,23 @@
 -- Ranks by words: one digit more of the word of a rank (`word-more`); place values, from the last position on (`place-last`, `place-more`), stay within the number
--- of states (`place-below`). The word of a rank, what the weights mean, and writing them rest on these.
-use mathlib.Core.Path.{_≡_, sym, ap, _∙_}
+-- of states (`place-below`); the weights of a state's labels together are the rank of its relabelled state (`labels-rank`), and weights of pairs mean the same at the front of a longer array
+-- (`weighted-front`). The word of a rank, what the weights mean, writing them, and what rules add to ranks rest on these.
+use mathlib.Core.Path.{_≡_, sym, ap, ap₂, _∙_}
+use mathlib.Core.List.{List}
 use Prim.Native.Nat.{ℕ, zero, suc, _+_, _-_, _*_, _/_, _%_, _^_, _≤_, _<_}
-use native.Mathlib.Nat.{pow-succ', mul-assoc, add-mul, mul-one, mul-le-mul-right, one-mul, add-zero, suc-add, add-suc}
+use native.Mathlib.Nat.{pow-succ', mul-assoc, add-mul, mul-one, mul-le-mul-right, one-mul, zero-mul, add-zero, suc-add, add-suc}
 use native.Mathlib.Omega.{arith}
-use Rattle.basics.specs.Digits.{digits, span}
+use lib.ListN.{getD}
+use Rattle.basics.specs.Digits.{valueTo, digits, span}
 use Rattle.basics.proofs.Digits.{length-digits}
+use Rattle.blocks.specs.Layout.{positions, abstractCount}
+use Rattle.blocks.specs.Validity.{Headed}
+use Rattle.blocks.proofs.StateLaws.{label-count-low}
+use Rattle.psvn.specs.Relabelling.{relabelState}
+use Rattle.psvn.specs.Ranks.{rank}
+use Rattle.psvn.proofs.Relabelled.{relabelled-label}
 use Rattle.words.specs.Packing.{pack}
-use Rattle.words.specs.Ranking.{placeValue}
+use Rattle.words.specs.Ranking.{placeValue, weightOf}
+use Rattle.words.specs.Compiled.{Weighted}
 use Rattle.words.proofs.WordDigits.{pack-last}
 
 -- the digits from i on stand in the word, and those of the rest are still to come: one digit more
@@ -53,3 +63,46 @@ module _ (base : ℕ → ℕ) where
         let e : i + (n - i) ≡ n = omega arith in
         let m = mul-le-mul-right (placeValue base i (n - i)) (span-positive i) in
         omega (arith, one-mul (placeValue base i (n - i)), span-placed (n - i) i, ap (span base) e)
+
+-- the weights of a state's first j labels together
+abbrev pub labelsRank : List ℕ → List ℕ → ℕ → ℕ
+labelsRank b s zero = 0
+labelsRank b s (suc j) = labelsRank b s j + weightOf b j (getD s j 0)
+
+module _ (b s : List ℕ) where
+  -- they are the number of the labels before position j, times what they count
+  sum-placed :
+      (j : ℕ) → j ≤ positions b
+      → labelsRank b s j ≡ valueTo (abstractCount b) (relabelState b s) j * placeValue (abstractCount b) j (positions b - j)
+  sum-placed zero l = sym (zero-mul (placeValue (abstractCount b) 0 (positions b - 0)))
+  sum-placed (suc j) l =
+      let n = positions b in
+      let base = abstractCount b in
+      let u = relabelState b s in
+      let p = placeValue base (suc j) (n - suc j) in
+      ap₂ _+_
+      (sum-placed j (omega arith) ∙ ap (λ (y : ℕ). valueTo base u j * y) (place-more base n j l)
+      ∙ sym (mul-assoc (valueTo base u j) (base j) p))
+      (ap (λ (y : ℕ). y * p) (sym (relabelled-label b s j l)))
+      ∙ sym (add-mul (valueTo base u j * base j) (getD u j 0) p)
+
+  pub labels-rank : labelsRank b s (positions b) ≡ rank b (relabelState b s)
+  unfolding rank
+  labels-rank =
+      let n = positions b in
+      let value = valueTo (abstractCount b) (relabelState b s) n in
+      sum-placed n (omega arith) ∙ ap (λ (y : ℕ). value * y) (place-last (abstractCount b) n) ∙ mul-one value
+
+-- the weights of pairs at the front of a longer array
+pub weighted-front :
+    {b pairs weights : List ℕ} → Headed b → Weighted b pairs → ((k : ℕ) → k < 2048 → getD weights k 0 ≡ getD pairs k 0)
+    → Weighted b weights
+weighted-front {b} h w same =
+    let n = h .sizes .n-high in
+    record {
+      pair = λ j x y l lx ly.
+          same (256 * j + (y * 16 + x)) (omega (arith, label-count-low b h (2 * j), label-count-low b h (suc (2 * j))))
+          ∙ w .pair j x y l lx ly;
+      last = λ j x y e lx ly.
+          same (256 * j + (y * 16 + x)) (omega (arith, label-count-low b h (2 * j))) ∙ w .last j x y e lx ly;
+    }

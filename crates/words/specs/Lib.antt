@@ -4,3 +4,4 @@ pub mod Packing
 pub mod Sides
 pub mod Ranking
 pub mod Compiled
+pub mod Changes

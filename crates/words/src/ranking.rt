@@ -1,7 +1,7 @@
 // Ranks of abstract states, by words: the sum of what each pair of labels adds, and the word of a rank.
 ghost use mathlib.Core.Path.{_≡_};
 ghost use Prim.Native.Nat.{_+_, _*_, _≤_, _<_};
-ghost use lib.ListN.{getD};
+ghost use lib.ListN.{length, getD};
 ghost use Rattle.blocks.specs.Layout.{abstractStates};
 ghost use Rattle.blocks.specs.Validity.{Headed};
 ghost use Rattle.words.specs.Ranking.{rankWord, wordOf};
@@ -10,23 +10,23 @@ use super::packing::first_pair;
 use blocks::layout;
 
 // What the labels of pair j add to the rank: the weights of their two abstract labels, which the map gave and whose sum was stored when the block was compiled.
-fn weight(weights: &[u16; 2048], j: usize, pair: ConcretePair) -> usize
-    requires { ⌜ (j < 8) × (pair .0 < 256) ⌝ }
+fn weight(weights: &[u16], j: usize, pair: ConcretePair) -> usize
+    requires { ⌜ (2048 ≤ length (now weights)) × (j < 8) × (pair .0 < 256) ⌝ }
     ensures { λ r. ⌜ (r ≡ getD (now (weights .entry)) (256 * j + pair .0) 0) × (r ≤ 65535) ⌝ }
 {
     wide_weight(weights[256 * j + pair.0 as usize])
 }
 
 // A weight as an index.
-fn wide_weight(weight: u16) -> usize
+pub fn wide_weight(weight: u16) -> usize
     ensures { λ r. ⌜ (r ≡ weight) × (r ≤ 65535) ⌝ }
 {
     weight as usize
 }
 
 // The rank of the relabelled state of a word of n labels.
-pub fn rank_word(weights: &[u16; 2048], n: usize, word: u64) -> usize
-    requires { ⌜ n ≤ 16 ⌝ }
+pub fn rank_word(weights: &[u16], n: usize, word: u64) -> usize
+    requires { ⌜ (2048 ≤ length (now weights)) × (n ≤ 16) ⌝ }
     ensures { λ r. ⌜ r ≡ rankWord (now (weights .entry)) n word ⌝ }
 {
     let pairs = (n + 1) / 2;

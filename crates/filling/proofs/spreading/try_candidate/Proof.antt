@@ -54,7 +54,7 @@ lower-requires : tie.Need-lower-requires
 lower-requires c κs =
     let t = c .before .before .before in
     let u = t .before .before in
-    let d = u .before .before .before in
+    let d = u .before .before .before .before in
     let f = d .before .before .before in
     let s = f .before .before .before .before in
     let a = s .args in

@@ -17,14 +17,14 @@ use Rattle.tables.proofs.edges.via.Tie as tie
 -- where the rule leads
 led :
     (c : tie.After-rank-word)
-    → (c .rank-word .result ≡ stepRank (now (c .before .before .before .before .before .before .before .args .block)) (c .before .before .before .before .before .before .before .args .u) (c .before .before .before .before .before .before .before .args .r))
-    × (c .rank-word .result < abstractStates (now (c .before .before .before .before .before .before .before .args .block)))
+    → (c .rank-word .result ≡ stepRank (now (c .before .before .before .before .before .before .before .before .args .block)) (c .before .before .before .before .before .before .before .before .args .u) (c .before .before .before .before .before .before .before .before .args .r))
+    × (c .rank-word .result < abstractStates (now (c .before .before .before .before .before .before .before .before .args .block)))
 led c =
-    let s = c .before .before .before .before .before .before .before in
+    let s = c .before .before .before .before .before .before .before .before in
     let a = s .args in
     leads-to (now (a .block)) (now (a .words)) (now (a .moves)) (now (a .weights)) (s .pre .0 .0) (a .u) (a .word) (a .r) (s .pre .1 .1) (s .pre .1 .2)
     (c .before .before .positions .result) (c .before .step-word .result) (c .rank-word .result)
-    (sym (c .before .before .before .before .applies-word .ensures) ∙ not-false _ (c .before .before .before .if1 .left))
+    (sym (c .before .before .before .before .before .applies-word .ensures) ∙ not-false _ (c .before .before .before .before .if1 .left))
     (c .before .before .positions .ensures .0) (c .before .step-word .ensures) (c .rank-word .ensures)
 
 applies-word-requires : tie.Need-applies-word-requires
@@ -64,7 +64,7 @@ add-result c = search needs
 returns-2 : tie.Need-returns-2
 returns-2 c =
     let d = c .before .before .before .before in
-    let s = d .before .before .before .before .before .before .before in
+    let s = d .before .before .before .before .before .before .before .before in
     let a = s .args in
     let k = led d in
     let q = via-at (graphOf (now (a .block))) (now (a .table)) (a .u) (a .r) (d .rank-word .result) (k .0) (k .1) (c .before .before .if2 .taken) in
@@ -74,7 +74,7 @@ returns-2 c =
 returns-3 : tie.Need-returns-3
 returns-3 c =
     let d = c .before .before in
-    let a = d .before .before .before .before .before .before .before .args in
+    let a = d .before .before .before .before .before .before .before .before .args in
     let k = led d in
     sym (via-marked (graphOf (now (a .block))) (now (a .table)) (a .u) (a .r) (d .rank-word .result) (k .0) (k .1) (c .if2 .left))
 

@@ -25,7 +25,7 @@ add-pairs c = search needs
 
 loop-holds : tie.Need-loop-holds Inv-loop μ-loop
 unfolding rankPairs
-loop-holds c = (search needs, sym (div-one (c .args .word)), refl, search needs)
+loop-holds c = (search needs, sym (div-one (c .before .args .word)), refl, search needs)
 
 first-pair-requires : tie.Need-first-pair-requires Inv-loop μ-loop
 first-pair-requires c κs = search needs
@@ -45,7 +45,7 @@ loop-less c = search needs
 loop-again : tie.Need-loop-again Inv-loop μ-loop
 unfolding rankPairs
 loop-again c =
-    let a = c .before .before .before .before .args in
+    let a = c .before .before .before .before .before .args in
     let j = c .before .before .before .loop .j in
     let inv = c .before .before .before .loop .inv in
     let d = c .before .first-pair .ensures .0 ∙ ap (λ (x : ℕ). x % 256) (inv .1) ∙ pair-byte (a .word) j in (
@@ -60,7 +60,7 @@ loop-again c =
 returns : tie.Need-returns Inv-loop μ-loop
 unfolding rankWord
 returns c =
-    let a = c .before .before .args in
+    let a = c .before .before .before .args in
     let e : c .before .loop .j ≡ (a .n + 1) / 2 = omega arith in
     c .before .loop .inv .2 ∙ ap (λ (k : ℕ). rankPairs (now (a .weights)) k (a .word)) e
 

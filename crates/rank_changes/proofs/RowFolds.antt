@@ -1,0 +1,87 @@
+-- Rows folded into the constant: none of them (`folded-none`), some after others (`folded-then`), and the row of a position whose left term is a constant (`row-folded`).
+-- Folded rows are balanced for the states that match the left side (`balanced-folded`). The functions that fold, and the rank after a rule, rest on these.
+use mathlib.Core.Path.{_≡_, refl, sym, ap, _∙_}
+use mathlib.Core.Logic.{⊎-elim}
+use mathlib.Core.Bool.{true}
+use mathlib.Core.List.{List}
+use Prim.Native.Nat.{ℕ, _+_, _*_, _%_, _<_}
+use native.Mathlib.Omega.{arith}
+use lib.ListN.{getD}
+use Rattle.basics.proofs.Comparing.{below?}
+use Rattle.blocks.specs.Terms.{termOf}
+use Rattle.blocks.specs.Layout.{sideAt}
+use Rattle.blocks.specs.declared.labels.ConcreteLabel.{ConcreteLabel}
+use Rattle.blocks.specs.declared.terms.Term.the-variants.{Label}
+use Rattle.psvn.specs.Rules.{given, matches}
+use Rattle.psvn.proofs.Matching.{at-position}
+use Rattle.compiling.proofs.RulesPlaced.{named}
+use Rattle.rank_changes.specs.Rows.{total, entry, entryOf, Low, Balanced}
+use Rattle.rank_changes.specs.Folds.{RowCleared, Folded}
+use Rattle.rank_changes.proofs.RowSums.{total-one}
+
+-- the rows fall by d, by which the constant grows
+moved :
+    (constant rows rows′ d : ℕ) → rows % 16384 ≡ (rows′ + d) % 16384 → ((constant + d) % 16384 + rows′) % 16384 ≡ (constant + rows) % 16384
+moved constant rows rows′ d e = omega arith
+
+-- the weights with what is added
+with-weights :
+    (weights constant rows constant′ rows′ : ℕ) → (constant′ + rows′) % 16384 ≡ (constant + rows) % 16384
+    → (weights + constant′ + rows′) % 16384 ≡ (weights + constant + rows) % 16384
+with-weights weights constant rows constant′ rows′ e = omega arith
+
+module _ (n : ℕ) (left : ℕ → ℕ) where
+  pub folded-none : {rows : List ℕ} {constant : ℕ} → Low rows → constant < 16384 → Folded n left rows constant rows constant
+  folded-none low l = record { sum = λ s small m. refl; low = low; constant-low = l }
+
+  pub folded-then :
+      {rows₀ rows₁ rows₂ : List ℕ} {constant₀ constant₁ constant₂ : ℕ} → Folded n left rows₀ constant₀ rows₁ constant₁
+      → Folded n left rows₁ constant₁ rows₂ constant₂ → Folded n left rows₀ constant₀ rows₂ constant₂
+  folded-then f g =
+      record { sum = λ s small m. g .sum s small m ∙ f .sum s small m; low = g .low; constant-low = g .constant-low }
+
+  pub row-folded :
+      {rows rows′ : List ℕ} (constant p : ℕ) → p < n → (c : ConcreteLabel) (x : ℕ) → termOf (left p) ≡ Label c → x ≡ c .0 → RowCleared p rows rows′
+      → Folded n left rows constant rows′ ((constant + entry rows p x) % 16384)
+  row-folded {rows} {rows′} constant p l c x e f cleared =
+      record {
+        sum = λ s small m.
+            moved constant (total (entryOf rows s) n) (total (entryOf rows′ s) n) (entry rows p x)
+            (total-one (entryOf rows′ s) (entryOf rows s) p (entry rows p x) n l (kept s small) (fell s small m));
+        low = cleared .low;
+        constant-low = omega arith;
+      }
+    where
+      -- the label of a state that matches
+      label-is : (s : List ℕ) → matches n left s ≡ true → getD s p 0 ≡ x
+      label-is s m = at-position n left s m p l ∙ ap (given n left s p) e ∙ sym f
+
+      fell :
+          (s : List ℕ) → ((p : ℕ) → p < n → getD s p 0 < 16) → matches n left s ≡ true
+          → entryOf rows s p % 16384 ≡ (entryOf rows′ s p + entry rows p x) % 16384
+      fell s small m =
+          omega (arith, ap (entry rows p) (label-is s m), cleared .none (getD s p 0) (small p l))
+
+      kept :
+          (s : List ℕ) → ((p : ℕ) → p < n → getD s p 0 < 16) → (k : ℕ) → k < n → (k ≡ p → ⊥) → entryOf rows s k ≡ entryOf rows′ s k
+      kept s small k m q =
+          let x = small k m in
+          ⊎-elim (λ h. sym (cleared .rows .before (16 * k + getD s k 0) (omega arith))) (λ h. sym (cleared .rows .behind (16 * k + getD s k 0) (omega arith)))
+          (below? k p)
+
+  -- the weights of the labels that the right side's terms give, for a state that matches
+  pub balanced-folded :
+      {right : ℕ → ℕ} {singles rows₀ rows₁ : List ℕ} {constant₀ constant₁ i : ℕ} → Balanced n left right singles rows₀ constant₀ i
+      → Folded n left rows₀ constant₀ rows₁ constant₁ → (s : List ℕ) → ((p : ℕ) → p < n → getD s p 0 < 16) → matches n left s ≡ true
+      → (total (entryOf singles s) n + constant₁ + total (entryOf rows₁ s) n) % 16384
+      ≡ total (λ k. entry singles k (given n left s k (termOf (right k)))) i % 16384
+  balanced-folded {singles = singles} {rows₀ = rows₀} {rows₁ = rows₁} {constant₀ = constant₀} {constant₁ = constant₁} balanced folded s small m =
+      with-weights (total (entryOf singles s) n) constant₀ (total (entryOf rows₀ s) n) constant₁ (total (entryOf rows₁ s) n) (folded .sum s small m)
+      ∙ balanced .sum s small
+
+-- the same by other names
+pub folded-as :
+    {n n′ l l′ constant₀ constant₁ : ℕ} {rows₀ rows₁ : List ℕ} (b : List ℕ) → n ≡ n′ → l ≡ l′
+    → Folded n (sideAt b l) rows₀ constant₀ rows₁ constant₁ → Folded n′ (sideAt b l′) rows₀ constant₀ rows₁ constant₁
+folded-as {constant₀ = constant₀} {constant₁ = constant₁} {rows₀ = rows₀} {rows₁ = rows₁} b e f =
+    named (λ n l r. Folded n l rows₀ constant₀ rows₁ constant₁) b e f f

@@ -1,0 +1,67 @@
+-- `rank_changes::changing::copy_pairs` meets its contract.
+-- The loop's invariant: the weights passed are copied.
+use mathlib.Core.Path.{_≡_, refl, _∙_}
+use Prim.Native.Nat.{ℕ, _-_, _≤_, _<_}
+use native.Mathlib.Omega.{arith}
+use denote.Ref.{now}
+use lib.ListN.{length, getD, length-set}
+use Rattle.basics.proofs.Lists.{set-more}
+use borrow.Author.Needs.{needs}
+use Rattle.rank_changes.proofs.changing.copy_pairs.Statement.{statement}
+use Rattle.rank_changes.proofs.changing.copy_pairs.Tie as tie
+
+abbrev Inv-loop : tie.InvT-loop
+Inv-loop pairs weights₀ k₀ weights k =
+    (k ≤ 2048) × (length weights ≡ 19584) × ((j : ℕ) → j < k → getD weights j 0 ≡ getD pairs j 0)
+
+abbrev μ-loop : tie.MeasureT-loop
+μ-loop pairs weights₀ k₀ weights k = 2048 - k
+
+loop-holds : tie.Need-loop-holds Inv-loop μ-loop
+loop-holds c = (search needs, c .pre, λ j l. absurd (omega arith))
+
+mul-weights : tie.Need-mul-weights Inv-loop μ-loop
+mul-weights c = search needs
+
+element-copy-out-weights : tie.Need-element-copy-out-weights Inv-loop μ-loop
+element-copy-out-weights c = search needs
+
+mul-weights-2 : tie.Need-mul-weights-2 Inv-loop μ-loop
+mul-weights-2 c = search needs
+
+element-write-weights : tie.Need-element-write-weights Inv-loop μ-loop
+element-write-weights c = search needs
+
+add-k : tie.Need-add-k Inv-loop μ-loop
+add-k c = search needs
+
+loop-less : tie.Need-loop-less Inv-loop μ-loop
+loop-less c = search needs
+
+loop-again : tie.Need-loop-again Inv-loop μ-loop
+loop-again c =
+    let l = c .before .before .loop in
+    let f : ℕ → ℕ = λ j. getD (now (c .before .before .before .args .pairs)) j 0 in (
+      search needs,
+      length-set (l .weights) (l .k) (f (l .k)) ∙ l .inv .1,
+      set-more f (l .weights) (l .k) (f (l .k)) (l .inv .2) (omega arith) refl,
+    )
+
+returns : tie.Need-returns Inv-loop μ-loop
+returns c = record { len = c .before .loop .inv .1; pair = λ k l. c .before .loop .inv .2 k (omega arith) }
+
+pub copy-pairs-spec : {M : Type 1} → statement M
+copy-pairs-spec =
+    tie.close
+    (tie.spec
+    Inv-loop
+    μ-loop
+    loop-holds
+    mul-weights
+    element-copy-out-weights
+    mul-weights-2
+    element-write-weights
+    add-k
+    loop-less
+    loop-again
+    returns)

@@ -1,0 +1,27 @@
+-- `rank_changes::place_changes` meets its contract.
+-- The changes of the rules leave the weights of pairs in front of them.
+use mathlib.Core.Path.{refl, _∙_}
+use Rattle.compiling.proofs.WeightsPlaced.{zeros}
+use Rattle.rank_changes.proofs.RankAfter.{changed}
+use borrow.Author.Needs.{needs}
+use Rattle.rank_changes.proofs.place_changes.Statement.{statement}
+use Rattle.rank_changes.proofs.place_changes.Tie as tie
+
+place-singles-requires : tie.Need-place-singles-requires
+place-singles-requires c κs = (c .before .before .pre .0, refl, zeros 256)
+
+copy-pairs-requires : tie.Need-copy-pairs-requires
+copy-pairs-requires c κs = search needs
+
+place-rule-changes-requires : tie.Need-place-rule-changes-requires
+place-rule-changes-requires c κs = (c .before .before .before .before .before .before .before .pre .0, c .before .before .before .before .place-singles .ensures, c .before .before .copy-pairs .ensures .len)
+
+returns : tie.Need-returns
+returns c =
+    let placed = c .place-rule-changes .ensures in
+    (changed placed, (λ k l. placed .front k l ∙ c .before .before .before .copy-pairs .ensures .pair k l, placed .len))
+
+pub place-changes-spec : {M : Type 1} → statement M
+place-changes-spec =
+    tie.close
+    (tie.spec place-singles-requires copy-pairs-requires place-rule-changes-requires returns)
