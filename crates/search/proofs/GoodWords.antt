@@ -1,17 +1,22 @@
--- Words that hold states of a block (`Good`): the rank of such a word has an entry in the table (`rank-in`), and every rule makes such a word of it (`good-step`);
+-- Words that hold states of a block (`Good`): the rank of such a word is small and has an entry in the table (`rank-small`, `rank-in`), and every rule makes such a word of it (`good-step`), of the rank that it leads to where it applies (`rank-after`);
 -- a block's positions and rules are few (`positions-few`, `rules-few`). The functions of the search read the table and go from state to state by these.
+use mathlib.Core.Path.{_≡_, sym, ap, _∙_}
+use mathlib.Core.Bool.{true}
 use mathlib.Core.List.{List}
 use Prim.Native.Nat.{ℕ, _≤_, _<_}
 use native.Mathlib.Omega.{arith}
 use lib.ListN.{length}
-use Rattle.blocks.specs.Layout.{positions, rules}
+use Rattle.blocks.specs.Layout.{positions, rules, abstractStates}
+use Rattle.psvn.specs.Relabelling.{relabelState}
+use Rattle.psvn.specs.Ranks.{rank}
 use Rattle.psvn.proofs.Stepping.{step-state}
 use Rattle.tables.proofs.RelabelledRanks.{whole-below}
 use Rattle.words.specs.Packing.{unpack}
-use Rattle.words.specs.Sides.{stepWord}
+use Rattle.words.specs.Sides.{appliesWord, stepWord}
 use Rattle.words.specs.Ranking.{rankWord}
 use Rattle.words.specs.Compiled.{Compiled}
-use Rattle.words.proofs.Meaning.{rank-word, step-word, step-small}
+use Rattle.words.specs.Changes.{nextRank}
+use Rattle.words.proofs.Meaning.{applies-word, rank-word, step-word, step-small}
 use Rattle.search.specs.Parts.{Good, Ready}
 
 module _ {b words moves weights : List ℕ} (c : Compiled b words moves weights) where
@@ -28,9 +33,22 @@ module _ {b words moves weights : List ℕ} (c : Compiled b words moves weights)
         state = rw (step-word c r w l (g .small)) (step-state b (c .valid) r l (unpack (positions b) w) (g .state));
       }
 
-pub rank-in :
-    {b words moves weights table : List ℕ} → Ready b words moves weights table
-    → (w : ℕ) → Good b w → rankWord weights (positions b) w < length table
-rank-in {b} k w g =
-    let low = whole-below b (unpack (positions b) w) (k .compiled .valid) (g .state) in
-    omega (arith, low, rank-word (k .compiled) w (g .state), k .entries)
+module _ {b words moves weights table : List ℕ} (k : Ready b words moves weights table) (w : ℕ) (g : Good b w) where
+  rank-below : rankWord weights (positions b) w < abstractStates b
+  rank-below = omega (arith, whole-below b (unpack (positions b) w) (k .compiled .valid) (g .state), rank-word (k .compiled) w (g .state))
+
+  pub rank-in : rankWord weights (positions b) w < length table
+  rank-in = omega (arith, rank-below, k .entries)
+
+  pub rank-small : rankWord weights (positions b) w < 16384
+  rank-small = omega (arith, rank-below, k .compiled .valid .sized .head .few)
+
+-- the rank that a rule leads to is that of the word it makes
+pub rank-after :
+    {b words moves weights table : List ℕ} → Ready b words moves weights table → (r w : ℕ) → r < rules b → Good b w → appliesWord words moves r w ≡ true
+    → nextRank weights r (rankWord weights (positions b) w) w ≡ rankWord weights (positions b) (stepWord words moves r w)
+rank-after {b} {words} {moves} {weights} k r w l g can =
+    ap (λ (x : ℕ). nextRank weights r x w) (rank-word (k .compiled) w (g .state))
+    ∙ k .changed .next r w l (g .state) (sym (applies-word (k .compiled) r w l (g .small)) ∙ can)
+    ∙ ap (λ (s : List ℕ). rank b (relabelState b s)) (sym (step-word (k .compiled) r w l (g .small)))
+    ∙ sym (rank-word (k .compiled) (stepWord words moves r w) (good-step (k .compiled) r w l g .state))

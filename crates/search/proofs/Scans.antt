@@ -14,9 +14,10 @@ use lib.ListN.{length, getD}
 use borrow.Author.Tests.{lt-ltb, le-leb, lt-leb}
 use Rattle.basics.proofs.Truth.{and-intro, and-right-false}
 use Rattle.basics.proofs.Comparing.{below?, same?}
-use Rattle.blocks.specs.Layout.{rules}
+use Rattle.blocks.specs.Layout.{positions, rules}
 use Rattle.words.specs.Sides.{appliesWord, stepWord, costWord}
 use Rattle.words.specs.Ranking.{rankWord}
+use Rattle.words.specs.Changes.{partCount, nextRank}
 use Rattle.rounds.specs.Systems.{Estimate, mark, at, plus, lower}
 use Rattle.rounds.specs.Rounds.{Progress, on, Offer, cut, over, occurs, offer, extend}
 use Rattle.rounds.proofs.EstimateLaws.{mark-at}
@@ -25,10 +26,10 @@ use Rattle.tallies.specs.declared.Tally.{Tally}
 use Rattle.tallies.specs.Tallies.{overshotBy}
 use Rattle.search.specs.Exercises.{markEntry, entryEstimate}
 use Rattle.search.specs.Limits.{threshold, ruleCount, goalCount, positionCount}
-use Rattle.search.specs.OnWords.{wordSystem, wordEstimate, noFigure, figureOf, seen, onPath}
+use Rattle.search.specs.OnWords.{wordSystem, noFigure, figureOf, seen, onPath}
 use Rattle.search.specs.Parts.{Here, systemAt, estimateAt, Next, extendFrom, NextDue}
 use Rattle.search.proofs.Estimates.{below-at, below-mark, below-number}
-use Rattle.search.proofs.GoodWords.{positions-few, rules-few, good-step, rank-in}
+use Rattle.search.proofs.GoodWords.{positions-few, rules-few, good-step, rank-in, rank-small, rank-after}
 
 -- ---- figures as numbers
 
@@ -120,12 +121,32 @@ module _
   pub depth-below : depth < 65
   depth-below = omega (arith, k .depth-low, k .given .steps-few)
 
-  pub child-in :
-      (r child : ℕ) → r < ruleCount limits → child ≡ stepWord words moves r (getD path depth 0)
-      → rankWord weights (positionCount limits) child < length table
-  child-in r child l e =
+  pub parts-few : (r : ℕ) → r < ruleCount limits → partCount weights r ≤ 16
+  parts-few r l = k .given .ready .changed .few r (omega (arith, k .given .rules-told))
+
+  -- the rank of the last state is small, and so is known the rank that rule r leads to
+  abbrev word : ℕ
+  word = getD path depth 0
+
+  rank-placed : getD path (65 + depth) 0 ≡ rankWord weights (positions (k .given .block)) word
+  rank-placed = k .ranked ∙ ap (λ (m : ℕ). rankWord weights m word) (k .given .positions-told)
+
+  pub rank-low : getD path (65 + depth) 0 < 16384
+  rank-low = rw rank-placed (rank-small (k .given .ready) word (k .good))
+
+  pub rank-led :
+      (r next : ℕ) → r < ruleCount limits → appliesWord words moves r word ≡ true → next ≡ nextRank weights r (getD path (65 + depth) 0) word
+      → next ≡ rankWord weights (positionCount limits) (stepWord words moves r word)
+  rank-led r next l can e =
       let low : r < rules (k .given .block) = omega (arith, k .given .rules-told) in
-      rw (k .given .positions-told, e) (rank-in (k .given .ready) _ (good-step (k .given .ready .compiled) r _ low (k .good)))
+      e ∙ ap (λ (x : ℕ). nextRank weights r x word) rank-placed
+      ∙ rank-after (k .given .ready) r word low (k .good) can
+      ∙ ap (λ (m : ℕ). rankWord weights m (stepWord words moves r word)) (sym (k .given .positions-told))
+
+  pub child-in : (r : ℕ) → r < ruleCount limits → rankWord weights (positionCount limits) (stepWord words moves r (getD path depth 0)) < length table
+  child-in r l =
+      let low : r < rules (k .given .block) = omega (arith, k .given .rules-told) in
+      rw (k .given .positions-told) (rank-in (k .given .ready) _ (good-step (k .given .ready .compiled) r _ low (k .good)))
 
 -- ---- one rule, then the others
 
@@ -162,13 +183,12 @@ module _ (words moves weights table path limits : List ℕ) (depth cost : ℕ) w
         ∙ ap (λ (j : ℕ). run (ruleCount limits - (i + 1)) j (y .visits) (figureOf (y .least))) (sym (add-one i))
 
   -- rule i applies: the state that it makes, its cost and the figure, as the code has them
-  pub record Tried (i n child charge total : ℕ) : Type 0 where
+  pub record Tried (i child charge total : ℕ) : Type 0 where
     pub low : i < ruleCount limits
     pub can : appliesWord words moves i (getD path depth 0) ≡ true
     pub made : child ≡ stepWord words moves i (getD path depth 0)
     pub paid : charge ≡ costWord words i
-    pub placed : n ≡ positionCount limits
-    pub told : figureOf total ≡ plus (cost + charge) (wordEstimate weights table n child)
+    pub told : figureOf total ≡ plus (cost + charge) (estimateAt weights table limits child)
 
   pub same-start : (i : ℕ) (x : Tally) → Same i x i x
   same-start i x = record { same = λ next. refl }
@@ -221,7 +241,7 @@ module _ (words moves weights table path limits : List ℕ) (depth cost : ℕ) w
         (offer-none (systemAt words moves limits) (estimateAt weights table limits) (threshold limits) (seen path depth) w cost i stuck)
         x y (ap (λ (t : Tally). t .visits) (sym q)) (ap (λ (t : Tally). figureOf (t .least)) (sym q))
 
-  module _ {i n child charge total : ℕ} (t : Tried i n child charge total) where
+  module _ {i child charge total : ℕ} (t : Tried i child charge total) where
     steps : systemAt words moves limits .step i (getD path depth 0) ≡ option.some child
     steps =
         let w = getD path depth 0 in
@@ -233,9 +253,7 @@ module _ (words moves weights table path limits : List ℕ) (depth cost : ℕ) w
     occurs-as b e = occurs-path words moves (ruleCount limits) (goalCount limits) path depth child ∙ e
 
     figured : Figure total (cost + charge) (estimateAt weights table limits child)
-    figured =
-        figure-is total (cost + charge) (estimateAt weights table limits child)
-        (t .told ∙ ap (λ (k : ℕ). plus (cost + charge) (wordEstimate weights table k child)) (t .placed))
+    figured = figure-is total (cost + charge) (estimateAt weights table limits child) (t .told)
 
     -- it comes to a state of the path
     pub pass-seen : onPath path depth child ≡ true → (x y : Tally) → y ≡ x → Same i x (i + 1) y
@@ -275,13 +293,13 @@ module _ (words moves weights table path limits : List ℕ) (depth cost : ℕ) w
     -- it is due
     pub found-due :
         total ≤ threshold limits → threshold limits ≤ 4294967295 → onPath path depth child ≡ false
-        → (from : ℕ) (x y : Tally) → from ≤ i → Same from x i y
-        → NextDue words moves weights table path limits depth cost from x (record { rule = i; word = child; cost = cost + charge; tally = y })
-    found-due most small e from x y l left = go figured
+        → (rank : ℕ) → rank ≡ rankWord weights (positionCount limits) child → (from : ℕ) (x y : Tally) → from ≤ i → Same from x i y
+        → NextDue words moves weights table path limits depth cost from x (record { rule = i; word = child; rank = rank; cost = cost + charge; tally = y })
+    found-due most small e rank ranked from x y l left = go figured
       where
         go :
             Figure total (cost + charge) (estimateAt weights table limits child)
-            → NextDue words moves weights table path limits depth cost from x (record { rule = i; word = child; cost = cost + charge; tally = y })
+            → NextDue words moves weights table path limits depth cost from x (record { rule = i; word = child; rank = rank; cost = cost + charge; tally = y })
         go (marked m k) = absurd (omega arith)
         go (rated k m f z) =
             record {
@@ -290,6 +308,7 @@ module _ (words moves weights table path limits : List ℕ) (depth cost : ℕ) w
               cost-told = ap (λ (c : ℕ). cost + c) (t .paid);
               cost-low = omega arith;
               made = steps;
+              ranked = ranked;
               offered =
                   offer-due (systemAt words moves limits) (estimateAt weights table limits) (threshold limits) (seen path depth)
                   (getD path depth 0) cost i child k steps (occurs-as false e) m

@@ -8,17 +8,18 @@ use Prim.Native.Nat.{ℕ, zero, suc, _+_, _-_, _≤_, _<_}
 use native.Mathlib.Omega.{arith}
 use native.Mathlib.Numerals.{add-one}
 use lib.ListN.{length, getD, set, take, drop, length-set}
-use lib.Seq.{getD-set-same, slice-empty, slice-cons}
+use lib.Seq.{getD-set-same, getD-set-other, slice-empty, slice-cons}
 use borrow.Author.Tests.{lt-ltb, le-ltb}
 use Rattle.basics.specs.Parts.{Outside}
 use Rattle.basics.proofs.Parts.{outside-none, outside-set, outside-then, outside-within}
 use Rattle.words.specs.Sides.{appliesWord, stepWord, costWord, meetsWord}
+use Rattle.words.specs.Ranking.{rankWord}
 use Rattle.rounds.specs.Rounds.{Progress, on, hit, extend}
 use Rattle.rounds.proofs.Equations as equations
 use Rattle.tallies.specs.declared.Tally.{Tally}
-use Rattle.search.specs.Limits.{threshold, allowance, stepLimit, ruleCount, goalCount}
+use Rattle.search.specs.Limits.{threshold, allowance, stepLimit, ruleCount, goalCount, positionCount}
 use Rattle.search.specs.OnWords.{figureOf, seen}
-use Rattle.search.specs.Parts.{Good, Here, Next, visitWithin, NextDue, Scanned, systemAt, estimateAt, extendFrom, progressOf, HitWithin, Done}
+use Rattle.search.specs.Parts.{Good, Here, Next, visitWithin, NextDue, Scanned, systemAt, estimateAt, extendFrom, progressOf, HitWithin, PathKept, Done}
 use Rattle.search.specs.declared.scanning.Extension.{Extension}
 use Rattle.search.specs.declared.scanning.Scan.{Scan}
 use Rattle.search.specs.declared.scanning.Scan.the-variants.{Over, Due}
@@ -37,14 +38,46 @@ seen-kept path path′ zero h = ap (λ (x : ℕ). x ∷ []) (h 0 (omega arith))
 seen-kept path path′ (suc depth) h =
     ap₂ (λ (x : ℕ) (l : List ℕ). x ∷ l) (h (suc depth) (omega arith)) (seen-kept path path′ depth (λ j l. h j (omega arith)))
 
--- a word written behind the states up to depth
-seen-next :
-    (path : List ℕ) (depth w : ℕ) → suc depth < length path
-    → (getD (set path (suc depth) w) (suc depth) 0 ≡ w) × (seen (set path (suc depth) w) (suc depth) ≡ w ∷ seen path depth)
-seen-next path depth w l =
-    let e = getD-set-same path (suc depth) w 0 l in
-    let kept = outside-set (suc depth) w (omega arith) (omega arith) (outside-none (suc depth) (suc (suc depth)) path) in
-    (e, ap₂ (λ (x : ℕ) (s : List ℕ). x ∷ s) e (seen-kept path (set path (suc depth) w) depth (kept .before)))
+-- a path as it is, twice kept, and kept further on
+path-same : (depth : ℕ) (path : List ℕ) → PathKept depth path path
+path-same depth path = record { len = refl; states = λ j l. refl; ranks = λ j l. refl }
+
+path-then : {depth : ℕ} {path path′ path″ : List ℕ} → PathKept depth path path′ → PathKept depth path′ path″ → PathKept depth path path″
+path-then a b =
+    record {
+      len = b .len ∙ a .len;
+      states = λ j l. b .states j l ∙ a .states j l;
+      ranks = λ j l. b .ranks j l ∙ a .ranks j l;
+    }
+
+path-before : {depth : ℕ} {path path′ : List ℕ} → PathKept (suc depth) path path′ → PathKept depth path path′
+path-before a =
+    record { len = a .len; states = λ j l. a .states j (omega arith); ranks = λ j l. a .ranks j (omega arith) }
+
+-- a path with a word and its rank written behind the states up to depth
+module _ (path : List ℕ) (depth w rank : ℕ) (low : depth < 64) (long : length path ≡ 130) where
+  abbrev stepped : List ℕ
+  stepped = set (set path (suc depth) w) (65 + suc depth) rank
+
+  step-apart : (j : ℕ) → (j ≡ 65 + suc depth → ⊥) → getD stepped j 0 ≡ getD (set path (suc depth) w) j 0
+  step-apart j n = getD-set-other (set path (suc depth) w) (65 + suc depth) j rank 0 n
+
+  stepped-kept : PathKept depth path stepped
+  stepped-kept =
+      record {
+        len = length-set (set path (suc depth) w) (65 + suc depth) rank ∙ length-set path (suc depth) w;
+        states = λ j l. step-apart j (λ e. omega arith) ∙ getD-set-other path (suc depth) j w 0 (λ e. omega arith);
+        ranks = λ j l. step-apart (65 + j) (λ e. omega arith) ∙ getD-set-other path (suc depth) (65 + j) w 0 (λ e. omega arith);
+      }
+
+  stepped-state : getD stepped (suc depth) 0 ≡ w
+  stepped-state = step-apart (suc depth) (λ e. omega arith) ∙ getD-set-same path (suc depth) w 0 (omega arith)
+
+  stepped-rank : getD stepped (65 + suc depth) 0 ≡ rank
+  stepped-rank = getD-set-same (set path (suc depth) w) (65 + suc depth) rank 0 (omega (arith, length-set path (suc depth) w))
+
+  stepped-seen : seen stepped (suc depth) ≡ w ∷ seen path depth
+  stepped-seen = ap₂ (λ (x : ℕ) (s : List ℕ). x ∷ s) stepped-state (seen-kept path stepped depth (stepped-kept .states))
 
 -- ---- a list that is due
 
@@ -52,12 +85,13 @@ module _
     {words moves weights table path limits : List ℕ} {depth cost : ℕ}
     (k : Here words moves weights table path limits depth cost) where
   -- the path behind depth is of no matter
-  here-kept : {path′ : List ℕ} → Outside (suc depth) 65 path path′ → Here words moves weights table path′ limits depth cost
+  here-kept : {path′ : List ℕ} → PathKept depth path path′ → Here words moves weights table path′ limits depth cost
   here-kept o =
       record {
         given = k .given;
         path-long = o .len ∙ k .path-long;
-        good = rw (o .before depth (omega arith)) (k .good);
+        good = rw (o .states depth (omega arith)) (k .good);
+        ranked = o .ranks depth (omega arith) ∙ k .ranked ∙ ap (rankWord weights (positionCount limits)) (sym (o .states depth (omega arith)));
         depth-low = k .depth-low;
         cost-low = k .cost-low;
       }
@@ -80,7 +114,7 @@ module _
       record {
         told = sym e;
         within = w;
-        path-kept = outside-none (suc depth) 65 path;
+        path-kept = path-same depth path;
         plan-kept = outside-none depth 64 plan;
       }
 
@@ -171,6 +205,7 @@ module _
             cost-told = n .cost-told;
             cost-low = n .cost-low;
             made = n .made;
+            ranked = n .ranked;
             offered = n .offered;
             same = λ next. refl;
           }
@@ -185,43 +220,53 @@ module _
 
   -- ---- an extension that is taken up
 
-  module _ (e : Extension) (n : NextDue words moves weights table path limits depth cost (e .rule) (e .tally) e) where
+  module _
+      (e : Extension) (n : NextDue words moves weights table path limits depth cost (e .rule) (e .tally) e) (low : depth < stepLimit limits) where
+    low-depth : depth < 64
+    low-depth = omega (arith, k .given .steps-few)
+
+    -- the path one rule further
+    abbrev further : List ℕ
+    further = stepped path depth (e .word) (e .rank) low-depth (k .path-long)
+
     -- the list one rule further: its state is written behind the path, its rule into the plan
     pub here-next :
-        depth < stepLimit limits → (plan : List ℕ) → length plan ≡ 64
-        → Here words moves weights table (set path (depth + 1) (e .word)) limits (depth + 1) (e .cost)
+        (plan : List ℕ) → length plan ≡ 64
+        → Here words moves weights table (set (set path (depth + 1) (e .word)) (65 + (depth + 1)) (e .rank)) limits (depth + 1) (e .cost)
         × (length (set plan depth (e .rule)) ≡ 64)
-    here-next l plan long =
+    here-next plan long =
         let made = step-made (e .rule) (ruleCount limits) (appliesWord words moves (e .rule) (getD path depth 0))
         (stepWord words moves (e .rule) (getD path depth 0)) (e .word) (n .made) in
         let good : Good (k .given .block) (e .word) =
         subst (λ (x : ℕ). Good (k .given .block) x) (made .2)
         (good-step (k .given .ready .compiled) (e .rule) (getD path depth 0) (omega (arith, n .rule-high, k .given .rules-told)) (k .good)) in
-        let next : Here words moves weights table (set path (suc depth) (e .word)) limits (suc depth) (e .cost) =
+        let state = stepped-state path depth (e .word) (e .rank) low-depth (k .path-long) in
+        let next : Here words moves weights table further limits (suc depth) (e .cost) =
         record {
           given = k .given;
-          path-long = length-set path (suc depth) (e .word) ∙ k .path-long;
-          good = rw (seen-next path depth (e .word) (omega (arith, k .path-long, k .given .steps-few)) .0) good;
-          depth-low = l;
+          path-long = stepped-kept path depth (e .word) (e .rank) low-depth (k .path-long) .len ∙ k .path-long;
+          good = rw state good;
+          ranked =
+              stepped-rank path depth (e .word) (e .rank) low-depth (k .path-long) ∙ n .ranked
+              ∙ ap (rankWord weights (positionCount limits)) (sym state);
+          depth-low = low;
           cost-low = n .cost-low;
         } in
         (rw (add-one depth) next, length-set plan depth (e .rule) ∙ long)
 
     -- and it is visited
     module _
-        (low : depth < stepLimit limits) (plan : List ℕ) (plan-long : length plan ≡ 64)
-        (path′ plan′ : List ℕ) (r : Visited)
-        (d : Done (depth + 1) (stepLimit limits) (threshold limits) (set path (depth + 1) (e .word)) (set plan depth (e .rule)) path′ plan′
-        (visitWithin words moves weights table limits (stepLimit limits - (depth + 1)) (seen (set path (depth + 1) (e .word)) (depth + 1))
-        (getD (set path (depth + 1) (e .word)) (depth + 1) 0) (e .cost) (e .tally .visits) (figureOf (e .tally .least))) r) where
+        (plan : List ℕ) (plan-long : length plan ≡ 64) (path′ plan′ : List ℕ) (r : Visited)
+        (d : Done (depth + 1) (stepLimit limits) (threshold limits) (set (set path (depth + 1) (e .word)) (65 + (depth + 1)) (e .rank)) (set plan depth (e .rule)) path′ plan′
+        (visitWithin words moves weights table limits (stepLimit limits - (depth + 1)) (seen (set (set path (depth + 1) (e .word)) (65 + (depth + 1)) (e .rank)) (depth + 1))
+        (getD (set (set path (depth + 1) (e .word)) (65 + (depth + 1)) (e .rank)) (depth + 1) 0) (e .cost) (e .tally .visits) (figureOf (e .tally .least))) r) where
       abbrev next : Next
       next = visitWithin words moves weights table limits (stepLimit limits - suc depth)
 
       -- the same at the successor of depth
       child :
-          Done (suc depth) (stepLimit limits) (threshold limits) (set path (suc depth) (e .word)) (set plan depth (e .rule)) path′ plan′
-          (next (seen (set path (suc depth) (e .word)) (suc depth)) (getD (set path (suc depth) (e .word)) (suc depth) 0) (e .cost)
-          (e .tally .visits) (figureOf (e .tally .least))) r
+          Done (suc depth) (stepLimit limits) (threshold limits) further (set plan depth (e .rule)) path′ plan′
+          (next (seen further (suc depth)) (getD further (suc depth) 0) (e .cost) (e .tally .visits) (figureOf (e .tally .least))) r
       child = rw (add-one depth) at d
 
       -- what the visit leaves, as the definitions have it
@@ -229,9 +274,10 @@ module _
           next (e .word ∷ seen path depth) (e .word) (cost + costWord words (e .rule)) (e .tally .visits) (figureOf (e .tally .least))
           ≡ progressOf (suc depth) plan′ r
       left =
-          let s = seen-next path depth (e .word) (omega (arith, k .path-long, k .given .steps-few)) in
+          let state = stepped-state path depth (e .word) (e .rank) low-depth (k .path-long) in
+          let states = stepped-seen path depth (e .word) (e .rank) low-depth (k .path-long) in
           ap (λ (g : ℕ). next (e .word ∷ seen path depth) (e .word) g (e .tally .visits) (figureOf (e .tally .least))) (sym (n .cost-told))
-          ∙ ap₂ (λ (l : List ℕ) (w : ℕ). next l w (e .cost) (e .tally .visits) (figureOf (e .tally .least))) (sym (s .1)) (sym (s .0))
+          ∙ ap₂ (λ (l : List ℕ) (w : ℕ). next l w (e .cost) (e .tally .visits) (figureOf (e .tally .least))) (sym states) (sym state)
           ∙ sym (child .told)
 
       -- its rule is one of those left
@@ -244,11 +290,8 @@ module _
           ap (λ (m : ℕ). extend (systemAt words moves limits) (estimateAt weights table limits) (threshold limits) next (seen path depth)
           (getD path depth 0) cost m (e .rule) (e .tally .visits) (figureOf (e .tally .least))) one-more
 
-      path-over : Outside (suc depth) 65 path path′
-      path-over =
-          outside-then
-          (outside-set (suc depth) (e .word) (omega arith) (omega (arith, k .given .steps-few)) (outside-none (suc depth) 65 path))
-          (outside-within (suc depth) 65 (omega arith) (omega arith) (child .path-kept))
+      path-over : PathKept depth path path′
+      path-over = path-then (stepped-kept path depth (e .word) (e .rank) low-depth (k .path-long)) (path-before (child .path-kept))
 
       plan-over : Outside depth 64 plan plan′
       plan-over =
@@ -274,13 +317,13 @@ module _
           ap (λ (i : ℕ). extendFrom words moves weights table path′ limits depth cost next i then) (add-one (e .rule))
           ∙ ap₂ (λ (l : List ℕ) (w : ℕ). extend (systemAt words moves limits) (estimateAt weights table limits) (threshold limits) next l w
           cost (ruleCount limits - suc (e .rule)) (suc (e .rule)) (then .visits) (figureOf (then .least)))
-          (seen-kept path path′ depth (path-over .before)) (path-over .before depth (omega arith)) in
+          (seen-kept path path′ depth (path-over .states)) (path-over .states depth (omega arith)) in
           record {
             told =
                 f .told ∙ others
                 ∙ sym (counted ∙ equations.extend-on _ _ _ _ _ _ _ _ _ _ _ (e .word) (n .offered) _ _ told);
             within = f .within;
-            path-kept = outside-then path-over (f .path-kept);
+            path-kept = path-then path-over (f .path-kept);
             plan-kept = outside-then plan-over (f .plan-kept);
           }
 

@@ -13,7 +13,9 @@ use Rattle.blocks.specs.Layout.{positions, rules, goals, abstractStates}
 use Rattle.blocks.specs.States.{stateOk}
 use Rattle.words.specs.Packing.{unpack}
 use Rattle.words.specs.Sides.{costWord}
+use Rattle.words.specs.Ranking.{rankWord}
 use Rattle.words.specs.Compiled.{Compiled}
+use Rattle.words.specs.Changes.{Changed}
 use Rattle.rounds.specs.Systems.{System, Estimate}
 use Rattle.rounds.specs.Rounds.{Progress, on, hit, stop, Answer, found, noPlan, spent, plan, upto, due, offer, extend, visit, round}
 use Rattle.tallies.specs.declared.Tally.{Tally}
@@ -35,9 +37,10 @@ pub record Good (b : List ℕ) (w : ℕ) : Type 0 where
   pub small : w < 16 ^ positions b
   pub state : stateOk b (unpack (positions b) w) ≡ true
 
--- the arrays are compiled from the block, and the table has an entry for each of its abstract states
+-- the arrays are compiled from the block, with what its rules add to ranks, and the table has an entry for each of its abstract states
 pub record Ready (b words moves weights table : List ℕ) : Type 0 where
   pub compiled : Compiled b words moves weights
+  pub changed : Changed b weights
   pub entries : abstractStates b ≤ length table
 
 -- the arrays and the limits are those of some block
@@ -51,11 +54,12 @@ pub record Given (words moves weights table limits : List ℕ) : Type 0 where
   pub allowance-low : allowance limits ≤ 4294967295
   pub steps-few : stepLimit limits ≤ 64
 
--- a list of this cost that is due, its states in the path up to depth: its last state is one of the block's, and its cost is at most the threshold
+-- a list of this cost that is due, its states in the path up to depth, with their ranks behind all states: its last state is one of the block's, and its cost is at most the threshold
 pub record Here (words moves weights table path limits : List ℕ) (depth cost : ℕ) : Type 0 where
   pub given : Given words moves weights table limits
-  pub path-long : length path ≡ 65
+  pub path-long : length path ≡ 130
   pub good : Good (given .block) (getD path depth 0)
+  pub ranked : getD path (65 + depth) 0 ≡ rankWord weights (positionCount limits) (getD path depth 0)
   pub depth-low : depth ≤ stepLimit limits
   pub cost-low : cost ≤ threshold limits
 
@@ -88,6 +92,7 @@ module _ (words moves weights table path limits : List ℕ) (depth cost : ℕ) w
     pub cost-told : e .cost ≡ cost + costWord words (e .rule)
     pub cost-low : e .cost ≤ threshold limits
     pub made : systemAt words moves limits .step (e .rule) (getD path depth 0) ≡ some (e .word)
+    pub ranked : e .rank ≡ rankWord weights (positionCount limits) (e .word)
     pub offered :
         offer (systemAt words moves limits) (estimateAt weights table limits) (threshold limits) (seen path depth)
         (getD path depth 0) cost (e .rule)
@@ -111,11 +116,17 @@ HitWithin depth D T (On tally) = Unit {0}
 HitWithin depth D T (Hit steps cost visits) = (depth ≤ steps) × (steps ≤ D) × (cost ≤ T)
 HitWithin depth D T (Stop visits) = Unit {0}
 
+-- a path keeps its states up to depth, and their ranks
+pub record PathKept (depth : ℕ) (path path′ : List ℕ) : Type 0 where
+  pub len : length path′ ≡ length path
+  pub states : (j : ℕ) → j < suc depth → getD path′ j 0 ≡ getD path j 0
+  pub ranks : (j : ℕ) → j < suc depth → getD path′ (65 + j) 0 ≡ getD path (65 + j) 0
+
 -- visits from depth on leave x; the path up to depth and the plan up to it are kept
 pub record Done (depth D T : ℕ) (path plan path′ plan′ : List ℕ) (x : Progress) (r : Visited) : Type 0 where
   pub told : progressOf depth plan′ r ≡ x
   pub within : HitWithin depth D T r
-  pub path-kept : Outside (suc depth) 65 path path′
+  pub path-kept : PathKept depth path path′
   pub plan-kept : Outside depth 64 plan plan′
 
 module _ (words moves weights table limits path plan : List ℕ) where

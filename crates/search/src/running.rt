@@ -3,6 +3,7 @@ ghost use mathlib.Core.Path.{_≡_};
 ghost use Prim.Native.Nat.{_≤_};
 ghost use lib.ListN.{length, getD};
 ghost use Rattle.blocks.specs.Layout.{positions, rules, goals};
+ghost use Rattle.words.specs.Ranking.{rankWord};
 ghost use Rattle.rounds.specs.Rounds as rounds;
 ghost use Rattle.search.specs.OnWords.{wordSystem, wordEstimate, figureOf};
 ghost use Rattle.search.specs.Parts.{Good, Ready, Here, AfterRound, answerOf, FoundWithin};
@@ -24,9 +25,9 @@ pub enum Ending {
 fn round(
     words: &[u64; 608],
     moves: &[u8; 4384],
-    weights: &[u16; 2048],
+    weights: &[u16; 19584],
     table: &[u32],
-    path: &mut [u64; 65],
+    path: &mut [u64; 130],
     plan: &mut [u8; 64],
     limits: &[u64; 6],
     visits: u32,
@@ -48,16 +49,17 @@ pub fn run_rounds(
     block: &[u8],
     words: &[u64; 608],
     moves: &[u8; 4384],
-    weights: &[u16; 2048],
+    weights: &[u16; 19584],
     table: &[u32],
-    path: &mut [u64; 65],
+    path: &mut [u64; 130],
     plan: &mut [u8; 64],
     steps: usize,
     cost: u32,
     allowance: u32,
     first: u64,
 ) -> Ending
-    requires { ⌜ Ready (now block) (now words) (now moves) (now weights) (now table) × Good (now block) (getD (now path) 0 0) × (steps ≤ 64) × (length (now path) ≡ 65) × (length (now plan) ≡ 64) ⌝ }
+    requires { ⌜ Ready (now block) (now words) (now moves) (now weights) (now table) × Good (now block) (getD (now path) 0 0) × (steps ≤ 64) × (length (now path) ≡ 130) × (length (now plan) ≡ 64) ⌝ }
+    requires { ⌜ getD (now path) 65 0 ≡ rankWord (now weights) (positions (now block)) (getD (now path) 0 0) ⌝ }
     ensures { λ r. ⌜ FoundWithin steps r × (length (now (plan .exit)) ≡ 64) × (answerOf (now (plan .exit)) r ≡ rounds.begin (figureOf first) (λ T.
         rounds.roundsFrom (wordSystem (now (words .entry)) (now (moves .entry)) (rules (now (block .entry))) (goals (now (block .entry))))
         (wordEstimate (now (weights .entry)) (now (table .entry)) (positions (now (block .entry)))) (rounds.upto allowance) steps cost (getD (now (path .entry)) 0 0) T 0)) ⌝ }

@@ -2,19 +2,21 @@
 ghost use mathlib.Core.Path.{_≡_};
 ghost use mathlib.Core.Bool.{cond};
 ghost use Prim.Native.Nat.{_≤_, _<_};
-ghost use lib.ListN.{length};
-ghost use Rattle.words.specs.Ranking.{rankWord};
+ghost use lib.ListN.{length, getD};
+ghost use Rattle.words.specs.Sides.{stepWord};
 ghost use Rattle.rounds.specs.Systems.{plus};
 ghost use Rattle.tallies.specs.Tallies.{overshotBy};
 ghost use Rattle.search.specs.Limits.{ruleCount};
-ghost use Rattle.search.specs.OnWords.{wordEstimate, figureOf, onPath};
+ghost use Rattle.search.specs.Exercises.{entryEstimate};
+ghost use Rattle.search.specs.OnWords.{figureOf, onPath};
 ghost use Rattle.search.specs.Parts.{Here, Scanned};
+ghost use Rattle.search.specs.declared.scanning.Scan.the-variants.{Due};
 use super::limits;
 use tables::edges::MARK;
 use tables::edges::wide_entry;
 use tallies::Tally;
 use tallies::overshot;
-use words::ranking::rank_word;
+use words::changes::next_rank;
 use words::sides::applies_word;
 use words::sides::cost_word;
 use words::sides::step_word;
@@ -22,16 +24,20 @@ use words::sides::step_word;
 // What stands for no figure: it is above every threshold.
 pub const NO_FIGURE: u64 = 18446744073709551615;
 
+// Where the ranks of a path's states begin, behind its 65 states.
+pub const RANKS: usize = 65;
+
 // A list on the way: how many rules it has, and what they cost.
 pub struct Node {
     pub depth: usize,
     pub cost: u64,
 }
 
-// An extension that is due: its rule, its last state and its cost; and the tally up to it.
+// An extension that is due: its rule, its last state with the rank of that, and its cost; and the tally up to it.
 pub struct Extension {
     pub rule: usize,
     pub word: u64,
+    pub rank: usize,
     pub cost: u64,
     pub tally: Tally,
 }
@@ -42,12 +48,12 @@ pub enum Scan {
     Due(Extension),
 }
 
-// The figure of a list of this cost that ends at the word; NO_FIGURE with the mark.
-pub fn figure(weights: &[u16; 2048], n: usize, table: &[u32], cost: u64, word: u64) -> u64
-    requires { ⌜ (n ≤ 16) × (rankWord (now weights) n word < length (now table)) × (cost ≤ 8589934592) ⌝ }
-    ensures { λ f. ⌜ figureOf f ≡ plus cost (wordEstimate (now (weights .entry)) (now (table .entry)) n word) ⌝ }
+// The figure of a list of this cost whose last state has this rank; NO_FIGURE with the mark.
+pub fn figure(table: &[u32], cost: u64, rank: usize) -> u64
+    requires { ⌜ (rank < length (now table)) × (cost ≤ 8589934592) ⌝ }
+    ensures { λ f. ⌜ figureOf f ≡ plus cost (entryEstimate (getD (now (table .entry)) rank 0)) ⌝ }
 {
-    let entry = table[rank_word(weights, n, word)];
+    let entry = table[rank];
     if entry < MARK {
         return cost + wide_entry(entry);
     }
@@ -55,7 +61,7 @@ pub fn figure(weights: &[u16; 2048], n: usize, table: &[u32], cost: u64, word: u
 }
 
 // Whether a word is among the states of the path up to depth. Repeats are mostly recent, so the last state is looked at first.
-fn on_path(path: &[u64; 65], depth: usize, word: u64) -> bool
+fn on_path(path: &[u64; 130], depth: usize, word: u64) -> bool
     requires { ⌜ depth < 65 ⌝ }
     ensures { λ r. ⌜ r ≡ onPath (now (path .entry)) depth word ⌝ }
 {
@@ -69,27 +75,50 @@ fn on_path(path: &[u64; 65], depth: usize, word: u64) -> bool
     false
 }
 
-// The tally once an extension above the threshold is known: a state on the path gives no overshoot, and a figure that is no lower changes nothing.
-fn noted(path: &[u64; 65], depth: usize, word: u64, figure: u64, tally: Tally) -> Tally
-    requires { ⌜ depth < 65 ⌝ }
-    ensures { λ r. ⌜ r ≡ cond (onPath (now (path .entry)) depth word) tally (overshotBy tally figure) ⌝ }
+// The tally once an extension by a rule is known to be above the threshold: a state on the path gives no overshoot, and a figure that is no lower changes nothing, so that the
+// state need not be made.
+fn noted(
+    words: &[u64; 608],
+    moves: &[u8; 4384],
+    path: &[u64; 130],
+    depth: usize,
+    rule: usize,
+    figure: u64,
+    tally: Tally,
+) -> Tally
+    requires { ⌜ (depth < 65) × (rule < 64) ⌝ }
+    ensures { λ r. ⌜ r ≡ cond (onPath (now (path .entry)) depth (stepWord (now (words .entry)) (now (moves .entry)) rule (getD (now (path .entry)) depth 0))) tally (overshotBy tally figure) ⌝ }
 {
     if figure < tally.least {
-        if !on_path(path, depth, word) {
+        let child = step_word(words, moves, rule, path[depth]);
+        if !on_path(path, depth, child) {
             return overshot(tally, figure);
         }
     }
     tally
 }
 
+// An extension that is due, with its parts.
+fn due(rule: usize, word: u64, rank: usize, cost: u64, tally: Tally) -> Scan
+    ensures { λ r. ⌜ r ≡ Due (record { rule = rule; word = word; rank = rank; cost = cost; tally = tally }) ⌝ }
+{
+    Scan::Due(Extension {
+        rule,
+        word,
+        rank,
+        cost,
+        tally,
+    })
+}
+
 // The next extension of a list that is due, by the rules from `from` on. A rule that does not apply, a marked state and a state on the path offer nothing; overshoots are noted. The figure
-// is looked at before the path, which costs more.
+// is looked at first, by the rank that the rule leads to, since most are above the threshold: then the state is not made, and the path not looked at.
 pub fn next_due(
     words: &[u64; 608],
     moves: &[u8; 4384],
-    weights: &[u16; 2048],
+    weights: &[u16; 19584],
     table: &[u32],
-    path: &[u64; 65],
+    path: &[u64; 130],
     limits: &[u64; 6],
     at: Node,
     from: usize,
@@ -101,22 +130,20 @@ pub fn next_due(
     let depth = at.depth;
     let word = path[depth];
     let rules = limits::rule_count(limits);
-    let n = limits::position_count(limits);
+    let rank = path[RANKS + depth] as usize;
     let mut rule = from;
     while rule < rules {
         if applies_word(words, moves, rule, word) {
-            let child = step_word(words, moves, rule, word);
             let reached = at.cost + cost_word(words, rule);
-            let total = figure(weights, n, table, reached, child);
+            let next = next_rank(weights, rule, rank, word);
+            let total = figure(table, reached, next);
             if limits::threshold(limits) < total {
-                tally = noted(path, depth, child, total, tally);
-            } else if !on_path(path, depth, child) {
-                return Scan::Due(Extension {
-                    rule,
-                    word: child,
-                    cost: reached,
-                    tally,
-                });
+                tally = noted(words, moves, path, depth, rule, total, tally);
+            } else {
+                let child = step_word(words, moves, rule, word);
+                if !on_path(path, depth, child) {
+                    return due(rule, child, next, reached, tally);
+                }
             }
         }
         rule += 1;

@@ -7,6 +7,7 @@ ghost use Rattle.search.specs.Parts.{Here, NextDue, AfterVisit, AfterExt
 use super::limits;
 use super::scanning::Extension;
 use super::scanning::Node;
+use super::scanning::RANKS;
 use super::scanning::Scan;
 use super::scanning::next_due;
 use tallies::Tally;
@@ -23,9 +24,9 @@ pub enum Visited {
 pub fn visit(
     words: &[u64; 608],
     moves: &[u8; 4384],
-    weights: &[u16; 2048],
+    weights: &[u16; 19584],
     table: &[u32],
-    path: &mut [u64; 65],
+    path: &mut [u64; 130],
     plan: &mut [u8; 64],
     limits: &[u64; 6],
     at: Node,
@@ -57,9 +58,9 @@ pub fn visit(
 fn extend(
     words: &[u64; 608],
     moves: &[u8; 4384],
-    weights: &[u16; 2048],
+    weights: &[u16; 19584],
     table: &[u32],
-    path: &mut [u64; 65],
+    path: &mut [u64; 130],
     plan: &mut [u8; 64],
     limits: &[u64; 6],
     at: Node,
@@ -84,9 +85,9 @@ fn extend(
 fn take_up(
     words: &[u64; 608],
     moves: &[u8; 4384],
-    weights: &[u16; 2048],
+    weights: &[u16; 19584],
     table: &[u32],
-    path: &mut [u64; 65],
+    path: &mut [u64; 130],
     plan: &mut [u8; 64],
     limits: &[u64; 6],
     at: Node,
@@ -99,6 +100,7 @@ fn take_up(
 {
     let depth = at.depth;
     path[depth + 1] = next.word;
+    path[RANKS + (depth + 1)] = next.rank as u64;
     plan[depth] = next.rule as u8;
     let tally = next.tally;
     let to = Node {

@@ -1,23 +1,26 @@
 -- `search::finding::find_plan` meets its contract.
 -- The rounds on the words of the compiled block are the search on its states; a plan found is copied to the buffer.
-use mathlib.Core.Path.{_≡_, refl, subst, _∙_}
+use mathlib.Core.Path.{_≡_, refl, sym, ap, subst, _∙_}
 use mathlib.Core.List.{List, [], _∷_}
 use Prim.Native.Nat.{ℕ, _≤_}
 use native.Mathlib.Omega.{arith}
-use lib.ListN.{length}
+use lib.ListN.{length, getD}
 use denote.Enum.Declared.{tagOf}
 use denote.Ref.{now}
 use types.Run.{OneOf, miss}
+use Rattle.blocks.specs.Layout.{positions}
+use Rattle.words.specs.Ranking.{rankWord}
+use Rattle.rounds.specs.Systems.{plus}
 use Rattle.rounds.specs.Rounds.{Answer}
-use Rattle.search.specs.Exercises.{searchFrom}
+use Rattle.search.specs.Exercises.{entryEstimate, searchFrom}
 use Rattle.search.specs.Promises.{Kept}
-use Rattle.search.specs.Parts.{Ready, answerOf}
+use Rattle.search.specs.Parts.{Good, Ready, answerOf}
 use Rattle.search.specs.declared.running.Ending.{Ending}
 use Rattle.search.specs.declared.running.Ending.the-variants.{Found}
 use Rattle.search.proofs.GoodWords.{rank-in}
 use Rattle.search.proofs.Demand.{low-estimates, kept}
 use Rattle.search.proofs.Instance.{good-start}
-use Rattle.search.proofs.Runs.{start-small, run-search, found-fits, answers-found, answers-none}
+use Rattle.search.proofs.Runs.{run-search, found-fits, answers-found, answers-none}
 use Rattle.search.proofs.running.Ending.{the-type}
 use borrow.Author.Needs.{needs}
 use Rattle.search.proofs.finding.find_plan.Statement.{statement}
@@ -31,11 +34,11 @@ arrays :
     (c : tie.After-compile)
     → Ready (now (start c .args .block)) (c .compile .last .1 .0) (c .compile .last .1 .1 .0) (c .compile .last .1 .1 .1 .0)
     (now (start c .args .table))
-arrays c = record { compiled = c .compile .ensures; entries = start c .pre .0 .4 }
+arrays c = record { compiled = c .compile .ensures .0; changed = c .compile .ensures .1 .0; entries = start c .pre .0 .4 }
 
 -- where the rounds are run: the arrays, the plan's bytes, the answer, which keeps its promises, and the plan's length
 abbrev made : tie.After-run-rounds → tie.After-compile
-made d = d .before .before .before .before .before .before .before .before .before .before
+made d = d .before .before .before .before .before .before .before .before .before
 
 abbrev bytes : tie.After-run-rounds → List ℕ
 bytes d = d .run-rounds .last .1 .1 .1 .1 .1 .1 .0
@@ -47,11 +50,13 @@ answer d =
 
 told : (d : tie.After-run-rounds) → answerOf (bytes d) (d .run-rounds .result) ≡ answer d
 told d =
+    let a = start (made d) .args in
     let rated = d .before .before .before .before .before .before in
-    let placed = rated .before .before .before in
+    let begun = rated .before .begin .ensures in
     d .run-rounds .ensures .2
-    ∙ run-search (arrays (made d)) _ _ _ _ (start (made d) .pre .0 .1) _ _ (rated .figure .result)
-    (rated .before .positions .ensures .0) (placed .pack .ensures) (rated .figure .ensures)
+    ∙ run-search (arrays (made d)) _ _ _ _ (start (made d) .pre .0 .1) (positions (now (a .block))) _ (rated .figure .result) refl (begun .1)
+    (rated .figure .ensures
+    ∙ ap (λ (k : ℕ). plus 0 (entryEstimate (getD (now (a .table)) k 0))) (begun .2 ∙ ap (rankWord _ (positions (now (a .block)))) (sym (begun .1))))
 
 keeps :
     (d : tie.After-run-rounds)
@@ -72,34 +77,28 @@ fits d k c u e =
 compile-requires : tie.Need-compile-requires
 compile-requires c κs = search needs
 
-pack-requires : tie.Need-pack-requires
-pack-requires c κs =
-    let p = start c .pre .0 in start-small (p .0) _ (p .1)
-
-array-write-path : tie.Need-array-write-path
-array-write-path c = search needs
-
-positions-requires : tie.Need-positions-requires
-positions-requires c κs = search needs
+begin-requires : tie.Need-begin-requires
+begin-requires c κs = let p = start (c .before) .pre .0 in (p .0, p .1)
 
 array-read-figure : tie.Need-array-read-figure
 array-read-figure c = search needs
 
+-- the start's word is one of the block's states
+good : (c : tie.After-begin) → Good (now (start (c .before .before) .args .block)) (getD (c .begin .result) 0 0)
+good c = good-start (arrays (c .before .before)) _ (start (c .before .before) .pre .0 .1) _ (c .begin .ensures .1)
+
 figure-requires : tie.Need-figure-requires
 figure-requires c κs =
-    let d = c .before .before .before in
-    let e = c .positions .ensures .0 in (
-      omega (arith, e, start d .pre .0 .0 .sized .head .sizes .n-high),
-      rw e (rank-in (arrays d) _ (good-start (arrays d) _ (start d .pre .0 .1) _ (c .before .before .pack .ensures))),
-      omega arith,
-    )
+    let d = c .before .before in
+    (rw (c .begin .ensures .2 ∙ ap (rankWord _ (positions (now (start d .args .block)))) (sym (c .begin .ensures .1))) (rank-in (arrays d) _ (good c)), omega arith)
 
 run-rounds-requires : tie.Need-run-rounds-requires
 run-rounds-requires c κs =
-    let d = c .before .before .before .before .before .before .before .before .before in
+    let d = c .before .before .before .before .before .before .before .before in
+    let begun = c .before .before .before .before .before .before in
     let p = start d .pre .0 in
-    let packed = c .before .before .before .before .before .before .before .before .pack in
-    (arrays d, good-start (arrays d) _ (p .1) _ (packed .ensures), p .2, refl, refl)
+    let ranked = begun .begin .ensures .2 ∙ ap (rankWord _ (positions (now (start d .args .block)))) (sym (begun .begin .ensures .1)) in
+    ((arrays d, good begun, p .2, begun .begin .ensures .0, refl), ranked)
 
 enum-known-ending : tie.Need-enum-known-ending
 enum-known-ending c = search needs
@@ -131,9 +130,7 @@ find-plan-spec =
     tie.close
     (tie.spec
     compile-requires
-    pack-requires
-    array-write-path
-    positions-requires
+    begin-requires
     array-read-figure
     figure-requires
     run-rounds-requires

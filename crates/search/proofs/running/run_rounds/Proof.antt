@@ -23,7 +23,7 @@ abbrev μ-loop : tie.MeasureT-loop
 loop-holds : tie.Need-loop-holds Inv-loop μ-loop
 loop-holds c =
     let p = c .before .before .pre in
-    rest-whole (p .0) _ _ _ _ _ _ _ refl (p .3) (p .4)
+    rest-whole (p .0 .0) _ _ _ _ _ _ _ refl (p .1) (p .0 .3) (p .0 .4)
 
 round-limits-requires : tie.Need-round-limits-requires Inv-loop μ-loop
 round-limits-requires c κs = search needs
@@ -34,7 +34,7 @@ round-requires c κs =
     let a = c .before .before .before .before .before .before .before .before .args in
     let rest = c .before .before .before .before .before .loop .inv in (
       rw (c .before .before .before .round-limits .ensures)
-          (here-first (p .0) _ (a .allowance) (a .steps) _ (rw (rest .start) (p .1)) (rest .path-long) (p .2) (omega (arith, c .before .before .before .before .loop-test .taken)) (omega arith)),
+          (here-first (p .0 .0) _ (a .allowance) (a .steps) _ (rw (rest .start) (p .0 .1)) (rw (rest .start) (rest .ranked)) (rest .path-long) (p .0 .2) (omega (arith, c .before .before .before .before .loop-test .taken)) (omega arith)),
       rest .plan-long,
     )
 
@@ -57,14 +57,14 @@ loop-less c =
     omega (
       arith,
       l,
-      rest-higher (at .before .before .before .pre .0) _ _ _ _ _ _ _ _ _ (at .loop .inv) l (omega arith) _ _ _
+      rest-higher (at .before .before .before .pre .0 .0) _ _ _ _ _ _ _ _ _ (at .loop .inv) l (omega arith) _ _ _
           (left (c .before .before .before)) _ (c .before .left .given .1),
     )
 
 loop-again : tie.Need-loop-again Inv-loop μ-loop
 loop-again c =
     let at = c .before .before .before .before .before .before .before .before .before in
-    rest-on (at .before .before .before .pre .0) _ _ _ _ _ _ _ _ _ (at .loop .inv) (c .before .before .before .before .before .before .before .before .loop-test .taken) (omega arith) _ _ _
+    rest-on (at .before .before .before .pre .0 .0) _ _ _ _ _ _ _ _ _ (at .loop .inv) (c .before .before .before .before .before .before .before .before .loop-test .taken) (omega arith) _ _ _
     (left (c .before .before .before)) _ (c .before .left .given .1)
 
 enum-known-left-2 : tie.Need-enum-known-left-2 Inv-loop μ-loop
@@ -75,14 +75,14 @@ cast-cost c =
     let at = c .before .before .before .before .before .before .before .before .before in
     record {
       fits =
-          cost-small (at .before .before .before .pre .0) _ _ _ _ _ _ _ _ _ (at .loop .inv) (c .before .before .before .before .before .before .before .before .loop-test .taken) (omega arith) _ _ _
+          cost-small (at .before .before .before .pre .0 .0) _ _ _ _ _ _ _ _ _ (at .loop .inv) (c .before .before .before .before .before .before .before .before .loop-test .taken) (omega arith) _ _ _
           (left (c .before .before .before)) _ _ _ (c .before .left2 .given .1);
     }
 
 returns : tie.Need-returns Inv-loop μ-loop
 returns c =
     let at = c .before .before .before .before .before .before .before .before .before in
-    rest-hit (at .before .before .before .pre .0) _ _ _ _ _ _ _ _ _ (at .loop .inv) (c .before .before .before .before .before .before .before .before .loop-test .taken) (omega arith) _ _ _
+    rest-hit (at .before .before .before .pre .0 .0) _ _ _ _ _ _ _ _ _ (at .loop .inv) (c .before .before .before .before .before .before .before .before .loop-test .taken) (omega arith) _ _ _
     (left (c .before .before .before)) _ _ _ (c .before .left2 .given .1)
 
 enum-known-left-3 : tie.Need-enum-known-left-3 Inv-loop μ-loop
@@ -91,12 +91,12 @@ enum-known-left-3 c = search needs
 returns-2 : tie.Need-returns-2 Inv-loop μ-loop
 returns-2 c =
     let at = c .before .before .before .before .before .before .before .before .before in
-    rest-stop (at .before .before .before .pre .0) _ _ _ _ _ _ _ _ _ (at .loop .inv) (c .before .before .before .before .before .before .before .before .loop-test .taken) (omega arith) _ _ _
+    rest-stop (at .before .before .before .pre .0 .0) _ _ _ _ _ _ _ _ _ (at .loop .inv) (c .before .before .before .before .before .before .before .before .loop-test .taken) (omega arith) _ _ _
     (left (c .before .before .before)) _ (c .before .left3 .given .1)
 
 returns-3 : tie.Need-returns-3 Inv-loop μ-loop
 returns-3 c =
-    rest-none (c .before .before .before .before .pre .0) _ _ _ _ _ _ _ _ _ (c .before .loop .inv) (c .loop-test .left)
+    rest-none (c .before .before .before .before .pre .0 .0) _ _ _ _ _ _ _ _ _ (c .before .loop .inv) (c .loop-test .left)
 
 pub run-rounds-spec : {M : Type 1} → statement M
 run-rounds-spec =
