@@ -87,7 +87,7 @@ fn try_candidate(
     true
 }
 
-// Rule r, backwards from v: each candidate for the state before it in turn.
+// Rule r, backwards from v: each candidate w for the word of the state before it in turn.
 fn pull(
     block: &[u8],
     words: &[u64; 608],
@@ -111,25 +111,14 @@ fn pull(
         return;
     }
     let start = step_word(back_words, back_moves, r, after);
-    let mut candidate = start;
+    let mut w = start;
     let mut left = table.len();
     while left > 0 {
-        if !try_candidate(
-            block,
-            words,
-            moves,
-            weights,
-            ranked,
-            table,
-            links,
-            r,
-            v,
-            candidate,
-        ) {
+        if !try_candidate(block, words, moves, weights, ranked, table, links, r, v, w) {
             return;
         }
-        candidate = next_candidate(groups, layout::abstracts(block) as u64, r, candidate);
-        if candidate == start {
+        w = next_candidate(groups, layout::abstracts(block) as u64, r, w);
+        if w == start {
             return;
         }
         left -= 1;

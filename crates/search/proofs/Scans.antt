@@ -29,7 +29,7 @@ use Rattle.search.specs.Limits.{threshold, ruleCount, goalCount, positio
 use Rattle.search.specs.OnWords.{wordSystem, noFigure, figureOf, seen, onPath}
 use Rattle.search.specs.Parts.{Here, systemAt, estimateAt, Next, extendFrom, NextDue}
 use Rattle.search.proofs.Estimates.{below-at, below-mark, below-number}
-use Rattle.search.proofs.GoodWords.{positions-few, rules-few, good-step, rank-in, rank-small, rank-after}
+use Rattle.search.proofs.GoodWords.{rules-few, good-step, rank-in, rank-small, rank-after}
 
 -- ---- figures as numbers
 
@@ -114,9 +114,6 @@ module _
     {words moves weights table path limits : List ℕ} {depth cost : ℕ} (k : Here words moves weights table path limits depth cost) where
   pub rules-low : ruleCount limits ≤ 64
   rules-low = omega (arith, k .given .rules-told, rules-few (k .given .ready .compiled))
-
-  pub positions-low : positionCount limits ≤ 16
-  positions-low = omega (arith, k .given .positions-told, positions-few (k .given .ready .compiled))
 
   pub depth-below : depth < 65
   depth-below = omega (arith, k .depth-low, k .given .steps-few)

@@ -1,6 +1,5 @@
 -- `rank_changes::compile` meets its contract.
 -- The weights of pairs stand at the front, and so mean what they meant.
-use denote.Ref.{now}
 use Rattle.words.proofs.WordRanks.{weighted-front}
 use borrow.Author.Needs.{needs}
 use Rattle.rank_changes.proofs.compile.Statement.{statement}

@@ -9,11 +9,11 @@ use Rattle.filling.proofs.spreading.pull.Statement.{statement}
 use Rattle.filling.proofs.spreading.pull.Tie as tie
 
 abbrev Inv-loop : tie.InvT-loop
-Inv-loop block words moves weights ranked back-words back-moves groups table₀ links₀ r v after start candidate₀ left₀ table links candidate left =
+Inv-loop block words moves weights ranked back-words back-moves groups table₀ links₀ r v after start w₀ left₀ table links w left =
     Good (graphOf block) table
 
 abbrev μ-loop : tie.MeasureT-loop
-μ-loop block words moves weights ranked back-words back-moves groups table₀ links₀ r v after start candidate₀ left₀ table links candidate left =
+μ-loop block words moves weights ranked back-words back-moves groups table₀ links₀ r v after start w₀ left₀ table links w left =
     left
 
 mul-after : tie.Need-mul-after Inv-loop μ-loop

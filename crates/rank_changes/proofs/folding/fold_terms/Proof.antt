@@ -1,7 +1,6 @@
 -- `rank_changes::folding::fold_terms` meets its contract.
 -- The loop's invariant: some rows are folded, and the sum is the same.
 use Prim.Native.Nat.{_-_, _≤_}
-use denote.Ref.{now}
 use Rattle.blocks.specs.Layout.{sideAt}
 use Rattle.rank_changes.specs.Folds.{Folded}
 use Rattle.rank_changes.proofs.RowFolds.{folded-none, folded-then}

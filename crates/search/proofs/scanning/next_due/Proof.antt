@@ -1,6 +1,6 @@
 -- `search::scanning::next_due` meets its contract.
 -- The loop's invariant: what is left from the rule on, with the tally so far, is what is left from the first rule on.
-use mathlib.Core.Path.{_≡_, refl, sym, ap, subst, _∙_}
+use mathlib.Core.Path.{_≡_, refl, sym, ap, _∙_}
 use mathlib.Core.Logic.{⊎-elim}
 use Prim.Native.Nat.{ℕ, _+_, _-_, _≤_, _<_}
 use native.Mathlib.Omega.{arith}
@@ -15,8 +15,6 @@ use Rattle.tallies.specs.declared.Tally.{Tally}
 use Rattle.search.specs.Exercises.{entryEstimate}
 use Rattle.search.specs.Limits.{ruleCount, positionCount}
 use Rattle.search.specs.OnWords.{onPath}
-use Rattle.search.specs.Parts.{Scanned}
-use Rattle.search.specs.declared.scanning.Scan.{Scan}
 use Rattle.search.proofs.Scans.{rules-low, depth-below, parts-few, rank-low, rank-led, child-in, Same, Tried, same-start, same-then, none-left, pass-idle, pass-seen, pass-over, found-due}
 use Rattle.search.proofs.scanning.next_due.Statement.{statement}
 use Rattle.search.proofs.scanning.next_due.Tie as tie

@@ -1,6 +1,6 @@
 -- `words::changes::next_rank` meets its contract.
 -- The loop's invariant: the sum has the rank, the constant and what the parts passed add, each at most 65535.
-use mathlib.Core.Path.{_≡_, refl, sym, ap, ap₂, _∙_}
+use mathlib.Core.Path.{_≡_, sym, ap, ap₂, _∙_}
 use Prim.Native.Nat.{ℕ, _≤_, _+_, _*_, _-_, _%_}
 use native.Mathlib.Nat.{add-zero, add-assoc}
 use native.Mathlib.Numerals.{add-one}
