@@ -153,7 +153,7 @@ mikjuqan_entry mikjuqan_look_up_estimate(const uint8_t *block, size_t block_leng
 /* Finds a cheapest plan from a start, of at most `steps` rules and within the cost limit, with at most so many visits, by
  * any table that passes the test. A plan that is found is written, one rule number a byte; `plan` has room for `steps`
  * bytes, also where the plan is shorter. Refused with 3 to 7, 8, 10, 11, 12, 13. Needs at most 1,500 KiB of stack, where 64
- * rules are due at each of 64 steps: some 270 bytes for each extension due on the way, so some tens of KiB where few are. */
+ * rules are due at each of 64 steps: some 90 KiB, and some 270 bytes for each extension due on the way. */
 mikjuqan_plan mikjuqan_find_plan(const uint8_t *block, size_t block_length, const uint8_t *start, size_t start_length,
                                  size_t steps, uint32_t cost, uint32_t visits, const uint32_t *table, size_t table_length,
                                  uint8_t *plan, size_t plan_length);

@@ -96,7 +96,7 @@ fn find_plan() {
         println!("stack: find_plan with side extensions {side:?}: {} KiB, {expected:?}", used.div_ceil(KIB));
         used
     };
-    report("find_plan with one rule due", used(Side::NotApplying), 64);
+    report("find_plan with one rule due", used(Side::NotApplying), 128);
     report("find_plan", SIDES.map(used).into_iter().max().expect("there are sides"), 1500);
 }
 
