@@ -2,3 +2,4 @@
 -- What the entries of a filled table are, and why the fast pass may lower an entry.
 pub mod LeastEntries
 pub mod Predecessors
+pub mod NextWords

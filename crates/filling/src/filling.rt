@@ -1,12 +1,13 @@
 // The fill: the table is cleared, lowered in about the right order, and swept until nothing falls.
 ghost use mathlib.Core.Path.{_≡_};
 ghost use mathlib.Core.Bool.{cond};
-ghost use Prim.Native.Nat.{_≤_};
+ghost use Prim.Native.Nat.{_+_, _-_, _^_, _≤_, _<_};
 ghost use lib.ListN.{length};
 ghost use Rattle.basics.specs.Lists.{atFront};
 ghost use Rattle.blocks.specs.Layout.{goals, abstractStates};
 ghost use Rattle.blocks.specs.Validity.{Headed, Valid};
 ghost use Rattle.words.specs.Sides.{meetsWord};
+ghost use Rattle.words.specs.Ranking.{wordOf};
 ghost use Rattle.distances.specs.Graphs.{mark};
 ghost use Rattle.distances.specs.LeastCosts.{leastCosts};
 ghost use Rattle.distances.specs.Filling.{Good};
@@ -19,6 +20,7 @@ use blocks::layout;
 use compiling::compile;
 use psvn::relabelling::relabel_block;
 use tables::edges::MARK;
+use words::packing::digit;
 use words::ranking::word_of;
 use words::sides::meets_word;
 
@@ -33,6 +35,44 @@ fn cleared_entry(block: &[u8], words: &[u64; 608], moves: &[u8; 4384], word: u64
     MARK
 }
 
+// What a label of 1 at position i counts in a word.
+fn unit(i: usize) -> u64
+    requires { ⌜ i < 16 ⌝ }
+    ensures { λ r. ⌜ r ≡ 16 ^ i ⌝ }
+{
+    let one: u64 = 1;
+    one << (4 * i)
+}
+
+// The word of the rank behind u, from the word of rank u: the last label that can rise does, and those behind it begin again.
+fn next_word(block: &[u8], word: u64, u: usize) -> u64
+    requires { ⌜ Headed (now block) × (word ≡ wordOf (now block) u) ⌝ }
+    ensures { λ r. ⌜ r ≡ wordOf (now (block .entry)) (u + 1) ⌝ }
+{
+    let labels = layout::abstracts(block) as u64;
+    let mut next = word;
+    let mut i = layout::positions(block);
+    while i > 0 {
+        i -= 1;
+        if digit(next, i) + 1 < labels {
+            return next + unit(i);
+        }
+        next = next % unit(i);
+    }
+    next
+}
+
+// The word of rank u, from the word of the rank before it.
+fn word_at(block: &[u8], before: u64, u: usize) -> u64
+    requires { ⌜ Headed (now block) × (u < abstractStates (now block)) × (0 < u → before ≡ wordOf (now block) (u - 1)) ⌝ }
+    ensures { λ r. ⌜ r ≡ wordOf (now (block .entry)) u ⌝ }
+{
+    if u == 0 {
+        return word_of(block, u);
+    }
+    next_word(block, before, u - 1)
+}
+
 // Writes the word of each rank, and the entries before any rule is used.
 fn clear(
     block: &[u8],
@@ -45,9 +85,10 @@ fn clear(
     requires { ⌜ Ready (now block) (now words) (now moves) (now weights) × (length (now ranked) ≡ 16384) × (length (now table) ≡ abstractStates (now block)) ⌝ }
     ensures { λ _. ⌜ Ranked (now (block .entry)) (now (ranked .exit)) × Good (graphOf (now (block .entry))) (now (table .exit)) ⌝ }
 {
+    let mut word: u64 = 0;
     let mut u: usize = 0;
     while u < table.len() {
-        let word = word_of(block, u);
+        word = word_at(block, word, u);
         ranked[u] = word;
         table[u] = cleared_entry(block, words, moves, word);
         u += 1;

@@ -16,11 +16,14 @@ use super::queue::take_out;
 use blocks::layout;
 use candidates::next_candidate;
 use candidates::reverse_rules;
+use rule_sets::agreeing_with;
+use rule_sets::lowest_of;
+use rule_sets::make_sets;
+use rule_sets::without_lowest;
 use tables::edges::MARK;
 use words::ranking::rank_word;
 use words::sides::applies_word;
 use words::sides::cost_word;
-use words::sides::may_apply;
 use words::sides::step_word;
 
 // The most states taken out of the queue. Where the order is right each is taken out once, and there are at most 16,384.
@@ -107,7 +110,7 @@ fn pull(
     ensures { λ _. ⌜ Good (graphOf (now (block .entry))) (now (table .exit)) ⌝ }
 {
     let after = ranked[v];
-    if !may_apply(back_words, r, after) {
+    if !applies_word(back_words, back_moves, r, after) {
         return;
     }
     let start = step_word(back_words, back_moves, r, after);
@@ -125,7 +128,7 @@ fn pull(
     }
 }
 
-// All rules, backwards from v.
+// All rules whose reversed left side's constants agree with v, backwards from v.
 fn expand(
     block: &[u8],
     words: &[u64; 608],
@@ -135,6 +138,7 @@ fn expand(
     back_words: &[u64; 608],
     back_moves: &[u8; 4384],
     groups: &[u64; 2176],
+    back_sets: &[u64; 257],
     table: &mut [u32],
     links: &mut [u16; 33024],
     v: usize,
@@ -144,8 +148,12 @@ fn expand(
     ensures { λ _. ⌜ Good (graphOf (now (block .entry))) (now (table .exit)) ⌝ }
 {
     let rules = layout::rules(block);
-    let mut r: usize = 0;
-    while r < rules {
+    let mut rest = agreeing_with(back_sets, layout::positions(block), ranked[v]);
+    while rest > 0 {
+        let r = lowest_of(rest);
+        if rules <= r {
+            return;
+        }
         pull(
             block,
             words,
@@ -160,7 +168,7 @@ fn expand(
             r,
             v,
         );
-        r += 1;
+        rest = without_lowest(rest);
     }
 }
 
@@ -174,6 +182,7 @@ fn run_queue(
     back_words: &[u64; 608],
     back_moves: &[u8; 4384],
     groups: &[u64; 2176],
+    back_sets: &[u64; 257],
     table: &mut [u32],
     links: &mut [u16; 33024],
 )
@@ -198,6 +207,7 @@ fn run_queue(
             back_words,
             back_moves,
             groups,
+            back_sets,
             table,
             links,
             v,
@@ -221,8 +231,15 @@ pub fn spread(
     let mut back_words = [0u64; 608];
     let mut back_moves = [0u8; 4384];
     let mut groups = [0u64; 2176];
+    let mut back_sets = [0u64; 257];
     let mut links = [END; 33024];
     reverse_rules(block, &mut back_words, &mut back_moves, &mut groups);
+    make_sets(
+        &back_words,
+        layout::rules(block),
+        layout::positions(block),
+        &mut back_sets,
+    );
     put_goals(&mut links, table);
     run_queue(
         block,
@@ -233,6 +250,7 @@ pub fn spread(
         &back_words,
         &back_moves,
         &groups,
+        &back_sets,
         table,
         &mut links,
     );

@@ -3,6 +3,7 @@ ghost use Rattle.distances.specs.Graphs.{LeastTable};
 ghost use Rattle.distances.specs.Filling.{Good, Swept};
 ghost use Rattle.tables.specs.Abstraction.{graphOf, Ready};
 ghost use Rattle.filling.specs.RankWords.{Ranked};
+use tables::by_sides::passes_by_sides;
 use tables::edges::best;
 use tables::edges::wide_entry;
 
@@ -31,7 +32,7 @@ fn sweep(
     fell
 }
 
-// Sweeps until nothing falls; and whether an entry fell at all. Nothing is proved of this answer, which `fill_order` watches.
+// Where the table does not pass yet, sweeps until nothing falls; and whether an entry fell at all. Nothing is proved of this answer, which `fill_order` watches.
 pub fn settle(
     block: &[u8],
     words: &[u64; 608],
@@ -43,6 +44,9 @@ pub fn settle(
     requires { ⌜ Ready (now block) (now words) (now moves) (now weights) × Ranked (now block) (now ranked) × Good (graphOf (now block)) (now table) ⌝ }
     ensures { λ _. ⌜ LeastTable (graphOf (now (block .entry))) (now (table .exit)) ⌝ }
 {
+    if passes_by_sides(block, words, moves, weights, table) {
+        return false;
+    }
     let mut lowered = false;
     loop {
         if !sweep(block, words, moves, weights, ranked, table) {

@@ -5,3 +5,4 @@ pub mod Promises
 pub mod WordEdges
 pub mod RuleCosts
 pub mod RelabelledRanks
+pub mod SideTests

@@ -24,7 +24,7 @@ use Rattle.tables.specs.Abstraction.{stepRank, graphOf, Ready}
 use Rattle.tables.proofs.OverRanks.{rank-in}
 
 module _ (a words moves weights : List ℕ) (ready : Ready a words moves weights) where
-  headed : Headed a
+  pub headed : Headed a
   headed = ready .relabelled .valid .sized .head
 
   -- costs are bytes
@@ -34,7 +34,7 @@ module _ (a words moves weights : List ℕ) (ready : Ready a words moves weights
   pub few : abstractStates a ≤ 16384
   few = headed .few
 
-  unranked : (u : ℕ) → stateOk a (unrank a u) ≡ true
+  pub unranked : (u : ℕ) → stateOk a (unrank a u) ≡ true
   unranked u = ready .relabelled .abstract (unrank a u) ∙ unrank-abstract a headed u
 
   -- the word of a rank

@@ -2,3 +2,4 @@
 -- The relabelled exercise as a graph over ranks; estimates and the test.
 pub mod Abstraction
 pub mod Tables
+pub mod BySides

@@ -8,6 +8,7 @@ ghost use Rattle.words.specs.Ranking.{wordOf};
 ghost use Rattle.distances.specs.LowerBounds as test;
 ghost use Rattle.tables.specs.Abstraction.{graphOf, Relabelled, Ready};
 ghost use Rattle.tables.specs.Tables.{passesTest};
+use super::by_sides::passes_by_sides;
 use super::edges::MARK;
 use super::edges::NO_COST;
 use super::edges::best;
@@ -79,6 +80,9 @@ fn passes_relabelled(block: &[u8], table: &[u32]) -> bool
     let mut moves = [0u8; 4384];
     let mut weights = [0u16; 2048];
     compile(block, &mut words, &mut moves, &mut weights);
+    if passes_by_sides(block, &words, &moves, &weights, table) {
+        return true;
+    }
     passes_everywhere(block, &words, &moves, &weights, table)
 }
 

@@ -69,7 +69,7 @@ pair-byte w j =
     two v = omega arith
 
 -- from n on a word of n labels has no digits
-digit-high : (n w k : ℕ) → w < 16 ^ n → n ≤ k → digit w k ≡ 0
+pub digit-high : (n w k : ℕ) → w < 16 ^ n → n ≤ k → digit w k ≡ 0
 unfolding digit
 digit-high n w k l h =
     ap (λ (x : ℕ). x % 16) (div-eq-of-lt (lt-of-lt-of-le l (pow-le-pow-right (zero-lt-suc 15) h)))
@@ -94,7 +94,7 @@ or-below n v w a b =
 raised : (d to : ℕ) → d * 16 ^ suc to ≡ d * 16 ^ to * 16
 raised d to = ap (λ (x : ℕ). d * x) (pow-suc 16 to) ∙ sym (mul-assoc d (16 ^ to) 16)
 
-digit-before : (d to k : ℕ) → k < to → digit (d * 16 ^ to) k ≡ 0
+pub digit-before : (d to k : ℕ) → k < to → digit (d * 16 ^ to) k ≡ 0
 digit-before d zero k l = absurd (not-suc-le-zero l)
 digit-before d (suc to) zero l =
     digit-first (d * 16 ^ suc to) ∙ ap (λ (x : ℕ). x % 16) (raised d to) ∙ mul-mod-left (d * 16 ^ to) 16
@@ -104,12 +104,12 @@ digit-before d (suc to) (suc k) l =
     ∙ digit-before d to k (le-of-suc-le-suc l)
 
 module _ (d : ℕ) (h : d < 16) where
-  placed-below : (to n : ℕ) → to < n → d * 16 ^ to < 16 ^ n
+  pub placed-below : (to n : ℕ) → to < n → d * 16 ^ to < 16 ^ n
   placed-below to n l =
       let m = digits-lt h (one-le-pow to 16 (zero-lt-suc 15)) in
       lt-of-lt-of-le (omega (arith, pow-succ' 16 to)) (pow-le-pow-right (zero-lt-suc 15) l)
 
-  digit-placed : (to : ℕ) → digit (d * 16 ^ to) to ≡ d
+  pub digit-placed : (to : ℕ) → digit (d * 16 ^ to) to ≡ d
   unfolding digit
   digit-placed to =
       ap (λ (x : ℕ). x % 16) (mul-div-cancel d (one-le-pow to 16 (zero-lt-suc 15))) ∙ mod-eq-of-lt h

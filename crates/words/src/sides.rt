@@ -21,7 +21,7 @@ fn move_label(word: u64, from: u8, to: u8) -> u64
 }
 
 // What the side at place x makes of a word.
-fn rewritten_word(words: &[u64; 608], moves: &[u8; 4384], x: usize, word: u64) -> u64
+pub fn rewritten_word(words: &[u64; 608], moves: &[u8; 4384], x: usize, word: u64) -> u64
     requires { ⌜ x < 136 ⌝ }
     ensures { λ r. ⌜ r ≡ rewrittenWord (now (words .entry)) (now (moves .entry)) x word ⌝ }
 {

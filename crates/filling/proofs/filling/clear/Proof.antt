@@ -1,8 +1,8 @@
 -- `filling::filling::clear` meets its contract.
 -- The loop's invariant: the words and the entries below u are written.
-use mathlib.Core.Path.{_≡_, ap, _∙_}
+use mathlib.Core.Path.{_≡_, sym, ap, _∙_}
 use mathlib.Core.Bool.{Bool, cond}
-use Prim.Native.Nat.{ℕ, _≤_, _<_, _-_}
+use Prim.Native.Nat.{ℕ, _+_, _≤_, _<_, _-_}
 use native.Mathlib.Omega.{arith}
 use denote.Ref.{now}
 use lib.ListN.{length, getD, length-set}
@@ -21,12 +21,12 @@ use Rattle.filling.proofs.filling.clear.Statement.{statement}
 use Rattle.filling.proofs.filling.clear.Tie as tie
 
 abbrev Inv-loop : tie.InvT-loop
-Inv-loop block words moves weights ranked₀ table₀ u₀ ranked table u =
+Inv-loop block words moves weights ranked₀ table₀ word₀ u₀ ranked table word u =
     (u ≤ abstractStates block) × (abstractStates block ≤ 16384) × (length ranked ≡ 16384) × (length table ≡ abstractStates block)
-    × ((w : ℕ) → w < u → getD ranked w 0 ≡ wordOf block w) × Cleared (graphOf block) table u
+    × ((w : ℕ) → w < u → getD ranked w 0 ≡ wordOf block w) × Cleared (graphOf block) table u × (0 < u → word ≡ wordOf block (u - 1))
 
 abbrev μ-loop : tie.MeasureT-loop
-μ-loop block words moves weights ranked₀ table₀ u₀ ranked table u = abstractStates block - u
+μ-loop block words moves weights ranked₀ table₀ word₀ u₀ ranked table word u = abstractStates block - u
 
 -- the entry that is written
 entry :
@@ -40,17 +40,20 @@ entry c =
     let m = now (s .args .moves) in
     c .cleared-entry .ensures
     ∙ ap (λ (t : Bool). cond t 0 mark)
-    (ap (λ (x : ℕ). meetsWord w m (goals b) x) (c .before .word-of .ensures)
+    (ap (λ (x : ℕ). meetsWord w m (goals b) x) (c .before .word-at .ensures)
     ∙ word-goal b w m (now (s .args .weights)) (s .pre .0) (c .before .before .before .loop .u))
 
 loop-holds : tie.Need-loop-holds Inv-loop μ-loop
 loop-holds c =
     let s = c .before .before in
     let a = s .args in
-    (search needs, few (now (a .block)) (now (a .words)) (now (a .moves)) (now (a .weights)) (s .pre .0), s .pre .1, s .pre .2, λ w h. absurd (omega arith), λ w h. absurd (omega arith))
+    (search needs, few (now (a .block)) (now (a .words)) (now (a .moves)) (now (a .weights)) (s .pre .0), s .pre .1, s .pre .2, λ w h. absurd (omega arith), λ w h. absurd (omega arith), λ z. absurd (omega arith))
 
-word-of-requires : tie.Need-word-of-requires Inv-loop μ-loop
-word-of-requires c κs = search needs
+word-at-requires : tie.Need-word-at-requires Inv-loop μ-loop
+word-at-requires c κs =
+    let s = c .before .before .before .before in
+    let l = c .before .loop in
+    (s .pre .0 .relabelled .valid .sized .head, omega (arith, l .inv .3, c .loop-test .taken), l .inv .6)
 
 mul-ranked : tie.Need-mul-ranked Inv-loop μ-loop
 mul-ranked c = search needs
@@ -77,14 +80,15 @@ loop-again : tie.Need-loop-again Inv-loop μ-loop
 loop-again c =
     let b = now (c .before .before .before .before .before .before .args .block) in
     let l = c .before .before .before .loop in
-    let word = c .before .word-of .result in
+    let word = c .before .word-at .result in
     let e = c .cleared-entry .result in (
       omega arith,
       l .inv .1,
       length-set (l .ranked) (l .u) word ∙ l .inv .2,
       length-set (l .table) (l .u) e ∙ l .inv .3,
-      set-more (wordOf b) (l .ranked) (l .u) word (l .inv .4) (omega arith) (c .before .word-of .ensures),
+      set-more (wordOf b) (l .ranked) (l .u) word (l .inv .4) (omega arith) (c .before .word-at .ensures),
       set-more (λ w. cond (meets b (unrank b w)) 0 mark) (l .table) (l .u) e (l .inv .5) (omega arith) (entry c),
+      λ z. let e : l .u + 1 - 1 ≡ l .u = omega arith in c .before .word-at .ensures ∙ ap (wordOf b) (sym e),
     )
 
 same-length : tie.Need-same-length Inv-loop μ-loop
@@ -105,7 +109,7 @@ clear-spec =
     Inv-loop
     μ-loop
     loop-holds
-    word-of-requires
+    word-at-requires
     mul-ranked
     element-write-ranked
     cleared-entry-requires

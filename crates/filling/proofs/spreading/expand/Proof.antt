@@ -1,49 +1,69 @@
 -- `filling::spreading::expand` meets its contract.
--- The loop's invariant: the rules passed are rules of the block, and the table is good.
+-- The loop's invariant: the table is good; the set of rules falls.
 use mathlib.Core.Path.{_≡_, sym, _∙_}
 use Prim.Native.Nat.{_≤_, _-_}
 use native.Mathlib.Omega.{arith}
-use borrow.Author.Needs.{needs}
-use Rattle.blocks.specs.Layout.{rules}
+use Rattle.blocks.specs.Layout as layout
 use Rattle.distances.specs.Filling.{Good}
 use Rattle.tables.specs.Abstraction.{graphOf}
+use borrow.Author.Needs.{needs}
 use Rattle.filling.proofs.spreading.expand.Statement.{statement}
 use Rattle.filling.proofs.spreading.expand.Tie as tie
 
 abbrev Inv-loop : tie.InvT-loop
-Inv-loop block words moves weights ranked back-words back-moves groups table₀ links₀ v count r₀ table links r =
-    (count ≡ rules block) × (r ≤ count) × Good (graphOf block) table
+Inv-loop block words moves weights ranked back-words back-moves groups back-sets table₀ links₀ v rules rest₀ table links rest =
+    (rules ≡ layout.rules block) × Good (graphOf block) table
 
 abbrev μ-loop : tie.MeasureT-loop
-μ-loop block words moves weights ranked back-words back-moves groups table₀ links₀ v count r₀ table links r =
-    count - r
+μ-loop block words moves weights ranked back-words back-moves groups back-sets table₀ links₀ v rules rest₀ table links rest = rest
 
 rules-requires : tie.Need-rules-requires Inv-loop μ-loop
 rules-requires c κs = search needs
 
+positions-requires : tie.Need-positions-requires Inv-loop μ-loop
+positions-requires c κs = search needs
+
+mul-agreeing-with : tie.Need-mul-agreeing-with Inv-loop μ-loop
+mul-agreeing-with c = search needs
+
+element-copy-out-agreeing-with : tie.Need-element-copy-out-agreeing-with Inv-loop μ-loop
+element-copy-out-agreeing-with c = search needs
+
+agreeing-with-requires : tie.Need-agreeing-with-requires Inv-loop μ-loop
+agreeing-with-requires c κs = omega (arith, c .before .positions .ensures .0, c .before .before .before .before .before .pre .0 .0 .relabelled .valid .sized .head .sizes .n-high)
+
 loop-holds : tie.Need-loop-holds Inv-loop μ-loop
-loop-holds c = (search needs, search needs, c .before .before .before .pre .0 .2)
+loop-holds c = (c .before .before .before .rules .ensures .0, c .before .before .before .before .before .before .pre .0 .2)
+
+lowest-of-requires : tie.Need-lowest-of-requires Inv-loop μ-loop
+lowest-of-requires c κs = search needs
+
+same-length : tie.Need-same-length Inv-loop μ-loop
+same-length c = c .before .before .before .loop .inv .1 .len ∙ sym (c .before .before .before .before .before .before .before .before .before .before .pre .0 .2 .len)
+
+returns : tie.Need-returns Inv-loop μ-loop
+returns c = c .before .before .before .loop .inv .1
 
 pull-requires : tie.Need-pull-requires Inv-loop μ-loop
 pull-requires c κs =
-    let p = c .before .before .before .before .before .before .before .pre in
-    let inv = c .before .before .before .loop .inv in
-    ((p .0 .0, p .0 .1, inv .2), (omega arith, p .1))
+    let p = c .before .before .before .before .before .before .before .before .before .before .before .before .pre in
+    let l = c .before .before .before .before .before .loop in
+    ((p .0 .0, p .0 .1, l .inv .1), (omega (arith, l .inv .0, c .before .before .if1 .left), p .1))
 
-add-r : tie.Need-add-r Inv-loop μ-loop
-add-r c = search needs
+without-lowest-requires : tie.Need-without-lowest-requires Inv-loop μ-loop
+without-lowest-requires c κs = search needs
 
 loop-less : tie.Need-loop-less Inv-loop μ-loop
-loop-less c = search needs
+loop-less c = c .without-lowest .ensures .1
 
 loop-again : tie.Need-loop-again Inv-loop μ-loop
-loop-again c = (c .before .before .before .before .before .before .loop .inv .0, search needs, c .before .before .pull .ensures)
+loop-again c = (c .before .before .before .before .before .before .before .before .before .loop .inv .0, c .before .before .before .pull .ensures)
 
-same-length : tie.Need-same-length Inv-loop μ-loop
-same-length c = c .before .loop .inv .2 .len ∙ sym (c .before .before .before .before .before .pre .0 .2 .len)
+same-length-2 : tie.Need-same-length-2 Inv-loop μ-loop
+same-length-2 c = c .before .loop .inv .1 .len ∙ sym (c .before .before .before .before .before .before .before .before .pre .0 .2 .len)
 
-returns : tie.Need-returns Inv-loop μ-loop
-returns c = c .before .loop .inv .2
+returns-2 : tie.Need-returns-2 Inv-loop μ-loop
+returns-2 c = c .before .loop .inv .1
 
 pub expand-spec : {M : Type 1} → statement M
 expand-spec =
@@ -52,10 +72,17 @@ expand-spec =
     Inv-loop
     μ-loop
     rules-requires
+    positions-requires
+    mul-agreeing-with
+    element-copy-out-agreeing-with
+    agreeing-with-requires
     loop-holds
+    lowest-of-requires
+    same-length
+    returns
     pull-requires
-    add-r
+    without-lowest-requires
     loop-less
     loop-again
-    same-length
-    returns)
+    same-length-2
+    returns-2)

@@ -22,8 +22,8 @@ mul-after c = search needs
 element-copy-out-after : tie.Need-element-copy-out-after Inv-loop μ-loop
 element-copy-out-after c = search needs
 
-may-apply-requires : tie.Need-may-apply-requires Inv-loop μ-loop
-may-apply-requires c κs = search needs
+applies-word-requires : tie.Need-applies-word-requires Inv-loop μ-loop
+applies-word-requires c κs = search needs
 
 returns : tie.Need-returns Inv-loop μ-loop
 returns c = c .before .before .before .before .before .pre .0 .2
@@ -82,7 +82,7 @@ pull-spec =
     μ-loop
     mul-after
     element-copy-out-after
-    may-apply-requires
+    applies-word-requires
     returns
     step-word-requires
     loop-holds

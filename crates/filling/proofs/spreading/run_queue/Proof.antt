@@ -8,11 +8,11 @@ use Rattle.filling.proofs.spreading.run_queue.Statement.{statement}
 use Rattle.filling.proofs.spreading.run_queue.Tie as tie
 
 abbrev Inv-loop : tie.InvT-loop
-Inv-loop block words moves weights ranked back-words back-moves groups table₀ links₀ list₀ left₀ table links list left =
+Inv-loop block words moves weights ranked back-words back-moves groups back-sets table₀ links₀ list₀ left₀ table links list left =
     (list < 256) × Good (graphOf block) table
 
 abbrev μ-loop : tie.MeasureT-loop
-μ-loop block words moves weights ranked back-words back-moves groups table₀ links₀ list₀ left₀ table links list left = left
+μ-loop block words moves weights ranked back-words back-moves groups back-sets table₀ links₀ list₀ left₀ table links list left = left
 
 loop-holds : tie.Need-loop-holds Inv-loop μ-loop
 loop-holds c = search needs

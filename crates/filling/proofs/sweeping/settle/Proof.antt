@@ -1,14 +1,14 @@
 -- `filling::sweeping::settle` meets its contract.
--- The loop's invariant: the table is good. The sum of its entries falls with every pass but the last.
-use mathlib.Core.Path.{_≡_, _∙_}
+-- A table that passes is left as it is. The loop's invariant: the table is good. The sum of its entries falls with every pass but the last.
+use mathlib.Core.Path.{_≡_, refl, _∙_}
 use native.Mathlib.Omega.{arith}
 use lib.ListN.{length}
 use denote.Ref.{now}
-use borrow.Author.Needs.{needs}
 use borrow.Author.Tests.{not-true, not-false}
 use Rattle.distances.specs.Filling.{total, Good}
 use Rattle.distances.proofs.Exactness.{exact}
 use Rattle.tables.specs.Abstraction.{graphOf}
+use borrow.Author.Needs.{needs}
 use Rattle.filling.proofs.sweeping.settle.Statement.{statement}
 use Rattle.filling.proofs.sweeping.settle.Tie as tie
 
@@ -18,25 +18,36 @@ Inv-loop block words moves weights ranked table₀ lowered₀ table lowered = (l
 abbrev μ-loop : tie.MeasureT-loop
 μ-loop block words moves weights ranked table₀ lowered₀ table lowered = total table
 
+passes-by-sides-requires : tie.Need-passes-by-sides-requires Inv-loop μ-loop
+passes-by-sides-requires c κs = let s = c .before .before .before in (s .pre .0, omega (arith, s .pre .2 .len))
+
+same-length : tie.Need-same-length Inv-loop μ-loop
+same-length c = refl
+
+returns : tie.Need-returns Inv-loop μ-loop
+returns c =
+    let s = c .before .before .before .before .before in
+    exact (graphOf (now (s .args .block))) (now (s .args .table)) (s .pre .2) (c .before .passes-by-sides .ensures (c .if1 .taken)) (λ u. omega (arith, c .before .before .before .slice-known .given u))
+
 loop-holds : tie.Need-loop-holds Inv-loop μ-loop
-loop-holds c = search needs
+loop-holds c = (refl, c .before .before .before .before .before .pre .2)
 
 sweep-requires : tie.Need-sweep-requires Inv-loop μ-loop
 sweep-requires c κs = search needs
 
-same-length : tie.Need-same-length Inv-loop μ-loop
-same-length c =
+same-length-2 : tie.Need-same-length-2 Inv-loop μ-loop
+same-length-2 c =
     let d = c .before .before .before in
     d .sweep .kept .1 .1 .1 .1 .1 .0 ∙ d .before .before .loop .inv .0
 
-returns : tie.Need-returns Inv-loop μ-loop
-returns c =
+returns-2 : tie.Need-returns-2 Inv-loop μ-loop
+returns-2 c =
     let d = c .before .before .before in
     let s = d .sweep .ensures in
-    exact (graphOf (now (d .before .before .before .before .before .args .block))) (d .sweep .last .1 .1 .1 .1 .1 .0) (s .good) (s .passes (not-true _ (c .if1 .taken))) (λ u. omega (arith, c .before .slice-known2 .given u))
+    exact (graphOf (now (c .before .before .before .before .before .before .before .before .before .before .before .args .block))) (d .sweep .last .1 .1 .1 .1 .1 .0) (s .good) (s .passes (not-true _ (c .if2 .taken))) (λ u. omega (arith, c .before .slice-known2 .given u))
 
 loop-less : tie.Need-loop-less Inv-loop μ-loop
-loop-less c = c .before .before .before .sweep .ensures .falls (not-false _ (c .if1 .left))
+loop-less c = c .before .before .before .sweep .ensures .falls (not-false _ (c .if2 .left))
 
 loop-again : tie.Need-loop-again Inv-loop μ-loop
 loop-again c =
@@ -46,4 +57,15 @@ loop-again c =
 pub settle-spec : {M : Type 1} → statement M
 settle-spec =
     tie.close
-    (tie.spec Inv-loop μ-loop loop-holds sweep-requires same-length returns loop-less loop-again)
+    (tie.spec
+    Inv-loop
+    μ-loop
+    passes-by-sides-requires
+    same-length
+    returns
+    loop-holds
+    sweep-requires
+    same-length-2
+    returns-2
+    loop-less
+    loop-again)

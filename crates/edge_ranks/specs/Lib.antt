@@ -1,0 +1,2 @@
+-- The definitions on lists of ranks.
+pub mod Lists

@@ -1,0 +1,37 @@
+-- `tables::by_sides::entry_passes` meets its contract.
+use mathlib.Core.Path.{_≡_, refl, sym, ap, ap₂, _∙_}
+use mathlib.Core.Bool.{true}
+use mathlib.Core.Logic.{⊎-elim}
+use Prim.Native.Nat.{ℕ, _+_, _-_, _≤_, _<_}
+use native.Mathlib.Omega.{arith}
+use denote.Ref.{now}
+use lib.ListN.{getD}
+use borrow.Author.Count.{below-more}
+use borrow.Author.Tests.{leb-true, not-false}
+use Rattle.basics.proofs.Truth.{true-false}
+use borrow.Author.Needs.{needs}
+use Rattle.tables.proofs.by_sides.entry_passes.Statement.{statement}
+use Rattle.tables.proofs.by_sides.entry_passes.Tie as tie
+
+returns : tie.Need-returns
+returns c = search needs
+
+returns-2 : tie.Need-returns-2
+returns-2 c = λ e. absurd (true-false e refl)
+
+wide-entry-requires : tie.Need-wide-entry-requires
+wide-entry-requires c κs = search needs
+
+wide-entry-requires-2 : tie.Need-wide-entry-requires-2
+wide-entry-requires-2 c κs = search needs
+
+add-result : tie.Need-add-result
+add-result c = search needs
+
+returns-3 : tie.Need-returns-3
+returns-3 c = λ e m. (c .before .before .if2 .left, let k = leb-true (c .before .wide-entry .result) (c .wide-entry2 .result + c .before .before .before .before .args .cost) e in omega (arith, k, c .before .wide-entry .ensures .0, c .wide-entry2 .ensures .0))
+
+pub entry-passes-spec : {M : Type 1} → statement M
+entry-passes-spec =
+    tie.close
+    (tie.spec returns returns-2 wide-entry-requires wide-entry-requires-2 add-result returns-3)
