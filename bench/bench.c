@@ -1,5 +1,5 @@
-/* Runs the library, the tuned engine and the plain engine on the same inputs in turns, compares every answer, and
- * prints the medians and their ratios. */
+/* Runs the library, the tuned engine, the plain engine and the generated engine on the same inputs in turns, compares
+ * every answer, and prints the medians and their ratios. */
 #define _POSIX_C_SOURCE 200809L
 
 #include "engine.h"
@@ -10,10 +10,11 @@
 #include <string.h>
 #include <time.h>
 
-enum { ENGINES = 3, MOST_TASKS = 32, MOST_ROUNDS = 101, USUAL_ROUNDS = 7 };
+enum { ENGINES = 4, MOST_TASKS = 32, MOST_ROUNDS = 101, USUAL_ROUNDS = 7 };
 
 /* The library stands first: the others are compared with it, in their answers and in their times. */
-static const struct engine *const engines[ENGINES] = {&library_engine, &tuned_engine, &plain_engine};
+static const struct engine *const engines[ENGINES] = {&library_engine, &tuned_engine, &plain_engine,
+                                                      &generated_engine};
 
 /* A short call is repeated until it takes about this long, in seconds, so that the clock's grain does not count. */
 static const double LONG_ENOUGH = 0.02;
@@ -52,6 +53,23 @@ static void clear(struct outcome *outcome) {
   memset(outcome, 0, sizeof *outcome);
   memset(outcome->bytes, 0xA5, sizeof outcome->bytes);
   memset(outcome->table, 0xA5, sizeof outcome->table);
+}
+
+/* Whether an engine has the call for an action; where it has not, it is left out. */
+static bool can_perform(const struct engine *engine, enum action action) {
+  switch (action) {
+    case READ:
+      return engine->read;
+    case CHECK:
+      return engine->check;
+    case FILL:
+      return engine->fill;
+    case TEST:
+      return engine->test;
+    case FIND:
+      return engine->find;
+  }
+  return false;
 }
 
 static inline void perform(const struct engine *engine, const struct task *task, struct outcome *outcome) {
@@ -129,11 +147,12 @@ static unsigned long count_repetitions(const struct task *task, unsigned e, stru
 
 static struct outcome expected[MOST_TASKS];
 
-/* Every engine performs every task; the library's outcome is what the others are compared with from now on. */
+/* Every engine performs every task that it can; from now on the others are compared with the library's outcome. */
 static void prepare(void) {
   static struct outcome outcome;
   for (unsigned t = 0; t < task_count; t++) {
     for (unsigned e = 0; e < ENGINES; e++) {
+      if (!can_perform(engines[e], tasks[t].action)) continue;
       tasks[t].repetitions[e] = count_repetitions(&tasks[t], e, &outcome);
       if (e == 0) expected[t] = outcome;
       compare(&tasks[t], e, &outcome, &expected[t]);
@@ -141,12 +160,13 @@ static void prepare(void) {
   }
 }
 
-/* One round: each task by all engines, in an order that is turned round from round to round. */
+/* One round: each task by all engines that can, in an order that is turned round from round to round. */
 static void run_round(unsigned round) {
   static struct outcome outcome;
   for (unsigned t = 0; t < task_count; t++) {
     for (unsigned k = 0; k < ENGINES; k++) {
       unsigned e = round % 2 ? ENGINES - 1 - k : k;
+      if (!can_perform(engines[e], tasks[t].action)) continue;
       tasks[t].seconds[e][round] = time_calls(&tasks[t], e, tasks[t].repetitions[e], &outcome);
       compare(&tasks[t], e, &outcome, &expected[t]);
     }
@@ -183,10 +203,11 @@ static struct task *add_task(const char *heading, const char *name, enum action 
   return task;
 }
 
-/* Fills the task's table by all engines, which must agree. */
+/* Fills the task's table by all engines that can, which must agree. */
 static void fill_table(struct task *task) {
   static struct outcome first, outcome;
   for (unsigned e = 0; e < ENGINES; e++) {
+    if (!can_perform(engines[e], FILL)) continue;
     clear(&outcome);
     engines[e]->fill(task->input.block, task->input.length, outcome.table);
     if (e == 0) first = outcome;
@@ -196,17 +217,11 @@ static void fill_table(struct task *task) {
 }
 
 static void add_searches(void) {
-  const char *heading = "search, ns per visit";
-  struct task *first = &tasks[task_count], *task;
-  task = add_task(heading, "tiles", FIND);
-  make_tiles(&task->input, &task->query);
-  task = add_task(heading, "pancake", FIND);
-  make_pancake(&task->input, &task->query);
-  task = add_task(heading, "slots", FIND);
-  make_slots(&task->input, &task->query);
-  task = add_task(heading, "64 rules", FIND);
-  make_many_rules(&task->input, &task->query);
-  for (struct task *t = first; t <= task; t++) fill_table(t);
+  for (unsigned k = 0; k < SEARCHES; k++) {
+    struct task *task = add_task("search, ns per visit", search_inputs[k].title, FIND);
+    search_inputs[k].make(&task->input, &task->query);
+    fill_table(task);
+  }
 }
 
 static void add_fills(void) {
@@ -218,11 +233,11 @@ static void add_fills(void) {
 }
 
 /* The tables of the searches, which the library tests in each search, and the largest one. */
-static void add_tests(unsigned searches) {
+static void add_tests(void) {
   const char *heading = "test of a table, us";
-  for (unsigned t = 0; t < searches; t++) {
-    struct task *task = add_task(heading, tasks[t].name, TEST);
-    task->input = tasks[t].input;
+  for (unsigned k = 0; k < SEARCHES; k++) {
+    struct task *task = add_task(heading, search_inputs[k].title, TEST);
+    search_inputs[k].make(&task->input, &task->query);
     fill_table(task);
   }
   struct task *task = add_task(heading, "random rules", TEST);
@@ -241,11 +256,31 @@ static void add_openings(void) {
 
 /* ---- the table ---- */
 
+/* The width of a column of ratios, which is headed by two names. */
+static int ratio_width(unsigned e) { return (int)(strlen(engines[0]->name) + 1 + strlen(engines[e]->name)); }
+
+/* A task's column of times or ratios; an engine that is left out has a dash. */
+static void print_time(const struct task *task, unsigned e, unsigned rounds, double unit) {
+  if (can_perform(engines[e], task->action)) {
+    printf(" %10.2f", median(task->seconds[e], rounds) / unit);
+  } else {
+    printf(" %10s", "-");
+  }
+}
+
+static void print_ratio(const struct task *task, unsigned e, unsigned rounds) {
+  if (can_perform(engines[e], task->action)) {
+    printf(" %*.2f", ratio_width(e), median_ratio(task, e, rounds));
+  } else {
+    printf(" %*s", ratio_width(e), "-");
+  }
+}
+
 static void print_task(const struct task *task, const struct outcome *outcome, unsigned rounds) {
   double unit = task->action == FIND ? outcome->answer.visits * 1e-9 : 1e-6;
   printf("  %-18s", task->name);
-  for (unsigned e = 0; e < ENGINES; e++) printf(" %10.2f", median(task->seconds[e], rounds) / unit);
-  for (unsigned e = 1; e < ENGINES; e++) printf(" %10.2f", median_ratio(task, e, rounds));
+  for (unsigned e = 0; e < ENGINES; e++) print_time(task, e, rounds, unit);
+  for (unsigned e = 1; e < ENGINES; e++) print_ratio(task, e, rounds);
   if (task->action == FIND) printf("   %u visits", outcome->answer.visits);
   printf("\n");
 }
@@ -254,7 +289,7 @@ static void print_tasks(unsigned rounds) {
   const char *heading = "";
   printf("%-20s", "");
   for (unsigned e = 0; e < ENGINES; e++) printf(" %10s", engines[e]->name);
-  for (unsigned e = 1; e < ENGINES; e++) printf(" %4s/%s", engines[0]->name, engines[e]->name);
+  for (unsigned e = 1; e < ENGINES; e++) printf(" %s/%s", engines[0]->name, engines[e]->name);
   printf("\n");
   for (unsigned t = 0; t < task_count; t++) {
     if (strcmp(heading, tasks[t].heading) != 0) printf("%s\n", tasks[t].heading);
@@ -279,9 +314,8 @@ int main(int arguments, char **argument) {
     return 2;
   }
   add_searches();
-  unsigned searches = task_count;
   add_fills();
-  add_tests(searches);
+  add_tests();
   add_openings();
   prepare();
   for (unsigned round = 0; round < rounds; round++) {

@@ -1,4 +1,5 @@
-/* What the benchmark asks of an engine: the library, the plain engine and the tuned engine each have these calls.
+/* What the benchmark asks of an engine: the library, the plain engine and the tuned engine each have these calls, the
+ * generated one has `find` alone. A call that an engine does not have is NULL.
  *
  * `read` and `check` take whatever they are handed. The others take a block that `check` accepts, and a table of as
  * many entries as the exercise has abstract states; `find` takes a table that passes the lower-bound test. */
@@ -58,5 +59,6 @@ struct engine {
 extern const struct engine library_engine;
 extern const struct engine plain_engine;
 extern const struct engine tuned_engine;
+extern const struct engine generated_engine;
 
 #endif

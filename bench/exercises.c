@@ -62,8 +62,7 @@ static void add_line(struct input *input, const uint8_t *bytes, unsigned count) 
   input->text_length += 2 * count + 1;
 }
 
-/* The text of a finished block. */
-static void write_text(struct input *input) {
+void write_text(struct input *input) {
   struct exercise e = open_block(input->block);
   input->text_length = 0;
   add_line(input, input->block, HEAD_LENGTH);
@@ -83,7 +82,7 @@ static struct query query_of(const uint8_t *start, unsigned positions, uint32_t 
 
 /* The eight tiles: few of the 24 rules apply to a state. Rules go by the empty place, and by the tiles above it, to its
  * left, to its right and below it. The table tells odd tiles from even ones. */
-void make_tiles(struct input *input, struct query *query) {
+static void make_tiles(struct input *input, struct query *query) {
   static const uint8_t goal[9] = {0, 1, 2, 3, 4, 5, 6, 7, 8};
   static const uint8_t start[9] = {7, 6, 5, 3, 8, 0, 2, 4, 1};
   begin(input, 9, 9, 2, NULL);
@@ -99,7 +98,7 @@ void make_tiles(struct input *input, struct query *query) {
 
 /* Eleven pancakes, to be laid with the highest label first: every rule applies to every state, and the first one moves
  * all labels. */
-void make_pancake(struct input *input, struct query *query) {
+static void make_pancake(struct input *input, struct query *query) {
   static const uint8_t map[11] = {0, 0, 0, 0, 0, 0, 1, 1, 1, 1, 1};
   static const uint8_t goal[11] = {10, 9, 8, 7, 6, 5, 4, 3, 2, 1, 0};
   static const uint8_t start[11] = {5, 3, 4, 10, 0, 7, 2, 1, 9, 8, 6};
@@ -114,7 +113,7 @@ void make_pancake(struct input *input, struct query *query) {
 }
 
 /* Seven slots in a row, two of them empty: slots two apart are exchanged at cost 3, neighbours at cost 2. */
-void make_slots(struct input *input, struct query *query) {
+static void make_slots(struct input *input, struct query *query) {
   static const uint8_t map[6] = {0, 1, 2, 3, 2, 1};
   static const uint8_t goal[7] = {5, 4, 0, 3, 0, 2, 1};
   static const uint8_t start[7] = {3, 0, 2, 1, 4, 5, 0};
@@ -141,7 +140,7 @@ static void add_rotation(struct input *input, unsigned cost, unsigned a, unsigne
 
 /* 64 rules, of which most apply to a state: three neighbours are turned round, and a label is exchanged with a 0 two to
  * four places apart. The allowance ends the search. */
-void make_many_rules(struct input *input, struct query *query) {
+static void make_many_rules(struct input *input, struct query *query) {
   static const uint8_t goal[12] = {0, 0, 0, 0, 0, 0, 1, 2, 3, 4, 5, 6};
   static const uint8_t start[12] = {3, 0, 1, 2, 0, 0, 0, 0, 5, 0, 4, 6};
   begin(input, 12, 7, 2, NULL);
@@ -158,6 +157,18 @@ void make_many_rules(struct input *input, struct query *query) {
   add_goal(input, goal);
   *query = query_of(start, 12, 200);
   query->visits = 1000000;
+}
+
+const struct search_input search_inputs[SEARCHES] = {{"tiles", "tiles", make_tiles},
+                                                     {"pancake", "pancake", make_pancake},
+                                                     {"slots", "slots", make_slots},
+                                                     {"many_rules", "64 rules", make_many_rules}};
+
+const struct search_input *search_named(const char *name) {
+  for (unsigned k = 0; k < SEARCHES; k++) {
+    if (strcmp(search_inputs[k].name, name) == 0) return &search_inputs[k];
+  }
+  return NULL;
 }
 
 /* ---- for tables: seven digits below 4, or 14 below 2 ---- */

@@ -14,11 +14,22 @@ struct input {
   size_t text_length;
 };
 
-/* For the search. */
-void make_tiles(struct input *input, struct query *query);
-void make_pancake(struct input *input, struct query *query);
-void make_slots(struct input *input, struct query *query);
-void make_many_rules(struct input *input, struct query *query);
+/* Writes the text of a finished block. */
+void write_text(struct input *input);
+
+/* For the search. The name is one for files as well; the title is what is printed. */
+struct search_input {
+  const char *name;
+  const char *title;
+  void (*make)(struct input *input, struct query *query);
+};
+
+enum { SEARCHES = 4 };
+
+extern const struct search_input search_inputs[SEARCHES];
+
+/* The one with this name, or NULL. */
+const struct search_input *search_named(const char *name);
 
 /* For tables, all of 16,384 entries. */
 void make_counter(struct input *input, bool reversed);
