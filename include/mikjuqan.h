@@ -137,10 +137,10 @@ mikjuqan_run_end mikjuqan_replay_run(const uint8_t *block, size_t block_length, 
 
 /* ---- tables: K to the power n entries, one for each rank; those behind do not count and are not written ---- */
 
-/* Fills the table with the least costs: 0, or refused with 3 to 7, 12. Needs at most 288 KiB of stack. */
+/* Fills the table with the least costs: 0, or refused with 3 to 7, 12. Needs at most 235 KiB of stack. */
 uint32_t mikjuqan_fill_table(const uint8_t *block, size_t block_length, uint32_t *table, size_t table_length);
 
-/* Yes where the table passes the lower-bound test. Refused with 3 to 7, 12. */
+/* Yes where the table passes the lower-bound test. Refused with 3 to 7, 12. Needs at most 96 KiB of stack. */
 mikjuqan_decision mikjuqan_test_table(const uint8_t *block, size_t block_length, const uint32_t *table,
                                       size_t table_length);
 
@@ -152,8 +152,7 @@ mikjuqan_entry mikjuqan_look_up_estimate(const uint8_t *block, size_t block_leng
 
 /* Finds a cheapest plan from a start, of at most `steps` rules and within the cost limit, with at most so many visits, by
  * any table that passes the test. A plan that is found is written, one rule number a byte; `plan` has room for `steps`
- * bytes, also where the plan is shorter. Refused with 3 to 7, 8, 10, 11, 12, 13. Needs at most 1,500 KiB of stack, where 64
- * rules are due at each of 64 steps: some 90 KiB, and some 270 bytes for each extension due on the way. */
+ * bytes, also where the plan is shorter. Refused with 3 to 7, 8, 10, 11, 12, 13. Needs at most 256 KiB of stack. */
 mikjuqan_plan mikjuqan_find_plan(const uint8_t *block, size_t block_length, const uint8_t *start, size_t start_length,
                                  size_t steps, uint32_t cost, uint32_t visits, const uint32_t *table, size_t table_length,
                                  uint8_t *plan, size_t plan_length);

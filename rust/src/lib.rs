@@ -209,14 +209,14 @@ pub fn replay_run(block: &[u8], start: &[u8], list: &[u8], out: &mut [u8]) -> Re
 
 /// Fills the front of a table: for each abstract state the least cost from it to a goal, or [`NO_PATH`].
 ///
-/// Refused with 3 to 7, 12. Needs at most 288 KiB of stack.
+/// Refused with 3 to 7, 12. Needs at most 235 KiB of stack.
 pub fn fill_table(block: &[u8], table: &mut [u32]) -> Result<(), Refusal> {
     accepted(ffi::fill_table(block, table))
 }
 
 /// Tells whether a table passes the lower-bound test.
 ///
-/// Refused with 3 to 7, 12.
+/// Refused with 3 to 7, 12. Needs at most 96 KiB of stack.
 pub fn test_table(block: &[u8], table: &[u32]) -> Result<bool, Refusal> {
     decision(ffi::test_table(block, table))
 }
@@ -234,7 +234,7 @@ pub fn look_up_estimate(block: &[u8], state: &[u8], table: &[u32]) -> Result<Opt
 /// Finds a cheapest plan from a start within the limits, and writes it, one rule number a byte.
 ///
 /// Any table that passes the lower-bound test gives the same plan; how many visits it takes depends on the table.
-/// Refused with 3 to 7, 8, 10, 11, 12, 13. Needs at most 1,500 KiB of stack.
+/// Refused with 3 to 7, 8, 10, 11, 12, 13. Needs at most 256 KiB of stack.
 pub fn find_plan(
     block: &[u8],
     start: &[u8],

@@ -96,8 +96,7 @@ fn find_plan() {
         println!("stack: find_plan with side extensions {side:?}: {} KiB, {expected:?}", used.div_ceil(KIB));
         used
     };
-    report("find_plan with one rule due", used(Side::NotApplying), 128);
-    report("find_plan", SIDES.map(used).into_iter().max().expect("there are sides"), 1500);
+    report("find_plan", SIDES.map(used).into_iter().max().expect("there are sides"), 256);
 }
 
 #[test]
@@ -106,7 +105,7 @@ fn fill_table() {
         let mut table = vec![0; TABLE_LENGTH];
         used_by(move || mikjuqan::fill_table(&block, &mut table).expect("the exercise is accepted"))
     });
-    report("fill_table", used.max().expect("there are blocks"), 288);
+    report("fill_table", used.max().expect("there are blocks"), 235);
 }
 
 #[test]
@@ -116,7 +115,7 @@ fn test_table() {
         mikjuqan::fill_table(&block, &mut table).expect("the exercise is accepted");
         used_by(move || assert_eq!(mikjuqan::test_table(&block, &table), Ok(true)))
     });
-    report("test_table", used.max().expect("there are blocks"), 64);
+    report("test_table", used.max().expect("there are blocks"), 96);
 }
 
 #[test]
@@ -177,5 +176,5 @@ fn par() {
         println!("stack: par with side extensions {side:?}: {high} KiB");
         high * KIB
     };
-    report("par", SIDES.map(needed).into_iter().max().expect("there are sides"), 1536);
+    report("par", SIDES.map(needed).into_iter().max().expect("there are sides"), 384);
 }

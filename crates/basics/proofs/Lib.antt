@@ -10,3 +10,5 @@ pub mod Order
 pub mod Pigeonhole
 pub mod Bits
 pub mod Parts
+pub mod SetLaws
+pub mod SetMaking

@@ -1,6 +1,7 @@
 -- The definitions that every layer uses, a file for each idea.
--- They know nothing of exercises: bounded tests, lists by index, digits, parts of arrays.
+-- They know nothing of exercises: bounded tests, lists by index, digits, parts of arrays, sets of small numbers.
 pub mod Bounded
 pub mod Lists
 pub mod Digits
 pub mod Parts
+pub mod Sets

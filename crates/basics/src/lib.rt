@@ -1,9 +1,11 @@
-// What every layer uses: two tests joined, a byte as an index, and bytes copied.
+// What every layer uses: two tests joined, a byte as an index, and bytes copied; sets of small numbers as words.
 ghost use mathlib.Core.Path.{_≡_};
 ghost use mathlib.Core.Bool.{_&&_};
 ghost use Prim.Native.Nat.{_≤_};
 ghost use lib.ListN.{length, take};
 ghost use Rattle.basics.specs.Lists.{atFront};
+
+pub mod sets;
 
 // Both tests.
 pub fn and(a: bool, b: bool) -> bool

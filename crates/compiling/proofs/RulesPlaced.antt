@@ -1,6 +1,6 @@
 -- Rules and goals placed one after another: the two sides of a rule (`sides-placed`), a rule with its cost, which keeps the rules before it (`rule-placed`), a goal, which keeps those before it (`goal-kept`),
 -- and the whole (`compiled`). The loops over rules and goals, and compiling a block, rest on these; what is said of sides carries over to their numbers' other names (`named`).
-use mathlib.Core.Path.{_≡_, refl, ap, _∙_, subst}
+use mathlib.Core.Path.{_≡_, ap, _∙_, subst}
 use mathlib.Core.List.{List}
 use Prim.Native.Nat.{ℕ, _+_, _*_, _%_, _≤_, _<_}
 use native.Mathlib.Nat.{mod-eq-of-lt}
@@ -8,30 +8,26 @@ use native.Mathlib.Omega.{arith}
 use lib.ListN.{length, getD, set, length-set}
 use lib.Seq.{getD-set-same, getD-set-other}
 use Rattle.basics.proofs.Parts.{outside-then, outside-within}
-use Rattle.blocks.specs.Layout.{positions, costOf, sideAt, leftOf, rightOf}
+use Rattle.blocks.specs.Layout.{positions, costOf, sideAt, leftOf, rightOf, goalOf}
 use Rattle.blocks.specs.Validity.{Valid}
 use Rattle.words.specs.Sides.{leftPlace, rightPlace, goalPlace, costWord}
+use Rattle.words.specs.Code.{codeLength}
 use Rattle.words.specs.Compiled.{Sided, RuleAt, Weighted, Compiled}
-use Rattle.compiling.specs.PlacingSides.{SidePlaced, SidesPlaced, RulePlaced, RulesPlaced, GoalsPlaced}
+use Rattle.compiling.specs.PlacingSides.{SidePlaced, SidesPlaced, RulePlaced, RulesPlaced, GoalsPlaced, CountsPlaced}
 use Rattle.compiling.proofs.SidePlaced.{sided-kept}
 
 -- the two sides of a rule placed one after the other
 pub sides-placed :
-    (n : ℕ) (left right : ℕ → ℕ) (r : ℕ) (words₀ moves₀ words₁ moves₁ words₂ moves₂ : List ℕ)
-    → SidePlaced n left left (leftPlace r) words₀ moves₀ words₁ moves₁ → SidePlaced n left right (rightPlace r) words₁ moves₁ words₂ moves₂
-    → SidesPlaced n left right r words₀ moves₀ words₂ moves₂
-sides-placed n left right r words₀ moves₀ words₁ moves₁ words₂ moves₂ p q =
+    {n : ℕ} {left right : ℕ → ℕ} {code₀ code₁ code₂ : List ℕ} (r : ℕ)
+    → SidePlaced n left left (leftPlace r) code₀ code₁ → SidePlaced n left right (rightPlace r) code₁ code₂
+    → SidesPlaced n left right r code₀ code₂
+sides-placed {n} {left} {right} {code₀} {code₁} {code₂} r p q =
     record {
-      left-sided =
-          sided-kept n left left words₁ moves₁ words₂ moves₂ (leftPlace r) (p .sided)
-          (λ j a c. q .words .before j (omega arith)) (λ j a c. q .moves .before j (omega arith));
+      left-sided = sided-kept n left left code₁ code₂ (leftPlace r) (p .sided) (λ j a c. q .code .before j (omega arith));
       right-sided = q .sided;
-      words =
-          outside-then (outside-within (8 * r) (8 * r + 8) (omega arith) (omega arith) (p .words))
-          (outside-within (8 * r) (8 * r + 8) (omega arith) (omega arith) (q .words));
-      moves =
-          outside-then (outside-within (64 * r) (64 * r + 64) (omega arith) (omega arith) (p .moves))
-          (outside-within (64 * r) (64 * r + 64) (omega arith) (omega arith) (q .moves));
+      code =
+          outside-then (outside-within (12 * r) (12 * r + 12) (omega arith) (omega arith) (p .code))
+          (outside-within (12 * r) (12 * r + 12) (omega arith) (omega arith) (q .code));
     }
 
 -- what is said of sides, their numbers by other names
@@ -43,88 +39,91 @@ named {n} {n′} {l} {l′} {s} {s′} P b e f g p =
     (subst (λ (k : ℕ). P n′ (sideAt b k) (sideAt b s)) f (subst (λ (k : ℕ). P k (sideAt b l) (sideAt b s)) e p))
 
 pub placed-as :
-    {n n′ l l′ s s′ x : ℕ} {words moves words′ moves′ : List ℕ} (b : List ℕ) → n ≡ n′ → l ≡ l′ → s ≡ s′
-    → SidePlaced n (sideAt b l) (sideAt b s) x words moves words′ moves′ → SidePlaced n′ (sideAt b l′) (sideAt b s′) x words moves words′ moves′
-placed-as {x = x} {words = words} {moves = moves} {words′ = words′} {moves′ = moves′} = named (λ n l s. SidePlaced n l s x words moves words′ moves′)
+    {n n′ l l′ s s′ x : ℕ} {code code′ : List ℕ} (b : List ℕ) → n ≡ n′ → l ≡ l′ → s ≡ s′
+    → SidePlaced n (sideAt b l) (sideAt b s) x code code′ → SidePlaced n′ (sideAt b l′) (sideAt b s′) x code code′
+placed-as {x = x} {code = code} {code′ = code′} = named (λ n l s. SidePlaced n l s x code code′)
 
 pub sides-as :
-    {n n′ l l′ s s′ r : ℕ} {words moves words′ moves′ : List ℕ} (b : List ℕ) → n ≡ n′ → l ≡ l′ → s ≡ s′
-    → SidesPlaced n (sideAt b l) (sideAt b s) r words moves words′ moves′ → SidesPlaced n′ (sideAt b l′) (sideAt b s′) r words moves words′ moves′
-sides-as {r = r} {words = words} {moves = moves} {words′ = words′} {moves′ = moves′} = named (λ n l s. SidesPlaced n l s r words moves words′ moves′)
+    {n n′ l l′ s s′ r : ℕ} {code code′ : List ℕ} (b : List ℕ) → n ≡ n′ → l ≡ l′ → s ≡ s′
+    → SidesPlaced n (sideAt b l) (sideAt b s) r code code′ → SidesPlaced n′ (sideAt b l′) (sideAt b s′) r code code′
+sides-as {r = r} {code = code} {code′ = code′} = named (λ n l s. SidesPlaced n l s r code code′)
 
--- a rule stays where its words, its moves and its cost stay
+-- a rule stays where its sides and its cost stay
 rule-kept :
-    (b words moves words′ moves′ : List ℕ) (r : ℕ) → RuleAt b words moves r
-    → ((j : ℕ) → 8 * r ≤ j → j < 8 * r + 8 → getD words′ j 0 ≡ getD words j 0)
-    → ((j : ℕ) → 64 * r ≤ j → j < 64 * r + 64 → getD moves′ j 0 ≡ getD moves j 0)
-    → getD words′ (544 + r) 0 ≡ getD words (544 + r) 0 → RuleAt b words′ moves′ r
-rule-kept b words moves words′ moves′ r s same-words same-moves same-cost =
+    (b code code′ : List ℕ) (r : ℕ) → RuleAt b code r
+    → ((j : ℕ) → 12 * r ≤ j → j < 12 * r + 12 → getD code′ j 0 ≡ getD code j 0)
+    → getD code′ (816 + r) 0 ≡ getD code (816 + r) 0 → RuleAt b code′ r
+rule-kept b code code′ r s same same-cost =
     record {
       left =
-          sided-kept (positions b) (leftOf b r) (leftOf b r) words moves words′ moves′ (leftPlace r) (s .left)
-          (λ j a c. same-words j (omega arith) (omega arith)) (λ j a c. same-moves j (omega arith) (omega arith));
+          sided-kept (positions b) (leftOf b r) (leftOf b r) code code′ (leftPlace r) (s .left)
+          (λ j a c. same j (omega arith) (omega arith));
       right =
-          sided-kept (positions b) (leftOf b r) (rightOf b r) words moves words′ moves′ (rightPlace r) (s .right)
-          (λ j a c. same-words j (omega arith) (omega arith)) (λ j a c. same-moves j (omega arith) (omega arith));
+          sided-kept (positions b) (leftOf b r) (rightOf b r) code code′ (rightPlace r) (s .right)
+          (λ j a c. same j (omega arith) (omega arith));
       cost = ap (λ (y : ℕ). y % 256) same-cost ∙ s .cost;
     }
 
 -- both sides placed, and the cost stored
 module _
-    {words₀ moves₀ words₁ moves₁ : List ℕ} (b : List ℕ) (r cost : ℕ) (few : r < 64) (room : 544 + r < length words₀)
-    (sides : SidesPlaced (positions b) (leftOf b r) (rightOf b r) r words₀ moves₀ words₁ moves₁)
+    {code₀ code₁ : List ℕ} (b : List ℕ) (r cost : ℕ) (few : r < 64) (room : 816 + r < length code₀)
+    (sides : SidesPlaced (positions b) (leftOf b r) (rightOf b r) r code₀ code₁)
     (e : cost ≡ costOf b r) (h : cost ≤ 255) where
   abbrev withCost : List ℕ
-  withCost = set words₁ (544 + r) cost
+  withCost = set code₁ (816 + r) cost
 
-  side-same : (j : ℕ) → j < 512 → getD withCost j 0 ≡ getD words₁ j 0
-  side-same j l = getD-set-other words₁ (544 + r) j cost 0 (λ q. omega arith)
+  side-same : (j : ℕ) → j < 816 → getD withCost j 0 ≡ getD code₁ j 0
+  side-same j l = getD-set-other code₁ (816 + r) j cost 0 (λ q. omega arith)
 
   at-cost : costWord withCost r ≡ costOf b r
   at-cost =
-      ap (λ (y : ℕ). y % 256) (getD-set-same words₁ (544 + r) cost 0 (omega (arith, sides .words .len)))
+      ap (λ (y : ℕ). y % 256) (getD-set-same code₁ (816 + r) cost 0 (omega (arith, sides .code .len)))
       ∙ mod-eq-of-lt (omega arith) ∙ e
 
-  pub rule-placed : RulePlaced b r words₀ moves₀ withCost moves₁
+  pub rule-placed : RulePlaced b r code₀ withCost
   rule-placed =
       record {
         rule = record {
           left =
-              sided-kept (positions b) (leftOf b r) (leftOf b r) words₁ moves₁ withCost moves₁ (leftPlace r) (sides .left-sided)
-              (λ j a c. side-same j (omega arith)) (λ j a c. refl);
+              sided-kept (positions b) (leftOf b r) (leftOf b r) code₁ withCost (leftPlace r) (sides .left-sided)
+              (λ j a c. side-same j (omega arith));
           right =
-              sided-kept (positions b) (leftOf b r) (rightOf b r) words₁ moves₁ withCost moves₁ (rightPlace r) (sides .right-sided)
-              (λ j a c. side-same j (omega arith)) (λ j a c. refl);
+              sided-kept (positions b) (leftOf b r) (rightOf b r) code₁ withCost (rightPlace r) (sides .right-sided)
+              (λ j a c. side-same j (omega arith));
           cost = at-cost;
         };
         others = λ k l s.
-            rule-kept b words₀ moves₀ withCost moves₁ k s
-            (λ j a c. side-same j (omega arith) ∙ sides .words .before j (omega arith))
-            (λ j a c. sides .moves .before j (omega arith))
-            (getD-set-other words₁ (544 + r) (544 + k) cost 0 (λ q. omega arith) ∙ sides .words .behind (544 + k) (omega arith));
-        words = length-set words₁ (544 + r) cost ∙ sides .words .len;
-        moves = sides .moves .len;
+            rule-kept b code₀ withCost k s
+            (λ j a c. side-same j (omega arith) ∙ sides .code .before j (omega arith))
+            (getD-set-other code₁ (816 + r) (816 + k) cost 0 (λ q. omega arith) ∙ sides .code .behind (816 + k) (omega arith));
+        code = length-set code₁ (816 + r) cost ∙ sides .code .len;
       }
 
 -- a goal stays while a later one is placed
 pub goal-kept :
-    {n : ℕ} {goal l s : ℕ → ℕ} {words moves words′ moves′ : List ℕ} (g k : ℕ) → k < g → SidePlaced n l s (goalPlace g) words moves words′ moves′
-    → Sided n goal goal words moves (goalPlace k) → Sided n goal goal words′ moves′ (goalPlace k)
-goal-kept {n} {goal} {l} {s} {words} {moves} {words′} {moves′} g k h p q =
-    sided-kept n goal goal words moves words′ moves′ (goalPlace k) q
-    (λ j a c. p .words .before j (omega arith)) (λ j a c. p .moves .before j (omega arith))
+    {n : ℕ} {goal l s : ℕ → ℕ} {code code′ : List ℕ} (g k : ℕ) → k < g → SidePlaced n l s (goalPlace g) code code′
+    → Sided n goal goal code (goalPlace k) → Sided n goal goal code′ (goalPlace k)
+goal-kept {n} {goal} {l} {s} {code} {code′} g k h p q =
+    sided-kept n goal goal code code′ (goalPlace k) q (λ j a c. p .code .before j (omega arith))
 
 pub compiled :
-    {b words₀ moves₀ words₁ moves₁ words₂ moves₂ weights : List ℕ} → Valid b → RulesPlaced b words₀ moves₀ words₁ moves₁ → GoalsPlaced b words₁ moves₁ words₂ moves₂ → Weighted b weights
-    → Compiled b words₂ moves₂ weights
-compiled {b} {words₀} {moves₀} {words₁} {moves₁} {words₂} {moves₂} valid rs gs w =
-    record {
-      valid = valid;
-      rule = λ r l.
-          let few : r < 64 = omega (arith, valid .sized .head .sizes .r-high) in
-          rule-kept b words₁ moves₁ words₂ moves₂ r (rs .rule r l)
-          (λ j a c. gs .words .before j (omega arith)) (λ j a c. gs .moves .before j (omega arith))
-          (gs .words .behind (544 + r) (omega arith));
-      goal = gs .goal;
-      weighted = w;
-    }
+    {b code₀ code₁ code₂ code₃ weights : List ℕ} → Valid b → length code₀ ≡ codeLength
+    → RulesPlaced b code₀ code₁ → GoalsPlaced b code₁ code₂ → CountsPlaced b code₂ code₃ → Weighted b weights
+    → Compiled b code₃ weights × (length code₃ ≡ codeLength)
+compiled {b} {code₀} {code₁} {code₂} {code₃} valid len rs gs cs w = (
+  record {
+    valid = valid;
+    counted = cs .counted;
+    rule = λ r l.
+        let few : r < 64 = omega (arith, valid .sized .head .sizes .r-high) in
+        rule-kept b code₁ code₃ r (rs .rule r l)
+        (λ j a c. cs .code .before j (omega arith) ∙ gs .code .before j (omega arith))
+        (cs .code .before (816 + r) (omega arith) ∙ gs .code .behind (816 + r) (omega arith));
+    goal = λ g l.
+        let few : g < 8 = omega (arith, valid .sized .head .sizes .g-high) in
+        sided-kept (positions b) (goalOf b g) (goalOf b g) code₂ code₃ (goalPlace g) (gs .goal g l)
+        (λ j a c. cs .code .before j (omega arith));
+    weighted = w;
+  },
+  cs .code .len ∙ gs .code .len ∙ rs .code ∙ len,
+)

@@ -1,84 +1,67 @@
--- A side whose n positions are compiled, once its four words are stored, is `Sided` (`side-placed`), and stays so while its words and moves stay (`sided-kept`).
--- Placing a side, and keeping what is placed while others are, rests on these.
-use mathlib.Core.Path.{_≡_, sym, ap, ap₂, _∙_}
+-- A side whose n positions are compiled, once its six elements are stored, is `Sided` (`side-placed`), and stays so while these stay (`sided-kept`).
+-- Placing a side, and keeping what is placed while others are, rests on these; the counts are stored likewise (`counts-placed`).
+use mathlib.Core.Path.{_≡_, sym, ap, _∙_}
 use mathlib.Core.List.{List}
-use Prim.Native.Nat.{ℕ, zero, suc, _+_, _*_, _%_, _^_, _≤_, _<_}
-use native.Mathlib.Nat.{lt-of-le-of-lt, mod-eq-of-lt}
+use Prim.Native.Nat.{ℕ, _+_, _*_, _≤_, _<_}
+use native.Mathlib.Nat.{lt-of-le-of-lt}
 use native.Mathlib.Omega.{arith}
-use lib.Bits.{bitAnd, bitOr, and-le-r, or-zero-r}
+use lib.Bits.{bitAnd, and-le-r, and-zero-r, or-zero-r}
 use lib.Dec.{lit<}
 use lib.ListN.{length, getD, set, length-set}
 use lib.Seq.{getD-set-same, getD-set-other}
 use Rattle.basics.specs.Parts.{Outside}
-use Rattle.basics.proofs.Bits.{or-assoc}
-use Rattle.basics.proofs.Parts.{outside-none, outside-set}
+use Rattle.basics.proofs.Parts.{outside-none}
 use Rattle.basics.proofs.Lists.{tabulate-ext}
 use Rattle.blocks.specs.Terms.{termOf}
+use Rattle.blocks.specs.Layout.{positions, rules, goals}
 use Rattle.psvn.specs.Rules.{given, rewritten}
 use Rattle.psvn.proofs.Making.{rewritten-at}
 use Rattle.words.specs.Packing.{digit, unpack}
-use Rattle.words.specs.Sides.{maskAt, valueAt, keepAt, countAt, moved, rewrittenTo, rewrittenWord}
+use Rattle.words.specs.Code.{codeLength}
+use Rattle.words.specs.Sides.{maskAt, valueAt, keepAt, countAt, fromAt, toAt, joinMoves, rewrittenWord}
 use Rattle.words.specs.Compiled.{Sided}
-use Rattle.compiling.specs.PlacingSides.{movedTo, madeBy, Begun, SidePlaced}
+use Rattle.compiling.specs.PlacingSides.{madeBy, Begun, SidePlaced, CountsPlaced}
 use Rattle.compiling.specs.declared.placing_sides.Side.{Side}
-use Rattle.compiling.proofs.TermsPlaced.{moves-same}
-use Rattle.words.proofs.WordDigits.{digit-and, or-below, same-digits, unpack-at}
+use Rattle.words.proofs.WordDigits.{digit-and, same-digits, unpack-at}
 
 -- nothing compiled yet
 pub begun-none :
-    (n : ℕ) (left side : ℕ → ℕ) (moves : List ℕ) (x : ℕ)
-    → Begun n left side (record { mask = 0; value = 0; keep = 0; count = 0 }) moves x 0
-unfolding movedTo
-begun-none n left side moves x =
+    (n : ℕ) (left side : ℕ → ℕ)
+    → Begun n left side (record { mask = 0; value = 0; keep = 0; count = 0; from = 0; to = 0 }) 0
+unfolding madeBy joinMoves
+begun-none n left side =
     record {
       makes = λ w k l. absurd (omega arith);
       passes = λ w k l. absurd (omega arith);
+      small = λ w. rw (or-zero-r (bitAnd w 0), and-zero-r w) (lit< tt);
       small-mask = lit< tt;
       small-value = lit< tt;
       small-keep = lit< tt;
-      small-moves = λ w. lit< tt;
+      small-from = lit< tt;
+      small-to = lit< tt;
       few = omega arith;
     }
 
--- what a side in the arrays makes: what is kept, the constants, and the moves together
-rewritten-moves :
-    (words moves : List ℕ) (x w j : ℕ)
-    → rewrittenTo words moves x w j ≡ bitOr (bitOr (bitAnd w (keepAt words x)) (valueAt words x)) (movedTo moves x w j)
-unfolding rewrittenTo movedTo
-rewritten-moves words moves x w zero = sym (or-zero-r (bitOr (bitAnd w (keepAt words x)) (valueAt words x)))
-rewritten-moves words moves x w (suc j) =
-    let m = moved w (getD moves (32 * x + 2 * j) 0) (getD moves (32 * x + 2 * j + 1) 0) in
-    ap (λ (y : ℕ). bitOr y m) (rewritten-moves words moves x w j)
-    ∙ or-assoc (bitOr (bitAnd w (keepAt words x)) (valueAt words x)) (movedTo moves x w j) m
-
--- the words of place x are those of the side s
-record Stored (s : Side) (words : List ℕ) (x : ℕ) : Type 0 where
-  mask-is : maskAt words x ≡ s .mask
-  value-is : valueAt words x ≡ s .value
-  keep-is : keepAt words x ≡ s .keep
-  count-is : countAt words x ≡ s .count
+-- the elements of place x are those of the side s
+record Stored (s : Side) (code : List ℕ) (x : ℕ) : Type 0 where
+  mask-is : maskAt code x ≡ s .mask
+  value-is : valueAt code x ≡ s .value
+  keep-is : keepAt code x ≡ s .keep
+  count-is : countAt code x ≡ s .count
+  from-is : fromAt code x ≡ s .from
+  to-is : toAt code x ≡ s .to
 
 module _
-    (n : ℕ) (left side : ℕ → ℕ) (s : Side) (words moves : List ℕ) (x : ℕ) (ln : n ≤ 16)
-    (b : Begun n left side s moves x n) (t : Stored s words x) where
-  made : (w : ℕ) → rewrittenWord words moves x w ≡ madeBy s moves x w
+    (n : ℕ) (left side : ℕ → ℕ) (s : Side) (code : List ℕ) (x : ℕ) (ln : n ≤ 16)
+    (b : Begun n left side s n) (t : Stored s code x) where
+  made : (w : ℕ) → rewrittenWord code x w ≡ madeBy s w
   unfolding rewrittenWord madeBy
-  made w =
-      rewritten-moves words moves x w (countAt words x)
-      ∙ ap₂ (λ (y z : ℕ). bitOr (bitOr (bitAnd w y) z) (movedTo moves x w (countAt words x))) (t .keep-is) (t .value-is)
-      ∙ ap (λ (y : ℕ). bitOr (bitOr (bitAnd w (s .keep)) (s .value)) (movedTo moves x w y)) (t .count-is)
+  made w = rw (t .keep-is, t .value-is, t .from-is, t .to-is, t .count-is)
 
-  made-small : (w : ℕ) → madeBy s moves x w < 16 ^ n
-  unfolding madeBy
-  made-small w =
-      or-below n (bitOr (bitAnd w (s .keep)) (s .value)) (movedTo moves x w (s .count))
-      (or-below n (bitAnd w (s .keep)) (s .value) (lt-of-le-of-lt (and-le-r w (s .keep)) (b .small-keep)) (b .small-value))
-      (b .small-moves w)
-
-  makes : (w : ℕ) → unpack n (rewrittenWord words moves x w) ≡ rewritten n left side (unpack n w)
+  makes : (w : ℕ) → unpack n (rewrittenWord code x w) ≡ rewritten n left side (unpack n w)
   unfolding unpack rewritten
   makes w =
-      tabulate-ext n (digit (rewrittenWord words moves x w)) (λ k. given n left (unpack n w) k (termOf (side k))) (λ k l.
+      tabulate-ext n (digit (rewrittenWord code x w)) (λ k. given n left (unpack n w) k (termOf (side k))) (λ k l.
       ap (λ (y : ℕ). digit y k) (made w) ∙ b .makes w k l)
 
   itself-at :
@@ -87,92 +70,110 @@ module _
   itself-at w e k l =
       sym (unpack-at n w k l) ∙ ap (λ (y : List ℕ). getD y k 0) (sym e) ∙ rewritten-at n left side (unpack n w) k l
 
-  mask : (w : ℕ) → rewritten n left side (unpack n w) ≡ unpack n w → bitAnd w (maskAt words x) ≡ valueAt words x
+  mask : (w : ℕ) → rewritten n left side (unpack n w) ≡ unpack n w → bitAnd w (maskAt code x) ≡ valueAt code x
   mask w e =
       ap (bitAnd w) (t .mask-is)
       ∙ same-digits n (bitAnd w (s .mask)) (s .value) (lt-of-le-of-lt (and-le-r w (s .mask)) (b .small-mask)) (b .small-value) (λ k l.
       digit-and w (s .mask) k ∙ b .passes w k l (itself-at w e k l))
       ∙ sym (t .value-is)
 
-  sided : Sided n left side words moves x
+  sided : Sided n left side code x
   sided =
       record {
         makes = λ w l. makes w;
-        small = λ w l. rw (made w) (made-small w);
+        small = λ w l. rw (made w) (b .small w);
         mask = λ w l. mask w;
-        few = omega (arith, t .count-is, b .few);
       }
 
--- the four words of a side stored
-module _ (words : List ℕ) (x : ℕ) (s : Side) (room : 4 * x + 4 ≤ length words) where
-  abbrev withWords : List ℕ
-  withWords =
-      set (set (set (set words (4 * x) (s .mask)) (4 * x + 1) (s .value)) (4 * x + 2) (s .keep)) (4 * x + 3) (s .count)
+-- one element stored, before those behind it are
+written :
+    {high next : ℕ} {code : List ℕ} (code′ : List ℕ) (i v : ℕ) → Outside next high (set code i v) code′
+    → i < length code′ → i < next → i < high → Outside i high code code′ × (getD code′ i 0 ≡ v)
+written {high} {next} {code} code′ i v o room l h = (
+  record {
+    len = o .len ∙ length-set code i v;
+    before = λ j k. o .before j (omega arith) ∙ getD-set-other code i j v 0 (λ e. omega arith);
+    behind = λ j k. o .behind j k ∙ getD-set-other code i j v 0 (λ e. omega arith);
+  },
+  o .before i l ∙ getD-set-same code i v 0 (omega (arith, o .len, length-set code i v)),
+)
 
-  words-outside : Outside (4 * x) (4 * x + 4) words withWords
-  words-outside =
-      outside-set (4 * x + 3) (s .count) (omega arith) (omega arith)
-      (outside-set (4 * x + 2) (s .keep) (omega arith) (omega arith)
-      (outside-set (4 * x + 1) (s .value) (omega arith) (omega arith)
-      (outside-set (4 * x) (s .mask) (omega arith) (omega arith) (outside-none (4 * x) (4 * x + 4) words))))
+-- the six elements of a side stored
+module _ (code : List ℕ) (x : ℕ) (s : Side) (room : 6 * x + 6 ≤ length code) where
+  abbrev withSide : List ℕ
+  withSide =
+      set (set (set (set (set (set code (6 * x) (s .mask)) (6 * x + 1) (s .value)) (6 * x + 2) (s .keep))
+      (6 * x + 3) (s .count)) (6 * x + 4) (s .from)) (6 * x + 5) (s .to)
 
-  stored : s .count < 32 → Stored s withWords x
-  stored h =
-      let one = set words (4 * x) (s .mask) in
-      let two = set one (4 * x + 1) (s .value) in
-      let three = set two (4 * x + 2) (s .keep) in
-      record {
-        mask-is =
-            getD-set-other three (4 * x + 3) (4 * x) (s .count) 0 (λ e. omega arith)
-            ∙ getD-set-other two (4 * x + 2) (4 * x) (s .keep) 0 (λ e. omega arith)
-            ∙ getD-set-other one (4 * x + 1) (4 * x) (s .value) 0 (λ e. omega arith)
-            ∙ getD-set-same words (4 * x) (s .mask) 0 (omega arith);
-        value-is =
-            getD-set-other three (4 * x + 3) (4 * x + 1) (s .count) 0 (λ e. omega arith)
-            ∙ getD-set-other two (4 * x + 2) (4 * x + 1) (s .keep) 0 (λ e. omega arith)
-            ∙ getD-set-same one (4 * x + 1) (s .value) 0 (simp length-set (omega arith));
-        keep-is =
-            getD-set-other three (4 * x + 3) (4 * x + 2) (s .count) 0 (λ e. omega arith)
-            ∙ getD-set-same two (4 * x + 2) (s .keep) 0 (simp length-set (omega arith));
-        count-is =
-            ap (λ (y : ℕ). y % 32) (getD-set-same three (4 * x + 3) (s .count) 0 (simp length-set (omega arith)))
-            ∙ mod-eq-of-lt h;
-      }
+  room-left : 6 * x + 6 ≤ length withSide
+  room-left = simp length-set room
+
+  stored : Stored s withSide x × Outside (6 * x) (6 * x + 6) code withSide
+  stored =
+      let room′ = room-left in
+      let none = outside-none (6 * x + 6) (6 * x + 6) withSide in
+      let to = written withSide (6 * x + 5) (s .to) none (omega arith) (omega arith) (omega arith) in
+      let from = written withSide (6 * x + 4) (s .from) (to .0) (omega arith) (omega arith) (omega arith) in
+      let count = written withSide (6 * x + 3) (s .count) (from .0) (omega arith) (omega arith) (omega arith) in
+      let keep = written withSide (6 * x + 2) (s .keep) (count .0) (omega arith) (omega arith) (omega arith) in
+      let value = written withSide (6 * x + 1) (s .value) (keep .0) (omega arith) (omega arith) (omega arith) in
+      let mask = written withSide (6 * x) (s .mask) (value .0) (omega arith) (omega arith) (omega arith) in (
+        record {
+          mask-is = mask .1;
+          value-is = value .1;
+          keep-is = keep .1;
+          count-is = count .1;
+          from-is = from .1;
+          to-is = to .1;
+        },
+        mask .0,
+      )
 
   pub side-placed :
-      (n : ℕ) (left side : ℕ → ℕ) (moves moves′ : List ℕ) → n ≤ 16 → Begun n left side s moves′ x n → Outside (32 * x) (32 * x + 32) moves moves′
-      → SidePlaced n left side x words moves withWords moves′
-  side-placed n left side moves moves′ ln b o =
-      let few : s .count < 32 = omega (arith, b .few) in
-      record { sided = sided n left side s withWords moves′ x ln b (stored few); words = words-outside; moves = o }
+      (n : ℕ) (left side : ℕ → ℕ) → n ≤ 16 → Begun n left side s n → SidePlaced n left side x code withSide
+  side-placed n left side ln b = record { sided = sided n left side s withSide x ln b (stored .0); code = stored .1 }
 
--- a side stays where its words and its moves stay
+-- the counts stored
+pub counts-placed :
+    (b code : List ℕ) (n r g : ℕ) → length code ≡ codeLength → n ≡ positions b → r ≡ rules b → g ≡ goals b
+    → CountsPlaced b code (set (set (set code 1137 n) 1138 r) 1139 g)
+counts-placed b code n r g room en er eg =
+    let code′ = set (set (set code 1137 n) 1138 r) 1139 g in
+    let room′ : length code′ ≡ codeLength = simp length-set room in
+    let none = outside-none codeLength codeLength code′ in
+    let last = written code′ 1139 g none (omega arith) (omega arith) (omega arith) in
+    let second = written code′ 1138 r (last .0) (omega arith) (omega arith) (omega arith) in
+    let first = written code′ 1137 n (second .0) (omega arith) (omega arith) (omega arith) in
+    record {
+      counted = record { positions-told = first .1 ∙ en; rules-told = second .1 ∙ er; goals-told = last .1 ∙ eg };
+      code = first .0;
+    }
+
+-- a side stays where its elements stay
 module _
-    (n : ℕ) (left side : ℕ → ℕ) (words moves words′ moves′ : List ℕ) (x : ℕ) (s : Sided n left side words moves x)
-    (same-words : (j : ℕ) → 4 * x ≤ j → j < 4 * x + 4 → getD words′ j 0 ≡ getD words j 0)
-    (same-moves : (j : ℕ) → 32 * x ≤ j → j < 32 * x + 32 → getD moves′ j 0 ≡ getD moves j 0) where
-  count-same : countAt words′ x ≡ countAt words x
-  count-same = ap (λ (y : ℕ). y % 32) (same-words (4 * x + 3) (omega arith) (omega arith))
+    (n : ℕ) (left side : ℕ → ℕ) (code code′ : List ℕ) (x : ℕ) (s : Sided n left side code x)
+    (same : (j : ℕ) → 6 * x ≤ j → j < 6 * x + 6 → getD code′ j 0 ≡ getD code j 0) where
+  value-same : valueAt code′ x ≡ valueAt code x
+  value-same = same (6 * x + 1) (omega arith) (omega arith)
 
-  value-same : valueAt words′ x ≡ valueAt words x
-  value-same = same-words (4 * x + 1) (omega arith) (omega arith)
+  count-same : countAt code′ x ≡ countAt code x
+  count-same = same (6 * x + 3) (omega arith) (omega arith)
 
-  made-same : (w : ℕ) → rewrittenWord words′ moves′ x w ≡ rewrittenWord words moves x w
+  made-same : (w : ℕ) → rewrittenWord code′ x w ≡ rewrittenWord code x w
   unfolding rewrittenWord
   made-same w =
-      rewritten-moves words′ moves′ x w (countAt words′ x)
-      ∙ ap₂ (λ (y z : ℕ). bitOr (bitOr (bitAnd w y) z) (movedTo moves′ x w (countAt words′ x)))
-      (same-words (4 * x + 2) (omega arith) (omega arith)) value-same
-      ∙ ap (bitOr (bitOr (bitAnd w (keepAt words x)) (valueAt words x)))
-      (ap (movedTo moves′ x w) count-same
-      ∙ moves-same moves moves′ x w (countAt words x) (λ j a b. same-moves j a (let f = s .few in omega arith)))
-      ∙ sym (rewritten-moves words moves x w (countAt words x))
+      rw (
+        same (6 * x + 2) (omega arith) (omega arith),
+        value-same,
+        same (6 * x + 4) (omega arith) (omega arith),
+        same (6 * x + 5) (omega arith) (omega arith),
+        count-same,
+      )
 
-  pub sided-kept : Sided n left side words′ moves′ x
+  pub sided-kept : Sided n left side code′ x
   sided-kept =
       record {
         makes = λ w l. ap (unpack n) (made-same w) ∙ s .makes w l;
         small = λ w l. rw (made-same w) (s .small w l);
-        mask = λ w l e. ap (bitAnd w) (same-words (4 * x) (omega arith) (omega arith)) ∙ s .mask w l e ∙ sym value-same;
-        few = rw count-same (s .few);
+        mask = λ w l e. ap (bitAnd w) (same (6 * x) (omega arith) (omega arith)) ∙ s .mask w l e ∙ sym value-same;
       }

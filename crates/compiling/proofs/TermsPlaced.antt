@@ -3,18 +3,15 @@
 -- The functions that add a term rest on these, and on `label-lt`.
 use mathlib.Core.Path.{_≡_, refl, sym, ap, ap₂, _∙_}
 use mathlib.Core.Logic.{_⊎_, ⊎-elim}
-use mathlib.Core.List.{List}
 use Prim.Native.Nat.{ℕ, zero, suc, _+_, _*_, _%_, _^_, _≤_, _<_}
-use native.Mathlib.Nat.{eq-or-lt-of-le, mod-eq-of-lt, zero-mul}
+use native.Mathlib.Nat.{eq-or-lt-of-le, lt-of-le-of-lt, lt-of-lt-of-le, mod-eq-of-lt, pow-le-pow-right, zero-lt-suc, zero-mul}
 use native.Mathlib.Numerals.{add-one}
 use native.Mathlib.Omega.{arith}
-use lib.Bits.{bitAnd, bitOr, and-zero-r, and-mask, or-zero-l, or-zero-r}
+use lib.Bits.{bitAnd, bitOr, and-le-r, and-zero-r, and-mask, or-comm, or-zero-r}
 use lib.Dec.{eqb, lit<}
-use lib.ListN.{length, getD, set, length-set, List·getD-eq-default}
-use lib.Seq.{getD-set-same, getD-set-other}
+use lib.ListN.{getD, List·getD-eq-default}
 use Rattle.basics.specs.Bounded.{first}
-use Rattle.basics.specs.Parts.{Outside}
-use Rattle.basics.proofs.Parts.{outside-none, outside-set}
+use Rattle.basics.proofs.Bits.{or-assoc}
 use Rattle.blocks.specs.Terms.{termOf}
 use Rattle.blocks.specs.declared.labels.ConcreteLabel.{ConcreteLabel}
 use Rattle.blocks.specs.declared.terms.Term.{Term}
@@ -22,10 +19,10 @@ use Rattle.blocks.specs.declared.terms.Term.the-variants.{Label, Variable, Dash
 use Rattle.blocks.proofs.TermCases.{is-label, is-variable, is-dash, is-refused, View, label, variable, dash, refused, view}
 use Rattle.psvn.specs.Rules.{bound, given}
 use Rattle.words.specs.Packing.{digit, unpack}
-use Rattle.words.specs.Sides.{moved}
-use Rattle.compiling.specs.PlacingSides.{TakenFrom, movedTo, madeBy, Begun}
+use Rattle.words.specs.Sides.{moved, joinMoves}
+use Rattle.compiling.specs.PlacingSides.{TakenFrom, madeBy, Begun}
 use Rattle.compiling.specs.declared.placing_sides.Side.{Side}
-use Rattle.words.proofs.WordDigits.{shifted, digit-lt, digit-and, digit-or, joined-before, joined-at, joined-below, unpack-length, unpack-at}
+use Rattle.words.proofs.WordDigits.{shifted, digit-lt, digit-and, joined-before, joined-at, joined-below, same-digits, unpack-length, unpack-at}
 
 -- where a term takes its label from
 module _ (n : ℕ) (left : ℕ → ℕ) (i byte : ℕ) where
@@ -55,91 +52,131 @@ label-lt byte c e = rw (sym (ap labelIn e)) (go (view byte))
     go (dash a) = rw (ap labelIn (is-dash byte a)) (lit< tt)
     go (refused a b) = rw (ap labelIn (is-refused byte a b)) (lit< tt)
 
--- the parts at one position
-abbrev parts : ℕ → ℕ → ℕ → ℕ → ℕ
-parts d keep value move = bitOr (bitOr (bitAnd d keep) value) move
+or-swap : (a b c : ℕ) → bitOr (bitOr a b) c ≡ bitOr (bitOr a c) b
+or-swap a b c = or-assoc a b c ∙ ap (bitOr a) (or-comm b c) ∙ sym (or-assoc a c b)
 
-made-digit :
-    (s : Side) (moves : List ℕ) (x w k : ℕ)
-    → digit (madeBy s moves x w) k ≡ parts (digit w k) (digit (s .keep) k) (digit (s .value) k) (digit (movedTo moves x w (s .count)) k)
-unfolding madeBy
-made-digit s moves x w k =
-    digit-or (bitOr (bitAnd w (s .keep)) (s .value)) (movedTo moves x w (s .count)) k
-    ∙ ap (λ (y : ℕ). bitOr y (digit (movedTo moves x w (s .count)) k))
-    (digit-or (bitAnd w (s .keep)) (s .value) k ∙ ap (λ (y : ℕ). bitOr y (digit (s .value) k)) (digit-and w (s .keep) k))
+-- a word joined before the moves stands beside them
+joined-moves : (v d w from to j : ℕ) → joinMoves (bitOr v d) w from to j ≡ bitOr (joinMoves v w from to j) d
+unfolding joinMoves
+joined-moves v d w from to zero = refl
+joined-moves v d w from to (suc j) =
+    let m = moved w (digit from j) (digit to j) in
+    let before = joinMoves v w from to j in
+    ap (λ (y : ℕ). bitOr y m) (joined-moves v d w from to j) ∙ or-swap before d m
 
--- the term at position i adds a digit to each part
-record Added (s t : Side) (moves moves′ : List ℕ) (x i : ℕ) (mask value keep : ℕ) (move : ℕ → ℕ) : Type 0 where
+-- the first j moves go by their own digits
+moves-same :
+    (v w from to from′ to′ j : ℕ) → ((k : ℕ) → k < j → digit from′ k ≡ digit from k)
+    → ((k : ℕ) → k < j → digit to′ k ≡ digit to k)
+    → joinMoves v w from′ to′ j ≡ joinMoves v w from to j
+unfolding joinMoves
+moves-same v w from to from′ to′ zero f g = refl
+moves-same v w from to from′ to′ (suc j) f g =
+    ap₂ bitOr (moves-same v w from to from′ to′ j (λ k l. f k (omega arith)) (λ k l. g k (omega arith)))
+    (ap₂ (moved w) (f j (omega arith)) (g j (omega arith)))
+
+-- one move more, told by a digit more of each word
+move-joined :
+    (v w from to c f g : ℕ) → from < 16 ^ c → to < 16 ^ c → f < 16 → g < 16
+    → joinMoves v w (bitOr from (f * 16 ^ c)) (bitOr to (g * 16 ^ c)) (c + 1)
+    ≡ bitOr (joinMoves v w from to c) (digit w f * 16 ^ g)
+unfolding joinMoves moved
+move-joined v w from to c f g lf lg hf hg =
+    let from′ = bitOr from (f * 16 ^ c) in
+    let to′ = bitOr to (g * 16 ^ c) in
+    ap (joinMoves v w from′ to′) (add-one c)
+    ∙ ap₂ bitOr (moves-same v w from to from′ to′ c (joined-before c from f hf) (joined-before c to g hg))
+    (ap₂ (λ (y z : ℕ). digit w y * 16 ^ z) (joined-at c from f hf lf) (joined-at c to g hg lg))
+
+under-ones : (d : ℕ) → d < 16 → bitAnd d 15 ≡ d
+under-ones d h = and-mask d 4 ∙ mod-eq-of-lt h
+
+last-or-before : (i k : ℕ) → k < i + 1 → (k ≡ i) ⊎ (k < i)
+last-or-before i k l = eq-or-lt-of-le (omega arith)
+
+-- one position more that keeps its label
+kept-joined :
+    (w keep i : ℕ) → keep < 16 ^ i
+    → bitAnd w (bitOr keep (15 * 16 ^ i)) ≡ bitOr (bitAnd w keep) (digit w i * 16 ^ i)
+kept-joined w keep i h =
+    same-digits (i + 1) (bitAnd w more) (bitOr (bitAnd w keep) (digit w i * 16 ^ i))
+    (lt-of-le-of-lt (and-le-r w more) (joined-below i keep 15 (lit< tt) h))
+    (joined-below i (bitAnd w keep) (digit w i) (digit-lt w i) kept) (λ k l.
+    digit-and w more k ∙ ⊎-elim (λ e. rw e at-last) (λ m. before k m) (last-or-before i k l))
+  where
+    more : ℕ
+    more = bitOr keep (15 * 16 ^ i)
+
+    kept : bitAnd w keep < 16 ^ i
+    kept = lt-of-le-of-lt (and-le-r w keep) h
+
+    at-last : bitAnd (digit w i) (digit more i) ≡ digit (bitOr (bitAnd w keep) (digit w i * 16 ^ i)) i
+    at-last =
+        ap (bitAnd (digit w i)) (joined-at i keep 15 (lit< tt) h) ∙ under-ones (digit w i) (digit-lt w i)
+        ∙ sym (joined-at i (bitAnd w keep) (digit w i) (digit-lt w i) kept)
+
+    before : (k : ℕ) → k < i → bitAnd (digit w k) (digit more k) ≡ digit (bitOr (bitAnd w keep) (digit w i * 16 ^ i)) k
+    before k l =
+        ap (bitAnd (digit w k)) (joined-before i keep 15 (lit< tt) k l) ∙ sym (digit-and w keep k)
+        ∙ sym (joined-before i (bitAnd w keep) (digit w i) (digit-lt w i) k l)
+
+-- the term at position i adds a digit to what a side makes, and one to its mask and its value
+record Added (s t : Side) (i mask value : ℕ) (new : ℕ → ℕ) : Type 0 where
+  made-is : (w : ℕ) → madeBy t w ≡ bitOr (madeBy s w) (new w * 16 ^ i)
   mask-is : t .mask ≡ bitOr (s .mask) (mask * 16 ^ i)
   value-is : t .value ≡ bitOr (s .value) (value * 16 ^ i)
-  keep-is : t .keep ≡ bitOr (s .keep) (keep * 16 ^ i)
-  moves-are : (w : ℕ) → movedTo moves′ x w (t .count) ≡ bitOr (movedTo moves x w (s .count)) (move w * 16 ^ i)
+  new-lt : (w : ℕ) → new w < 16
   mask-lt : mask < 16
   value-lt : value < 16
-  keep-lt : keep < 16
-  move-lt : (w : ℕ) → move w < 16
-  count-le : t .count ≤ s .count + 1
+  keep-lt : t .keep < 16 ^ (i + 1)
+  from-lt : t .from < 16 ^ t .count
+  to-lt : t .to < 16 ^ t .count
+  count-le : t .count ≤ i + 1
 
-module _
-    (n : ℕ) (left side : ℕ → ℕ) (s t : Side) (moves moves′ : List ℕ) (x i : ℕ) (mask value keep : ℕ) (move : ℕ → ℕ)
-    (b : Begun n left side s moves x i) (a : Added s t moves moves′ x i mask value keep move) where
-  -- the digit at a position, by those of the parts there
-  made-joined :
-      (w k keep′ value′ move′ : ℕ) → digit (bitOr (s .keep) (keep * 16 ^ i)) k ≡ keep′ → digit (bitOr (s .value) (value * 16 ^ i)) k ≡ value′
-      → digit (bitOr (movedTo moves x w (s .count)) (move w * 16 ^ i)) k ≡ move′
-      → digit (madeBy t moves′ x w) k ≡ parts (digit w k) keep′ value′ move′
-  made-joined w k keep′ value′ move′ p q r =
-      made-digit t moves′ x w k
-      ∙ ap₂ (λ (y z : ℕ). parts (digit w k) y z (digit (movedTo moves′ x w (t .count)) k))
-      (ap (λ (y : ℕ). digit y k) (a .keep-is) ∙ p) (ap (λ (y : ℕ). digit y k) (a .value-is) ∙ q)
-      ∙ ap (parts (digit w k) keep′ value′) (ap (λ (y : ℕ). digit y k) (a .moves-are w) ∙ r)
+term-more :
+    (n : ℕ) (left side : ℕ → ℕ) (s t : Side) (i mask value : ℕ) (new : ℕ → ℕ)
+    → Begun n left side s i → Added s t i mask value new
+    → ((w : ℕ) → new w ≡ given n left (unpack n w) i (termOf (side i)))
+    → ((w : ℕ) → digit w i ≡ given n left (unpack n w) i (termOf (side i)) → bitAnd (digit w i) mask ≡ value)
+    → Begun n left side t (i + 1)
+term-more n left side s t i mask value new b a gives passes =
+    record {
+      makes = λ w k l.
+          ap (λ (y : ℕ). digit y k) (a .made-is w)
+          ∙ ⊎-elim (λ e. rw e (made-at w)) (λ m. made-before w k m) (last-or-before i k l);
+      passes = λ w k l. ⊎-elim (λ e. rw e (pass-at w)) (λ m. pass-before w k m) (last-or-before i k l);
+      small = λ w. rw (a .made-is w) (joined-below i (madeBy s w) (new w) (a .new-lt w) (b .small w));
+      small-mask = rw (a .mask-is) (joined-below i (s .mask) mask (a .mask-lt) (b .small-mask));
+      small-value = rw (a .value-is) (joined-below i (s .value) value (a .value-lt) (b .small-value));
+      small-keep = a .keep-lt;
+      small-from = a .from-lt;
+      small-to = a .to-lt;
+      few = a .count-le;
+    }
+  where
+    made-at : (w : ℕ) → digit (bitOr (madeBy s w) (new w * 16 ^ i)) i ≡ given n left (unpack n w) i (termOf (side i))
+    made-at w = joined-at i (madeBy s w) (new w) (a .new-lt w) (b .small w) ∙ gives w
 
-  made-before : (w k : ℕ) → k < i → digit (madeBy t moves′ x w) k ≡ digit (madeBy s moves x w) k
-  made-before w k l =
-      made-joined w k (digit (s .keep) k) (digit (s .value) k) (digit (movedTo moves x w (s .count)) k)
-      (joined-before i (s .keep) keep (a .keep-lt) k l) (joined-before i (s .value) value (a .value-lt) k l)
-      (joined-before i (movedTo moves x w (s .count)) (move w) (a .move-lt w) k l)
-      ∙ sym (made-digit s moves x w k)
+    made-before :
+        (w k : ℕ) → k < i
+        → digit (bitOr (madeBy s w) (new w * 16 ^ i)) k ≡ given n left (unpack n w) k (termOf (side k))
+    made-before w k l = joined-before i (madeBy s w) (new w) (a .new-lt w) k l ∙ b .makes w k l
 
-  made-at : (w : ℕ) → digit (madeBy t moves′ x w) i ≡ parts (digit w i) keep value (move w)
-  made-at w =
-      made-joined w i keep value (move w) (joined-at i (s .keep) keep (a .keep-lt) (b .small-keep))
-      (joined-at i (s .value) value (a .value-lt) (b .small-value))
-      (joined-at i (movedTo moves x w (s .count)) (move w) (a .move-lt w) (b .small-moves w))
+    pass-at :
+        (w : ℕ) → digit w i ≡ given n left (unpack n w) i (termOf (side i))
+        → bitAnd (digit w i) (digit (t .mask) i) ≡ digit (t .value) i
+    pass-at w e =
+        ap (λ (y : ℕ). bitAnd (digit w i) (digit y i)) (a .mask-is)
+        ∙ ap (bitAnd (digit w i)) (joined-at i (s .mask) mask (a .mask-lt) (b .small-mask)) ∙ passes w e
+        ∙ sym (ap (λ (y : ℕ). digit y i) (a .value-is) ∙ joined-at i (s .value) value (a .value-lt) (b .small-value))
 
-  term-more :
-      ((w : ℕ) → parts (digit w i) keep value (move w) ≡ given n left (unpack n w) i (termOf (side i)))
-      → ((w : ℕ) → digit w i ≡ given n left (unpack n w) i (termOf (side i)) → bitAnd (digit w i) mask ≡ value)
-      → Begun n left side t moves′ x (i + 1)
-  term-more gives passes =
-      record {
-        makes = λ w k l. ⊎-elim (λ e. rw e (made-at w ∙ gives w)) (λ m. made-before w k m ∙ b .makes w k m) (last k l);
-        passes = λ w k l. ⊎-elim (λ e. rw e (pass-at w)) (λ m. pass-before w k m) (last k l);
-        small-mask = rw (a .mask-is) (joined-below i (s .mask) mask (a .mask-lt) (b .small-mask));
-        small-value = rw (a .value-is) (joined-below i (s .value) value (a .value-lt) (b .small-value));
-        small-keep = rw (a .keep-is) (joined-below i (s .keep) keep (a .keep-lt) (b .small-keep));
-        small-moves = λ w. rw (a .moves-are w) (joined-below i (movedTo moves x w (s .count)) (move w) (a .move-lt w) (b .small-moves w));
-        few = omega (arith, a .count-le, b .few);
-      }
-    where
-      last : (k : ℕ) → k < i + 1 → (k ≡ i) ⊎ (k < i)
-      last k l = eq-or-lt-of-le (omega arith)
-
-      pass-at :
-          (w : ℕ) → digit w i ≡ given n left (unpack n w) i (termOf (side i))
-          → bitAnd (digit w i) (digit (t .mask) i) ≡ digit (t .value) i
-      pass-at w e =
-          ap (λ (y : ℕ). bitAnd (digit w i) (digit y i)) (a .mask-is)
-          ∙ ap (bitAnd (digit w i)) (joined-at i (s .mask) mask (a .mask-lt) (b .small-mask)) ∙ passes w e
-          ∙ sym (ap (λ (y : ℕ). digit y i) (a .value-is) ∙ joined-at i (s .value) value (a .value-lt) (b .small-value))
-
-      pass-before :
-          (w k : ℕ) → k < i → digit w k ≡ given n left (unpack n w) k (termOf (side k))
-          → bitAnd (digit w k) (digit (t .mask) k) ≡ digit (t .value) k
-      pass-before w k l e =
-          ap (λ (y : ℕ). bitAnd (digit w k) (digit y k)) (a .mask-is)
-          ∙ ap (bitAnd (digit w k)) (joined-before i (s .mask) mask (a .mask-lt) k l) ∙ b .passes w k l e
-          ∙ sym (ap (λ (y : ℕ). digit y k) (a .value-is) ∙ joined-before i (s .value) value (a .value-lt) k l)
+    pass-before :
+        (w k : ℕ) → k < i → digit w k ≡ given n left (unpack n w) k (termOf (side k))
+        → bitAnd (digit w k) (digit (t .mask) k) ≡ digit (t .value) k
+    pass-before w k l e =
+        ap (λ (y : ℕ). bitAnd (digit w k) (digit y k)) (a .mask-is)
+        ∙ ap (bitAnd (digit w k)) (joined-before i (s .mask) mask (a .mask-lt) k l) ∙ b .passes w k l e
+        ∙ sym (ap (λ (y : ℕ). digit y k) (a .value-is) ∙ joined-before i (s .value) value (a .value-lt) k l)
 
 -- the side with one term more: a constant, a position that keeps its label, a move
 abbrev withConstant : Side → ℕ → ℕ → Side
@@ -149,146 +186,154 @@ withConstant s i byte =
       value = bitOr (s .value) (byte * 2 ^ (4 * i) % 2 ^ 64);
       keep = s .keep;
       count = s .count;
+      from = s .from;
+      to = s .to;
     }
 
 abbrev withKept : Side → ℕ → Side
 withKept s i =
-    record { mask = s .mask; value = s .value; keep = bitOr (s .keep) (15 * 2 ^ (4 * i) % 2 ^ 64); count = s .count }
+    record {
+      mask = s .mask;
+      value = s .value;
+      keep = bitOr (s .keep) (15 * 2 ^ (4 * i) % 2 ^ 64);
+      count = s .count;
+      from = s .from;
+      to = s .to;
+    }
 
-abbrev withMove : Side → Side
-withMove s = record { mask = s .mask; value = s .value; keep = s .keep; count = s .count + 1 }
+abbrev withMove : Side → ℕ → ℕ → Side
+withMove s i from =
+    record {
+      mask = s .mask;
+      value = s .value;
+      keep = s .keep;
+      count = s .count + 1;
+      from = bitOr (s .from) (from * 2 ^ (4 * s .count) % 2 ^ 64);
+      to = bitOr (s .to) (i * 2 ^ (4 * s .count) % 2 ^ 64);
+    }
 
--- nothing added to a part
+-- nothing added to a word
 unchanged : (v i : ℕ) → v ≡ bitOr v (0 * 16 ^ i)
 unchanged v i = sym (ap (bitOr v) (zero-mul (16 ^ i)) ∙ or-zero-r v)
 
-under-ones : (d : ℕ) → d < 16 → bitAnd d 15 ≡ d
-under-ones d h = and-mask d 4 ∙ mod-eq-of-lt h
-
-parts-constant : (d c : ℕ) → parts d 0 c 0 ≡ c
-parts-constant d c = or-zero-r (bitOr (bitAnd d 0) c) ∙ ap (λ (y : ℕ). bitOr y c) (and-zero-r d) ∙ or-zero-l c
-
-parts-kept : (d : ℕ) → d < 16 → parts d 15 0 0 ≡ d
-parts-kept d h = or-zero-r (bitOr (bitAnd d 15) 0) ∙ or-zero-r (bitAnd d 15) ∙ under-ones d h
-
-parts-move : (d m : ℕ) → parts d 0 0 m ≡ m
-parts-move d m = ap (λ (y : ℕ). bitOr (bitOr y 0) m) (and-zero-r d) ∙ or-zero-l m
-
--- the first c moves go by their own bytes
-pub moves-same :
-    (moves moves′ : List ℕ) (x w c : ℕ) → ((j : ℕ) → 32 * x ≤ j → j < 32 * x + 2 * c → getD moves′ j 0 ≡ getD moves j 0)
-    → movedTo moves′ x w c ≡ movedTo moves x w c
-unfolding movedTo
-moves-same moves moves′ x w zero h = refl
-moves-same moves moves′ x w (suc c) h =
-    ap₂ bitOr (moves-same moves moves′ x w c (λ j a b. h j a (omega arith)))
-    (ap₂ (moved w) (h (32 * x + 2 * c) (omega arith) (omega arith)) (h (32 * x + 2 * c + 1) (omega arith) (omega arith)))
-
--- one move more is written behind c of them
-abbrev withBytes : List ℕ → ℕ → ℕ → ℕ → ℕ → List ℕ
-withBytes moves x c from to = set (set moves (32 * x + 2 * c) from) (32 * x + 2 * c + 1) to
-
-module _ (moves : List ℕ) (x c from to : ℕ) (room : 32 * x + 2 * c + 2 ≤ length moves) where
-  from-written : getD (withBytes moves x c from to) (32 * x + 2 * c) 0 ≡ from
-  from-written =
-      getD-set-other (set moves (32 * x + 2 * c) from) (32 * x + 2 * c + 1) (32 * x + 2 * c) to 0 (λ e. omega arith)
-      ∙ getD-set-same moves (32 * x + 2 * c) from 0 (omega arith)
-
-  to-written : getD (withBytes moves x c from to) (32 * x + 2 * c + 1) 0 ≡ to
-  to-written =
-      getD-set-same (set moves (32 * x + 2 * c) from) (32 * x + 2 * c + 1) to 0 (omega (arith, length-set moves (32 * x + 2 * c) from))
-
-  written-before : (j : ℕ) → 32 * x ≤ j → j < 32 * x + 2 * c → getD (withBytes moves x c from to) j 0 ≡ getD moves j 0
-  written-before j a b =
-      getD-set-other (set moves (32 * x + 2 * c) from) (32 * x + 2 * c + 1) j to 0 (λ e. omega arith)
-      ∙ getD-set-other moves (32 * x + 2 * c) j from 0 (λ e. omega arith)
-
-  moves-more :
-      from < 16 → to < 16 → (w : ℕ) → movedTo (withBytes moves x c from to) x w (c + 1) ≡ bitOr (movedTo moves x w c) (digit w from * 16 ^ to)
-  unfolding movedTo moved
-  moves-more a b w =
-      ap (movedTo (withBytes moves x c from to) x w) (add-one c)
-      ∙ ap₂ bitOr (moves-same moves (withBytes moves x c from to) x w c written-before)
-      (ap₂ (λ (y z : ℕ). digit w (y % 16) * 16 ^ (z % 16)) from-written to-written
-      ∙ ap₂ (λ (y z : ℕ). digit w y * 16 ^ z) (mod-eq-of-lt a) (mod-eq-of-lt b))
-
-  pub moves-outside : c < 16 → Outside (32 * x) (32 * x + 32) moves (withBytes moves x c from to)
-  moves-outside h =
-      outside-set (32 * x + 2 * c + 1) to (omega arith) (omega arith)
-      (outside-set (32 * x + 2 * c) from (omega arith) (omega arith) (outside-none (32 * x) (32 * x + 32) moves))
+one-more : (v i : ℕ) → v < 16 ^ i → v < 16 ^ (i + 1)
+one-more v i h = lt-of-lt-of-le h (pow-le-pow-right (zero-lt-suc 15) (omega arith))
 
 module _
-    (n : ℕ) (left side : ℕ → ℕ) (s : Side) (moves : List ℕ) (x i : ℕ) (li : i < n) (ln : n ≤ 16)
-    (b : Begun n left side s moves x i) where
-  pub constant-more : (c : ConcreteLabel) → termOf (side i) ≡ Label c → Begun n left side (withConstant s i (c .0)) moves x (i + 1)
+    (n : ℕ) (left side : ℕ → ℕ) (s : Side) (i : ℕ) (li : i < n) (ln : n ≤ 16) (b : Begun n left side s i) where
+  pub constant-more :
+      (c : ConcreteLabel) → termOf (side i) ≡ Label c → Begun n left side (withConstant s i (c .0)) (i + 1)
+  unfolding madeBy
   constant-more c h =
-      term-more n left side s (withConstant s i (c .0)) moves moves x i 15 (c .0) 0 (λ w. 0) b
+      term-more n left side s (withConstant s i (c .0)) i 15 (c .0) (λ w. c .0) b
       (record {
+        made-is = made;
         mask-is = ap (bitOr (s .mask)) (shifted 15 i (lit< tt) (omega arith));
-        value-is = ap (bitOr (s .value)) (shifted (c .0) i (label-lt (side i) c h) (omega arith));
-        keep-is = unchanged (s .keep) i;
-        moves-are = λ w. unchanged (movedTo moves x w (s .count)) i;
+        value-is = value;
+        new-lt = λ w. low;
         mask-lt = lit< tt;
-        value-lt = label-lt (side i) c h;
-        keep-lt = lit< tt;
-        move-lt = λ w. lit< tt;
-        count-le = omega arith;
+        value-lt = low;
+        keep-lt = one-more (s .keep) i (b .small-keep);
+        from-lt = b .small-from;
+        to-lt = b .small-to;
+        count-le = omega (arith, b .few);
       })
-      (λ w. parts-constant (digit w i) (c .0) ∙ sym (gives w))
+      (λ w. sym (gives w))
       (λ w e. under-ones (digit w i) (digit-lt w i) ∙ e ∙ gives w)
     where
+      low : c .0 < 16
+      low = label-lt (side i) c h
+
+      value : withConstant s i (c .0) .value ≡ bitOr (s .value) (c .0 * 16 ^ i)
+      value = ap (bitOr (s .value)) (shifted (c .0) i low (omega arith))
+
       gives : (w : ℕ) → given n left (unpack n w) i (termOf (side i)) ≡ c .0
       gives w = ap (given n left (unpack n w) i) h
 
-  -- any other term, by where it takes its label from
+      made : (w : ℕ) → madeBy (withConstant s i (c .0)) w ≡ bitOr (madeBy s w) (c .0 * 16 ^ i)
+      made w =
+          let kept = bitAnd w (s .keep) in
+          ap (λ (y : ℕ). joinMoves y w (s .from) (s .to) (s .count))
+          (ap (bitOr kept) value ∙ sym (or-assoc kept (s .value) (c .0 * 16 ^ i)))
+          ∙ joined-moves (bitOr kept (s .value)) (c .0 * 16 ^ i) w (s .from) (s .to) (s .count)
+
+  -- any other term, by where it takes its label from: it adds nothing to the mask and the value
   module _ (from : ℕ) (source : TakenFrom n left i (side i) from) where
-    pub kept-more : from ≡ i → Begun n left side (withKept s i) moves x (i + 1)
+    source-more :
+        (t : Side) (new : ℕ → ℕ) → ((w : ℕ) → getD (unpack n w) from 0 ≡ new w) → Added s t i 0 0 new
+        → Begun n left side t (i + 1)
+    source-more t new gives a =
+        term-more n left side s t i 0 0 new b a (λ w. sym (source .label (unpack n w) ∙ gives w))
+        (λ w e. and-zero-r (digit w i))
+
+    pub kept-more : from ≡ i → Begun n left side (withKept s i) (i + 1)
+    unfolding madeBy
     kept-more e =
-        term-more n left side s (withKept s i) moves moves x i 0 0 15 (λ w. 0) b
+        source-more (withKept s i) (λ w. digit w i) (λ w. ap (λ (k : ℕ). getD (unpack n w) k 0) e ∙ unpack-at n w i li)
         (record {
+          made-is = made;
           mask-is = unchanged (s .mask) i;
           value-is = unchanged (s .value) i;
-          keep-is = ap (bitOr (s .keep)) (shifted 15 i (lit< tt) (omega arith));
-          moves-are = λ w. unchanged (movedTo moves x w (s .count)) i;
+          new-lt = λ w. digit-lt w i;
           mask-lt = lit< tt;
           value-lt = lit< tt;
-          keep-lt = lit< tt;
-          move-lt = λ w. lit< tt;
-          count-le = omega arith;
+          keep-lt = rw keep (joined-below i (s .keep) 15 (lit< tt) (b .small-keep));
+          from-lt = b .small-from;
+          to-lt = b .small-to;
+          count-le = omega (arith, b .few);
         })
-        (λ w.
-        parts-kept (digit w i) (digit-lt w i)
-        ∙ sym (source .label (unpack n w) ∙ ap (λ (k : ℕ). getD (unpack n w) k 0) e ∙ unpack-at n w i li))
-        (λ w e. and-zero-r (digit w i))
+      where
+        keep : withKept s i .keep ≡ bitOr (s .keep) (15 * 16 ^ i)
+        keep = ap (bitOr (s .keep)) (shifted 15 i (lit< tt) (omega arith))
 
-    moved-at :
-        (t : Side) (moves′ : List ℕ) (move : ℕ → ℕ) → t .mask ≡ s .mask → t .value ≡ s .value → t .keep ≡ s .keep → t .count ≤ s .count + 1
-        → ((w : ℕ) → movedTo moves′ x w (t .count) ≡ bitOr (movedTo moves x w (s .count)) (move w * 16 ^ i)) → ((w : ℕ) → move w < 16)
-        → ((w : ℕ) → getD (unpack n w) from 0 ≡ move w) → Begun n left side t moves′ x (i + 1)
-    moved-at t moves′ move p q r k m l gives =
-        term-more n left side s t moves moves′ x i 0 0 0 move b
-        (record {
-          mask-is = p ∙ unchanged (s .mask) i;
-          value-is = q ∙ unchanged (s .value) i;
-          keep-is = r ∙ unchanged (s .keep) i;
-          moves-are = m;
-          mask-lt = lit< tt;
-          value-lt = lit< tt;
-          keep-lt = lit< tt;
-          move-lt = l;
-          count-le = k;
-        })
-        (λ w. parts-move (digit w i) (move w) ∙ sym (source .label (unpack n w) ∙ gives w))
-        (λ w e. and-zero-r (digit w i))
+        made : (w : ℕ) → madeBy (withKept s i) w ≡ bitOr (madeBy s w) (digit w i * 16 ^ i)
+        made w =
+            let kept = bitAnd w (s .keep) in
+            let d = digit w i * 16 ^ i in
+            ap (λ (y : ℕ). joinMoves y w (s .from) (s .to) (s .count))
+            (ap (λ (y : ℕ). bitOr y (s .value)) (ap (bitAnd w) keep ∙ kept-joined w (s .keep) i (b .small-keep))
+            ∙ or-swap kept d (s .value))
+            ∙ joined-moves (bitOr kept (s .value)) d w (s .from) (s .to) (s .count)
 
-    pub unbound-more : n ≤ from → Begun n left side s moves x (i + 1)
+    pub unbound-more : n ≤ from → Begun n left side s (i + 1)
     unbound-more q =
-        moved-at s moves (λ w. 0) refl refl refl (omega arith) (λ w. unchanged (movedTo moves x w (s .count)) i) (λ w. lit< tt)
-        (λ w. List·getD-eq-default (unpack n w) 0 (omega (arith, unpack-length n w)))
+        source-more s (λ w. 0) (λ w. List·getD-eq-default (unpack n w) 0 (omega (arith, unpack-length n w)))
+        (record {
+          made-is = λ w. unchanged (madeBy s w) i;
+          mask-is = unchanged (s .mask) i;
+          value-is = unchanged (s .value) i;
+          new-lt = λ w. lit< tt;
+          mask-lt = lit< tt;
+          value-lt = lit< tt;
+          keep-lt = one-more (s .keep) i (b .small-keep);
+          from-lt = b .small-from;
+          to-lt = b .small-to;
+          count-le = omega (arith, b .few);
+        })
 
-    pub move-more :
-        from < n → 32 * x + 2 * s .count + 2 ≤ length moves
-        → Begun n left side (withMove s) (withBytes moves x (s .count) from i) x (i + 1)
-    move-more l room =
-        moved-at (withMove s) (withBytes moves x (s .count) from i) (λ w. digit w from) refl refl refl (omega arith)
-        (moves-more moves x (s .count) from i room (omega arith) (omega arith)) (λ w. digit-lt w from) (λ w. unpack-at n w from l)
+    pub move-more : from < n → Begun n left side (withMove s i from) (i + 1)
+    unfolding madeBy
+    move-more l =
+        source-more (withMove s i from) (λ w. digit w from) (λ w. unpack-at n w from l)
+        (record {
+          made-is = made;
+          mask-is = unchanged (s .mask) i;
+          value-is = unchanged (s .value) i;
+          new-lt = λ w. digit-lt w from;
+          mask-lt = lit< tt;
+          value-lt = lit< tt;
+          keep-lt = one-more (s .keep) i (b .small-keep);
+          from-lt = rw (at from (omega arith)) (joined-below (s .count) (s .from) from (omega arith) (b .small-from));
+          to-lt = rw (at i (omega arith)) (joined-below (s .count) (s .to) i (omega arith) (b .small-to));
+          count-le = omega (arith, b .few);
+        })
+      where
+        at : (d : ℕ) → d < 16 → d * 2 ^ (4 * s .count) % 2 ^ 64 ≡ d * 16 ^ s .count
+        at d h = shifted d (s .count) h (omega (arith, b .few))
+
+        made : (w : ℕ) → madeBy (withMove s i from) w ≡ bitOr (madeBy s w) (digit w from * 16 ^ i)
+        made w =
+            let v = bitOr (bitAnd w (s .keep)) (s .value) in
+            ap₂ (λ (y z : ℕ). joinMoves v w (bitOr (s .from) y) (bitOr (s .to) z) (s .count + 1))
+            (at from (omega arith)) (at i (omega arith))
+            ∙ move-joined v w (s .from) (s .to) (s .count) from i (b .small-from) (b .small-to) (omega arith) (omega arith)

@@ -43,7 +43,7 @@ low-more l at v h low rest k =
     (λ n. omega (arith, getD-set-other l at k v 0 (λ e. n (sym e)), rest k)) (same? at k)
 
 -- the weights of pairs are those of single labels together
-pub pairs-weighted : {b singles weights : List ℕ} → Headed b → Singles b singles → PairsPlaced singles weights → Weighted b weights
+pub pairs-weighted : {b singles weights : List ℕ} → Headed b → Singles b singles → PairsPlaced (positions b) singles weights → Weighted b weights
 pairs-weighted {b} {singles} {weights} h single pairs =
     record {
       pair = λ j x y l lx ly.
@@ -58,7 +58,7 @@ pairs-weighted {b} {singles} {weights} h single pairs =
     }
   where
     joined :
-        (j x y : ℕ) → j < 8 → x < 16 → y < 16
+        (j x y : ℕ) → 2 * j < positions b → x < 16 → y < 16
         → getD weights (256 * j + (y * 16 + x)) 0 ≡ getD singles (16 * (2 * j) + x) 0 + getD singles (16 * suc (2 * j) + y) 0
     joined j x y lj lx ly =
         let k = 256 * j + (y * 16 + x) in

@@ -25,6 +25,6 @@ abbrev pub pairWeight : List ℕ → ℕ → ℕ
 pairWeight singles k =
     getD singles (32 * (k / 256) + k % 16) 0 + getD singles (32 * (k / 256) + 16 + k / 16 % 16) 0
 
--- the weights of pairs
-pub record PairsPlaced (singles weights : List ℕ) : Type 0 where
-  pub pair : (k : ℕ) → k < 2048 → getD weights k 0 ≡ pairWeight singles k
+-- the weights of the pairs that n labels make
+pub record PairsPlaced (n : ℕ) (singles weights : List ℕ) : Type 0 where
+  pub pair : (k : ℕ) → k < 256 * ((n + 1) / 2) → getD weights k 0 ≡ pairWeight singles k

@@ -1,6 +1,6 @@
 -- Labels add to ranks (`additive-first`, `additive-second`): of a compiled block, and sides that stand compiled in the arrays. The code that finds edges asks for these.
-use mathlib.Core.Path.{_≡_, refl, sym, ap, _∙_}
-use mathlib.Core.Logic.{_⊎_, inl, inr, ⊎-elim}
+use mathlib.Core.Path.{_≡_, sym, ap, _∙_}
+use mathlib.Core.Logic.{inl, inr, ⊎-elim}
 use mathlib.Core.Bool.{true}
 use mathlib.Core.List.{List}
 use Prim.Native.Nat.{ℕ, suc, _+_, _-_, _*_, _/_, _%_, _^_, _≤_, _<_}
@@ -11,9 +11,8 @@ use lib.ListN.{getD, List·getD-eq-default}
 use Rattle.basics.proofs.Comparing.{below?, trichotomy}
 use Rattle.blocks.specs.Terms.{termOf, termOk}
 use Rattle.blocks.specs.Layout.{positions, labels, labelCount}
-use Rattle.blocks.specs.States.{stateOk}
 use Rattle.blocks.proofs.StateLaws.{labelled-intro}
-use Rattle.psvn.specs.Rules.{rewritten}
+use Rattle.words.specs.Code.{positionCount}
 use Rattle.words.specs.Packing.{digit, unpack}
 use Rattle.words.specs.Sides.{rewrittenWord}
 use Rattle.words.specs.Ranking.{rankWord}
@@ -115,21 +114,22 @@ module _ (n k : ℕ) (some : 0 < k) where
 
   -- a side that stands compiled in the arrays
   module _
-      (words moves : List ℕ) (x : ℕ) (left right : ℕ → ℕ) (side : Sided n left right words moves x)
+      (code : List ℕ) (x : ℕ) (left right : ℕ → ℕ) (side : Sided n left right code x)
       (terms : (i : ℕ) → i < n → termOk k (termOf (right i)) ≡ true) where
-    low-made : (w : ℕ) → Low n k w → Low n k (rewrittenWord words moves x w)
+    low-made : (w : ℕ) → Low n k w → Low n k (rewrittenWord code x w)
     low-made w l =
         (side .small w (l .0), λ j. rw (side .makes w (l .0)) (drawn-below n k left right some terms (unpack n w) (l .1) j))
 
     exchanged-made :
         (a b c d : ℕ) → Low n k a → Low n k b → Low n k c → Low n k d
         → Exchanged (unpack n a) (unpack n b) (unpack n c) (unpack n d)
-        → Exchanged (unpack n (rewrittenWord words moves x a)) (unpack n (rewrittenWord words moves x b)) (unpack n (rewrittenWord words moves x c)) (unpack n (rewrittenWord words moves x d))
+        → Exchanged (unpack n (rewrittenWord code x a)) (unpack n (rewrittenWord code x b))
+        (unpack n (rewrittenWord code x c)) (unpack n (rewrittenWord code x d))
     exchanged-made a b c d la lb lc ld e =
         rw (side .makes a (la .0), side .makes b (lb .0), side .makes c (lc .0), side .makes d (ld .0))
         (exchanged-rewritten n k left right some terms (unpack n a) (unpack n b) (unpack n c) (unpack n d) e)
 
-module _ {b words moves weights : List ℕ} (c : Compiled b words moves weights) (some : 0 < labels b) where
+module _ {b code weights : List ℕ} (c : Compiled b code weights) (some : 0 < labels b) where
   ranks : (w : ℕ) → Low (positions b) (labels b) w → rankWord weights (positions b) w ≡ labelsRank b (unpack (positions b) w) (positions b)
   unfolding labelCount
   ranks w l =
@@ -145,35 +145,38 @@ module _ {b words moves weights : List ℕ} (c : Compiled b words moves weights)
       (exchanged-ranks b (unpack (positions b) u) (unpack (positions b) v) (unpack (positions b) w) (unpack (positions b) z) e (positions b))
 
   module _
-      (x : ℕ) (left right : ℕ → ℕ) (side : Sided (positions b) left right words moves x)
+      (x : ℕ) (left right : ℕ → ℕ) (side : Sided (positions b) left right code x)
       (terms : (i : ℕ) → i < positions b → termOk (labels b) (termOf (right i)) ≡ true) where
-    pub additive-first : Additive (positions b) (labels b) (firstRank words moves weights (positions b) x)
+    pub additive-first : Additive (positionCount code) (labels b) (firstRank code weights x)
     unfolding firstRank
-    additive-first w p l i =
+    additive-first =
         let n = positions b in
         let k = labels b in
-        let made = low-made n k some words moves x left right side terms in
+        let made = low-made n k some code x left right side terms in
+        rw (c .counted .positions-told) (λ w p l i.
         let lf = low-from n k some w p l in
         let lg = low-from n k some w (suc p) l in
         let ls = low-single n k some w p l i in
         let lz = low-zero n k some in
         sums _ _ _ _ (made _ lf) (made _ lg) (made _ ls) (made _ lz)
-        (exchanged-made n k some words moves x left right side terms _ _ _ _ lf lg ls lz (exchanged-words n w p i))
+        (exchanged-made n k some code x left right side terms _ _ _ _ lf lg ls lz (exchanged-words n w p i)))
 
     module _
-        (y : ℕ) (left₂ right₂ : ℕ → ℕ) (side₂ : Sided (positions b) left₂ right₂ words moves y)
+        (y : ℕ) (left₂ right₂ : ℕ → ℕ) (side₂ : Sided (positions b) left₂ right₂ code y)
         (terms₂ : (i : ℕ) → i < positions b → termOk (labels b) (termOf (right₂ i)) ≡ true) where
-      pub additive-second : Additive (positions b) (labels b) (secondRank words moves weights (positions b) x y)
+      pub additive-second : Additive (positionCount code) (labels b) (secondRank code weights x y)
       unfolding firstRank secondRank
-      additive-second w p l i =
+      additive-second =
           let n = positions b in
           let k = labels b in
-          let made = low-made n k some words moves x left right side terms in
-          let made₂ = low-made n k some words moves y left₂ right₂ side₂ terms₂ in
+          let made = low-made n k some code x left right side terms in
+          let made₂ = low-made n k some code y left₂ right₂ side₂ terms₂ in
+          rw (c .counted .positions-told) (λ w p l i.
           let lf = low-from n k some w p l in
           let lg = low-from n k some w (suc p) l in
           let ls = low-single n k some w p l i in
           let lz = low-zero n k some in
           sums _ _ _ _ (made₂ _ (made _ lf)) (made₂ _ (made _ lg)) (made₂ _ (made _ ls)) (made₂ _ (made _ lz))
-          (exchanged-made n k some words moves y left₂ right₂ side₂ terms₂ _ _ _ _ (made _ lf) (made _ lg) (made _ ls) (made _ lz)
-          (exchanged-made n k some words moves x left right side terms _ _ _ _ lf lg ls lz (exchanged-words n w p i)))
+          (exchanged-made n k some code y left₂ right₂ side₂ terms₂ _ _ _ _
+          (made _ lf) (made _ lg) (made _ ls) (made _ lz)
+          (exchanged-made n k some code x left right side terms _ _ _ _ lf lg ls lz (exchanged-words n w p i))))

@@ -1,15 +1,13 @@
 -- Lists of ranks, position by position from the last one on: the list of the word 0 alone (`listed-first`), a position that changes nothing (`listed-idle`) and one whose labels are
 -- added (`listed-more`); the whole word at the end (`listed-all`). The code that finds edges rests on these.
-use mathlib.Core.Path.{_≡_, refl, sym, ap, _∙_}
+use mathlib.Core.Path.{_≡_, sym, ap, _∙_}
 use mathlib.Core.Logic.{⊎-elim}
-use mathlib.Core.List.{List}
-use Prim.Native.Nat.{ℕ, suc, _+_, _*_, _/_, _%_, _^_, _≤_, _<_}
+use Prim.Native.Nat.{ℕ, suc, _+_, _*_, _%_, _^_, _≤_, _<_}
 use native.Mathlib.Nat.{div-eq-of-lt, div-one, mul-one, zero-mul, mod-add-mod, add-mod-mod}
 use native.Mathlib.Omega.{arith}
-use lib.ListN.{getD}
 use Rattle.basics.proofs.Comparing.{same?}
 use Rattle.words.specs.Packing.{digit}
-use Rattle.edge_ranks.specs.Lists.{LabelsAdded, from, Labels, Additive, Listed}
+use Rattle.edge_ranks.specs.Lists.{LabelsAdded, from, Additive, Listed}
 
 -- no label is left from n on, and all from 0 on
 from-none : (n w : ℕ) → w < 16 ^ n → from n w ≡ 0
@@ -35,8 +33,7 @@ sum-more y x e b h old base new o c l s =
     cancel u v b h l = omega arith
 
 module _ (f g : ℕ → ℕ) (n k : ℕ) where
-  pub listed-first :
-      (s t : List ℕ) → getD s 0 0 ≡ f 0 % 16384 → getD t 0 0 ≡ g 0 % 16384 → Listed f g n k n s t 1
+  pub listed-first : (s t : ℕ → ℕ) → s 0 ≡ f 0 % 16384 → t 0 ≡ g 0 % 16384 → Listed f g n k n s t 1
   listed-first s t a b w l =
       let e = sym (from-none n w (l .0)) in
       (0, omega arith, a ∙ ap (λ (z : ℕ). f z % 16384) e, b ∙ ap (λ (z : ℕ). g z % 16384) e)
@@ -47,7 +44,7 @@ module _ (f g : ℕ → ℕ) (n k : ℕ) where
     at-zero h d e = ap (λ (z : ℕ). h (z * 16 ^ p)) e ∙ ap h (zero-mul (16 ^ p))
 
     pub listed-idle :
-        (s t : List ℕ) (count : ℕ) → ((l : ℕ) → 1 ≤ l → l < k → (f (l * 16 ^ p) ≡ f 0) × (g (l * 16 ^ p) ≡ g 0))
+        (s t : ℕ → ℕ) (count : ℕ) → ((l : ℕ) → 1 ≤ l → l < k → (f (l * 16 ^ p) ≡ f 0) × (g (l * 16 ^ p) ≡ g 0))
         → Listed f g n k (suc p) s t count → Listed f g n k p s t count
     listed-idle s t count idle h w l =
         let (j, i, a, b) = h w l in
@@ -57,10 +54,10 @@ module _ (f g : ℕ → ℕ) (n k : ℕ) where
         (j, i, a ∙ sum-kept _ _ _ _ (addF w p l low) (same .0), b ∙ sum-kept _ _ _ _ (addG w p l low) (same .1))
 
     pub listed-more :
-        (s t s′ t′ : List ℕ) (source target count new : ℕ) → source ≡ f 0 % 16384 → target ≡ g 0 % 16384
-        → LabelsAdded f k p source count new s s′ → LabelsAdded g k p target count new t t′ → 0 < new
+        (s t s′ t′ : ℕ → ℕ) (count new : ℕ) → s 0 ≡ f 0 % 16384 → t 0 ≡ g 0 % 16384
+        → LabelsAdded f k p count new s s′ → LabelsAdded g k p count new t t′ → 0 < new
         → Listed f g n k (suc p) s t count → Listed f g n k p s′ t′ new
-    listed-more s t s′ t′ source target count new es et x y z h w l =
+    listed-more s t s′ t′ count new es et x y z h w l =
         let (j, i, a, b) = h w l in
         let d = digit w p in
         ⊎-elim
@@ -75,7 +72,7 @@ module _ (f g : ℕ → ℕ) (n k : ℕ) where
         let v = y .more z d j (omega arith) (l .1 p low) i in (
           d * count + j,
           u .0,
-          sum-more _ _ _ _ (addF w p l low) _ source _ a es (u .1) (u .2),
-          sum-more _ _ _ _ (addG w p l low) _ target _ b et (v .1) (v .2),
+          sum-more _ _ _ _ (addF w p l low) _ _ _ a es (u .1) (u .2),
+          sum-more _ _ _ _ (addG w p l low) _ _ _ b et (v .1) (v .2),
         ))
         (same? d 0)

@@ -3,13 +3,12 @@
 use mathlib.Core.Path.{_≡_, refl, sym, ap, ap₂, _∙_}
 use mathlib.Core.List.{List}
 use Prim.Native.Nat.{ℕ, suc, _+_, _*_, _/_, _%_, _^_, _≤_, _<_}
-use native.Mathlib.Nat.{mod-eq-of-lt, mod-lt, div-add-mod', add-mul, one-mul, zero-mul, one-le-pow, zero-lt-suc, add-comm}
+use native.Mathlib.Nat.{mod-eq-of-lt, mod-lt, div-add-mod', add-mul, one-mul, zero-mul, add-comm}
 use native.Mathlib.Omega.{arith}
 use lib.Arith.{digits-div, digits-mod}
-use lib.ListN.{length, getD}
 use Rattle.basics.specs.Digits.{digits}
 use Rattle.basics.proofs.Digits.{length-digits, digit-below}
-use Rattle.blocks.specs.Layout.{positions, abstracts, abstractCount}
+use Rattle.blocks.specs.Layout.{positions, abstractCount}
 use Rattle.blocks.specs.Validity.{Headed}
 use Rattle.blocks.proofs.StateLaws.{some-abstract, abstract-count-low}
 use Rattle.psvn.specs.Ranks.{unrank}

@@ -1,6 +1,7 @@
 // The fill: the table of least costs of an exercise.
 mod filling;
 mod queue;
+mod rank_words;
 mod spreading;
 mod sweeping;
 

@@ -1,74 +1,92 @@
--- Parts written one after another: what they add stays while others are written (`added-kept`); none of them (`parts-none`), and one position more, whose row is a part
--- (`part-more`) or adds nothing (`plain-more`). The loop over positions, and the change of a rule, rest on these.
+-- Parts written one after another: what a part adds (`part-adds`), which stays while others are written (`added-kept`); none of them (`parts-none`), and one position more, whose row is
+-- a part (`part-more`) or adds nothing (`plain-more`). The loop over positions, and the change of a rule, rest on these.
 use mathlib.Core.Path.{_≡_, refl, sym, ap, ap₂, _∙_, subst}
-use mathlib.Core.Bool.{true}
+use mathlib.Core.Bool.{false}
 use mathlib.Core.List.{List}
-use Prim.Native.Nat.{ℕ, zero, suc, _+_, _*_, _%_, _≤_, _<_}
-use native.Mathlib.Nat.{add-zero, mod-eq-of-lt}
+use Prim.Native.Nat.{ℕ, zero, suc, _+_, _*_, _/_, _%_, _^_, _≤_, _<_}
+use native.Mathlib.Nat.{add-zero}
 use native.Mathlib.Numerals.{add-one}
 use native.Mathlib.Omega.{arith}
 use lib.Dec.{eqb}
 use lib.ListN.{getD}
-use borrow.Author.Tests.{eqb-true}
-use Rattle.basics.specs.Bounded.{all}
+use borrow.Author.Tests.{eqb-true, eqb-false, not-false}
+use Rattle.basics.proofs.Truth.{or-false}
 use Rattle.basics.proofs.Bounded.{all-at}
 use Rattle.basics.proofs.Parts.{outside-none, outside-then, outside-within}
 use Rattle.words.specs.Packing.{digit}
-use Rattle.words.specs.Changes.{changePlace, partPosition, partAdds, addedTo}
-use Rattle.words.proofs.WordDigits.{digit-lt}
+use Rattle.words.specs.Changes.{changePlace, partPlace, partAdds, addedTo}
+use Rattle.words.proofs.WordDigits.{digit-shift, digit-lt}
 use Rattle.rank_changes.specs.Rows.{total, entry}
-use Rattle.rank_changes.specs.Parts.{PartPlaced, PartsPlaced}
+use Rattle.rank_changes.specs.Parts.{isPart, PartPlaced, PartsPlaced}
 
 -- what the first j parts add stays where they stay
 pub added-kept :
-    (weights weights′ : List ℕ) (r w j : ℕ)
-    → ((k : ℕ) → changePlace r + 2 ≤ k → k < changePlace r + 2 + 17 * j → getD weights′ k 0 ≡ getD weights k 0)
-    → addedTo weights′ r w j ≡ addedTo weights r w j
-unfolding addedTo
-added-kept weights weights′ r w zero same = refl
-added-kept weights weights′ r w (suc j) same =
-    let position = ap (λ (y : ℕ). y % 16) (same (changePlace r + 2 + 17 * j) (omega arith) (omega arith)) in
-    let x = digit w (partPosition weights r j) in
-    let low = digit-lt w (partPosition weights r j) in
-    ap₂ _+_ (added-kept weights weights′ r w j (λ k a c. same k a (omega arith)))
-    (ap (λ (p : ℕ). partAdds weights′ r j (digit w p)) position ∙ same (changePlace r + 3 + 17 * j + x) (omega arith) (omega arith))
+    (changes changes′ : List ℕ) (r w j : ℕ)
+    → ((k : ℕ) → changePlace r + 1 ≤ k → k < changePlace r + 1 + 17 * j → getD changes′ k 0 ≡ getD changes k 0)
+    → addedTo changes′ r w j ≡ addedTo changes r w j
+unfolding addedTo partAdds
+added-kept changes changes′ r w zero same = refl
+added-kept changes changes′ r w (suc j) same =
+    let k = partPlace r j in
+    let x = w / 2 ^ (getD changes k 0 % 64) in
+    ap₂ _+_ (added-kept changes changes′ r w j (λ k a c. same k a (omega arith)))
+    (ap (λ (y : ℕ). getD changes′ (k + 1 + w / 2 ^ (y % 64) % 16) 0) (same k (omega arith) (omega arith))
+    ∙ same (k + 1 + x % 16) (omega arith) (omega arith))
 
-module _ {rows : List ℕ} {r : ℕ} where
-  pub parts-none : (weights : List ℕ) → PartsPlaced rows r 0 0 weights weights
+-- a part adds what its row says of the label at its position
+part-adds :
+    {rows : List ℕ} {p at : ℕ} {changes₀ changes₁ : List ℕ} → p < 16 → PartPlaced rows p at changes₀ changes₁ → (w : ℕ)
+    → partAdds changes₁ at w ≡ entry rows p (digit w p)
+unfolding partAdds
+part-adds {p = p} {at = at} {changes₁ = changes₁} l part w =
+    let shift : getD changes₁ at 0 % 64 ≡ 4 * p = omega (arith, part .shift) in
+    ap (λ (y : ℕ). getD changes₁ (at + 1 + w / 2 ^ y % 16) 0) shift ∙ ap (λ (x : ℕ). getD changes₁ (at + 1 + x) 0) (digit-shift w p)
+    ∙ part .adds (digit w p) (digit-lt w p)
+
+module _ {rows : List ℕ} {first r : ℕ} where
+  pub parts-none : (changes : List ℕ) → PartsPlaced rows first r 0 0 changes changes
   unfolding addedTo
-  parts-none weights =
-      record { few = omega arith; added = λ w. refl; weights = outside-none (changePlace r + 2) (changePlace r + 274) weights }
+  parts-none changes =
+      record {
+        some = λ l. omega arith;
+        few = omega arith;
+        added = λ w. refl;
+        changes = outside-none (changePlace r + 1) (changePlace r + 273) changes;
+      }
 
-  pub parts-as : {p p′ count : ℕ} {weights₀ weights₁ : List ℕ} → p ≡ p′ → PartsPlaced rows r p count weights₀ weights₁ → PartsPlaced rows r p′ count weights₀ weights₁
-  parts-as {count = count} {weights₀ = weights₀} {weights₁ = weights₁} = subst (λ (p : ℕ). PartsPlaced rows r p count weights₀ weights₁)
+  pub parts-as :
+      {p p′ count : ℕ} {changes₀ changes₁ : List ℕ} → p ≡ p′ → PartsPlaced rows first r p count changes₀ changes₁
+      → PartsPlaced rows first r p′ count changes₀ changes₁
+  parts-as {count = count} {changes₀ = changes₀} {changes₁ = changes₁} = subst (λ (p : ℕ). PartsPlaced rows first r p count changes₀ changes₁)
 
-  module _ {p count : ℕ} {weights₀ weights₁ : List ℕ} (parts : PartsPlaced rows r p count weights₀ weights₁) where
+  module _ {p count : ℕ} {changes₀ changes₁ : List ℕ} (parts : PartsPlaced rows first r p count changes₀ changes₁) where
     pub part-more :
-        {weights₂ : List ℕ} → p < 16 → PartPlaced rows p (changePlace r + 2 + 17 * count) weights₁ weights₂
-        → PartsPlaced rows r (p + 1) (count + 1) weights₀ weights₂
+        {changes₂ : List ℕ} → p < 16 → PartPlaced rows p (partPlace r count) changes₁ changes₂
+        → PartsPlaced rows first r (p + 1) (count + 1) changes₀ changes₂
     unfolding addedTo
-    part-more {weights₂} l part =
+    part-more {changes₂} l part =
         record {
+          some = λ m. omega arith;
           few = omega (arith, parts .few);
           added = λ w.
-              let position = ap (λ (y : ℕ). y % 16) (part .position) ∙ mod-eq-of-lt l in
-              let at : changePlace r + 3 + 17 * count + digit w p ≡ changePlace r + 2 + 17 * count + 1 + digit w p = omega arith in
-              ap (addedTo weights₂ r w) (add-one count)
-              ∙ ap₂ _+_ (added-kept weights₁ weights₂ r w count (λ k a c. part .weights .before k (omega arith)) ∙ parts .added w)
-              (ap (λ (q : ℕ). partAdds weights₂ r count (digit w q)) position ∙ ap (λ (k : ℕ). getD weights₂ k 0) at ∙ part .adds (digit w p) (digit-lt w p))
+              ap (addedTo changes₂ r w) (add-one count)
+              ∙ ap₂ _+_ (added-kept changes₁ changes₂ r w count (λ k a c. part .changes .before k (omega arith)) ∙ parts .added w) (part-adds l part w)
               ∙ ap (total (λ k. entry rows k (digit w k))) (sym (add-one p));
-          weights =
-              outside-then (parts .weights)
-              (outside-within (changePlace r + 2) (changePlace r + 274) (omega arith) (omega (arith, parts .few)) (part .weights));
+          changes =
+              outside-then (parts .changes)
+              (outside-within (changePlace r + 1) (changePlace r + 273) (omega arith) (omega (arith, parts .few)) (part .changes));
         }
 
-    pub plain-more : all 16 (λ x. eqb (entry rows p x) 0) ≡ true → PartsPlaced rows r (p + 1) count weights₀ weights₁
+    pub plain-more : isPart rows first p ≡ false → PartsPlaced rows first r (p + 1) count changes₀ changes₁
     plain-more plain =
+        let parted = or-false (eqb p first) _ plain in
         record {
+          some = λ m. parts .some (let other = eqb-false p first (parted .0) in omega arith);
           few = omega (arith, parts .few);
           added = λ w.
-              let none = eqb-true (entry rows p (digit w p)) 0 (all-at (λ x. eqb (entry rows p x) 0) 16 plain (digit w p) (digit-lt w p)) in
+              let none =
+              eqb-true (entry rows p (digit w p)) 0 (all-at (λ x. eqb (entry rows p x) 0) 16 (not-false _ (parted .1)) (digit w p) (digit-lt w p)) in
               let sum : ℕ → ℕ = total (λ k. entry rows k (digit w k)) in
               parts .added w ∙ sym (add-zero (sum p)) ∙ ap (λ (y : ℕ). sum p + y) (sym none) ∙ ap sum (sym (add-one p));
-          weights = parts .weights;
+          changes = parts .changes;
         }

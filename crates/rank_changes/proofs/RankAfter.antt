@@ -1,12 +1,12 @@
--- The rank after a rule: the weights of a state's labels are its rank (`weight-sum`), so rows and a constant that are `Balanced`, and then `Folded`, give the rank of the state that the rule makes (`rank-after`).
--- The change of a rule so written is right (`change-placed`) and stays while others are written (`change-kept`); together they are `Changed` (`changed`).
+-- The rank after a rule: the weights of a state's labels are its rank (`weight-sum`), so rows that are `Balanced`, and then `Folded` with no constant left, give the rank of the state
+-- that the rule makes (`rank-after`). The change of a rule so written is right (`change-placed`) and stays while others are written (`change-kept`); together they are `Changed` (`changed`).
 use mathlib.Core.Path.{_≡_, sym, ap, ap₂, _∙_, refl}
 use mathlib.Core.Bool.{true}
 use mathlib.Core.List.{List}
 use Prim.Native.Nat.{ℕ, zero, suc, _+_, _%_, _≤_, _<_}
 use native.Mathlib.Nat.{mod-eq-of-lt}
 use native.Mathlib.Omega.{arith}
-use lib.ListN.{length, getD, set, length-set}
+use lib.ListN.{length, getD, set}
 use lib.Seq.{getD-set-same, getD-set-other}
 use Rattle.basics.proofs.Parts.{outside-set, outside-within}
 use Rattle.blocks.specs.Terms.{termOf}
@@ -21,7 +21,7 @@ use Rattle.psvn.proofs.Making.{rewritten-at}
 use Rattle.psvn.proofs.Stepping.{step-state, relabelled-state}
 use Rattle.psvn.proofs.RankLaws.{rank-below}
 use Rattle.words.specs.Packing.{unpack}
-use Rattle.words.specs.Changes.{changePlace, constantAt, partCount, addedTo, nextRank, Changed}
+use Rattle.words.specs.Changes.{changesLength, changePlace, partCount, addedTo, nextRank, Changed}
 use Rattle.words.proofs.WordDigits.{unpack-at}
 use Rattle.words.proofs.WordRanks.{labelsRank, labels-rank}
 use Rattle.compiling.specs.PlacingWeights.{Singles}
@@ -47,9 +47,9 @@ module _ (b : List ℕ) (valid : Valid b) {singles : List ℕ} (single : Singles
   rank-low s ok = omega (arith, rank-below b (relabelState b s) (relabelled-state b valid s ok), valid .sized .head .few)
 
   module _
-      {r : ℕ} (lr : r < rules b) {rows₀ rows : List ℕ} {constant₀ constant : ℕ}
+      {r : ℕ} (lr : r < rules b) {rows₀ rows : List ℕ} {constant₀ : ℕ}
       (balanced : Balanced (positions b) (leftOf b r) (rightOf b r) singles rows₀ constant₀ (positions b))
-      (folded : Folded (positions b) (leftOf b r) rows₀ constant₀ rows constant) where
+      (folded : Folded (positions b) (leftOf b r) rows₀ constant₀ rows 0) where
     -- what the right side gives are the labels of the state that the rule makes
     made : (s : List ℕ) → total (λ k. entry singles k (given (positions b) (leftOf b r) s k (termOf (rightOf b r k)))) (positions b) ≡ total (entryOf singles (step b r s)) (positions b)
     unfolding step
@@ -58,38 +58,27 @@ module _ (b : List ℕ) (valid : Valid b) {singles : List ℕ} (single : Singles
 
     pub rank-after :
         (s : List ℕ) → stateOk b s ≡ true → applies b r s ≡ true
-        → (rank b (relabelState b s) + constant + total (entryOf rows s) (positions b)) % 16384 ≡ rank b (relabelState b (step b r s))
+        → (rank b (relabelState b s) + total (entryOf rows s) (positions b)) % 16384 ≡ rank b (relabelState b (step b r s))
     unfolding applies
     rank-after s ok can =
         let n = positions b in
         let after = step-state b valid r lr s ok in
-        ap (λ (y : ℕ). (y + constant + total (entryOf rows s) n) % 16384) (sym (weight-sum s ok))
+        ap (λ (y : ℕ). (y + total (entryOf rows s) n) % 16384) (sym (weight-sum s ok))
         ∙ balanced-folded n (leftOf b r) balanced folded s (label-below b (valid .sized .head) s ok) can
         ∙ ap (λ (y : ℕ). y % 16384) (made s ∙ weight-sum (step b r s) after) ∙ mod-eq-of-lt (rank-low (step b r s) after)
 
-    module _ {count : ℕ} {weights₀ weights₁ : List ℕ} (parts : PartsPlaced rows r (positions b) count weights₀ weights₁) (room : length weights₀ ≡ 19584) where
+    module _
+        {first count : ℕ} {changes₀ changes₁ : List ℕ} (below : first < positions b)
+        (parts : PartsPlaced rows first r (positions b) count changes₀ changes₁) (room : length changes₀ ≡ changesLength) where
       abbrev written : List ℕ
-      written = set (set weights₁ (changePlace r) constant) (changePlace r + 1) count
-
-      few-rules : r < 64
-      few-rules = omega (arith, valid .sized .head .sizes .r-high)
-
-      constant-is : constantAt written r ≡ constant
-      constant-is =
-          getD-set-other (set weights₁ (changePlace r) constant) (changePlace r + 1) (changePlace r) count 0 (λ e. omega arith)
-          ∙ getD-set-same weights₁ (changePlace r) constant 0 (omega (arith, few-rules, parts .weights .len))
+      written = set changes₁ (changePlace r) count
 
       count-is : partCount written r ≡ count
-      count-is =
-          getD-set-same (set weights₁ (changePlace r) constant) (changePlace r + 1) count 0
-          (omega (arith, few-rules, parts .weights .len, length-set weights₁ (changePlace r) constant))
+      count-is = getD-set-same changes₁ (changePlace r) count 0 (omega (arith, valid .sized .head .sizes .r-high, parts .changes .len))
 
       added-is : (w : ℕ) → addedTo written r w count ≡ total (entryOf rows (unpack (positions b) w)) (positions b)
       added-is w =
-          added-kept weights₁ written r w count (λ k a c.
-          getD-set-other (set weights₁ (changePlace r) constant) (changePlace r + 1) k count 0 (λ e. omega arith)
-          ∙ getD-set-other weights₁ (changePlace r) k constant 0 (λ e. omega arith))
-          ∙ parts .added w
+          added-kept changes₁ written r w count (λ k a c. getD-set-other changes₁ (changePlace r) k count 0 (λ e. omega arith)) ∙ parts .added w
           ∙ total-ext _ _ (positions b) (λ k l. ap (entry rows k) (sym (unpack-at (positions b) w k l)))
 
       next-is :
@@ -98,39 +87,44 @@ module _ (b : List ℕ) (valid : Valid b) {singles : List ℕ} (single : Singles
       unfolding nextRank
       next-is w ok can =
           let k = rank b (relabelState b (unpack (positions b) w)) in
-          ap₂ (λ (c a : ℕ). (k + c + a) % 16384) constant-is (ap (addedTo written r w) count-is ∙ added-is w)
-          ∙ rank-after (unpack (positions b) w) ok can
+          ap (λ (a : ℕ). (k + a) % 16384) (ap (addedTo written r w) count-is ∙ added-is w) ∙ rank-after (unpack (positions b) w) ok can
 
-      pub change-placed : ChangePlaced b r weights₀ written
+      pub change-placed : ChangePlaced b r changes₀ written
       change-placed =
           record {
             change = record {
+              some = omega (arith, count-is, parts .some below);
               few = omega (arith, count-is, parts .few, valid .sized .head .sizes .n-high);
               next = next-is;
             };
-            weights =
-                outside-set (changePlace r + 1) count (omega arith) (omega arith)
-                (outside-set (changePlace r) constant (omega arith) (omega arith)
-                (outside-within (changePlace r) (changePlace r + 274) (omega arith) (omega arith) (parts .weights)));
+            changes =
+                outside-set (changePlace r) count (omega arith) (omega arith)
+                (outside-within (changePlace r) (changePlace r + 273) (omega arith) (omega arith) (parts .changes));
           }
 
 -- a change stays where its elements stay
 pub change-kept :
-    {b weights weights′ : List ℕ} (r : ℕ) → ((k : ℕ) → changePlace r ≤ k → k < changePlace r + 274 → getD weights′ k 0 ≡ getD weights k 0)
-    → ChangeAt b weights r → ChangeAt b weights′ r
+    {b changes changes′ : List ℕ} (r : ℕ) → ((k : ℕ) → changePlace r ≤ k → k < changePlace r + 273 → getD changes′ k 0 ≡ getD changes k 0)
+    → ChangeAt b changes r → ChangeAt b changes′ r
 unfolding nextRank
-change-kept {b} {weights} {weights′} r same change =
+change-kept {b} {changes} {changes′} r same change =
     record {
+      some = omega (arith, counted, change .some);
       few = omega (arith, counted, change .few);
       next = λ w ok can.
           let k = rank b (relabelState b (unpack (positions b) w)) in
-          ap₂ (λ (c a : ℕ). (k + c + a) % 16384) (same (changePlace r) (omega arith) (omega arith))
-          (ap (addedTo weights′ r w) counted ∙ added-kept weights weights′ r w (partCount weights r) (λ k a c. same k (omega arith) (omega (arith, change .few))))
+          ap (λ (a : ℕ). (k + a) % 16384)
+          (ap (addedTo changes′ r w) counted ∙ added-kept changes changes′ r w (partCount changes r) (λ k a c. same k (omega arith) (omega (arith, change .few))))
           ∙ change .next w ok can;
     }
   where
-    counted : partCount weights′ r ≡ partCount weights r
-    counted = same (changePlace r + 1) (omega arith) (omega arith)
+    counted : partCount changes′ r ≡ partCount changes r
+    counted = same (changePlace r) (omega arith) (omega arith)
 
-pub changed : {b weights₀ weights₁ : List ℕ} → ChangesPlaced b weights₀ weights₁ → Changed b weights₁
-changed placed = record { few = λ r l. placed .change r l .few; next = λ r w l ok can. placed .change r l .next w ok can }
+pub changed : {b changes₀ changes₁ : List ℕ} → ChangesPlaced b changes₀ changes₁ → Changed b changes₁
+changed placed =
+    record {
+      some = λ r l. placed .change r l .some;
+      few = λ r l. placed .change r l .few;
+      next = λ r w l ok can. placed .change r l .next w ok can;
+    }

@@ -1,5 +1,6 @@
--- Rows folded into the constant: none of them (`folded-none`), some after others (`folded-then`), and the row of a position whose left term is a constant (`row-folded`).
--- Folded rows are balanced for the states that match the left side (`balanced-folded`). The functions that fold, and the rank after a rule, rest on these.
+-- Rows folded into the constant: none of them (`folded-none`), some after others (`folded-then`), and the row of a position whose left term is a constant (`row-folded`);
+-- and the constant folded into a row, which leaves none (`constant-folded`).
+-- Folded rows with no constant left are balanced for the states that match the left side (`balanced-folded`). The functions that fold, and the rank after a rule, rest on these.
 use mathlib.Core.Path.{_≡_, refl, sym, ap, _∙_}
 use mathlib.Core.Logic.{⊎-elim}
 use mathlib.Core.Bool.{true}
@@ -15,9 +16,9 @@ use Rattle.blocks.specs.declared.terms.Term.the-variants.{Label}
 use Rattle.psvn.specs.Rules.{given, matches}
 use Rattle.psvn.proofs.Matching.{at-position}
 use Rattle.compiling.proofs.RulesPlaced.{named}
-use Rattle.rank_changes.specs.Rows.{total, entry, entryOf, Low, Balanced}
+use Rattle.rank_changes.specs.Rows.{total, entry, entryOf, Low, RowAdded, Balanced}
 use Rattle.rank_changes.specs.Folds.{RowCleared, Folded}
-use Rattle.rank_changes.proofs.RowSums.{total-one}
+use Rattle.rank_changes.proofs.RowSums.{total-one, total-added}
 
 -- the rows fall by d, by which the constant grows
 moved :
@@ -26,9 +27,9 @@ moved constant rows rows′ d e = omega arith
 
 -- the weights with what is added
 with-weights :
-    (weights constant rows constant′ rows′ : ℕ) → (constant′ + rows′) % 16384 ≡ (constant + rows) % 16384
-    → (weights + constant′ + rows′) % 16384 ≡ (weights + constant + rows) % 16384
-with-weights weights constant rows constant′ rows′ e = omega arith
+    (weights constant rows rows′ : ℕ) → (0 + rows′) % 16384 ≡ (constant + rows) % 16384
+    → (weights + rows′) % 16384 ≡ (weights + constant + rows) % 16384
+with-weights weights constant rows rows′ e = omega arith
 
 module _ (n : ℕ) (left : ℕ → ℕ) where
   pub folded-none : {rows : List ℕ} {constant : ℕ} → Low rows → constant < 16384 → Folded n left rows constant rows constant
@@ -69,14 +70,25 @@ module _ (n : ℕ) (left : ℕ → ℕ) where
           ⊎-elim (λ h. sym (cleared .rows .before (16 * k + getD s k 0) (omega arith))) (λ h. sym (cleared .rows .behind (16 * k + getD s k 0) (omega arith)))
           (below? k p)
 
+  -- a state has one label at position p, and so the constant is added once
+  pub constant-folded :
+      {rows₀ rows₁ rows₂ : List ℕ} {constant₀ constant₁ : ℕ} (p : ℕ) → p < n → Folded n left rows₀ constant₀ rows₁ constant₁
+      → RowAdded (λ _. constant₁) p 16 rows₁ rows₂ → Folded n left rows₀ constant₀ rows₂ 0
+  constant-folded p l folded added =
+      record {
+        sum = λ s small m. omega (arith, folded .sum s small m, total-added added n l s small);
+        low = added .low;
+        constant-low = omega arith;
+      }
+
   -- the weights of the labels that the right side's terms give, for a state that matches
   pub balanced-folded :
-      {right : ℕ → ℕ} {singles rows₀ rows₁ : List ℕ} {constant₀ constant₁ i : ℕ} → Balanced n left right singles rows₀ constant₀ i
-      → Folded n left rows₀ constant₀ rows₁ constant₁ → (s : List ℕ) → ((p : ℕ) → p < n → getD s p 0 < 16) → matches n left s ≡ true
-      → (total (entryOf singles s) n + constant₁ + total (entryOf rows₁ s) n) % 16384
+      {right : ℕ → ℕ} {singles rows₀ rows₁ : List ℕ} {constant₀ i : ℕ} → Balanced n left right singles rows₀ constant₀ i
+      → Folded n left rows₀ constant₀ rows₁ 0 → (s : List ℕ) → ((p : ℕ) → p < n → getD s p 0 < 16) → matches n left s ≡ true
+      → (total (entryOf singles s) n + total (entryOf rows₁ s) n) % 16384
       ≡ total (λ k. entry singles k (given n left s k (termOf (right k)))) i % 16384
-  balanced-folded {singles = singles} {rows₀ = rows₀} {rows₁ = rows₁} {constant₀ = constant₀} {constant₁ = constant₁} balanced folded s small m =
-      with-weights (total (entryOf singles s) n) constant₀ (total (entryOf rows₀ s) n) constant₁ (total (entryOf rows₁ s) n) (folded .sum s small m)
+  balanced-folded {singles = singles} {rows₀ = rows₀} {rows₁ = rows₁} {constant₀ = constant₀} balanced folded s small m =
+      with-weights (total (entryOf singles s) n) constant₀ (total (entryOf rows₀ s) n) (total (entryOf rows₁ s) n) (folded .sum s small m)
       ∙ balanced .sum s small
 
 -- the same by other names

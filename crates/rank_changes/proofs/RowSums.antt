@@ -1,20 +1,22 @@
--- Sums over rows: sums of equal numbers are equal (`total-ext`), and a sum grows with one of its numbers (`total-one`); rows begun are balanced (`balanced-none`), and so they are with one term more, which is a constant (`constant-more`)
--- or takes its label from a position (`row-more`; a right variable's is one: `source-below`). Entries stay low (`low-set`).
--- The functions that make rows, rows folded into the constant, and the rank after a rule rest on these.
+-- Sums over rows: sums of equal numbers are equal (`total-ext`), and a sum grows with one of its numbers (`total-one`). A row grows entry by entry (`added-none`, `added-more`), and with
+-- it the sum (`total-added`); entries stay low (`low-set`). Rows begun are balanced (`balanced-none`), and so they are with one term more, which is a constant (`constant-more`) or takes
+-- its label from a position (`row-more`; a right variable's is one: `source-below`). Making rows, folding them, and the rank after a rule rest on these.
 use mathlib.Core.Path.{_≡_, refl, sym, ap, ap₂, _∙_}
 use mathlib.Core.Logic.{⊎-elim}
 use mathlib.Core.Bool.{true}
 use mathlib.Core.List.{List}
-use Prim.Native.Nat.{ℕ, zero, suc, _+_, _-_, _*_, _%_, _≤_, _<_}
+use Prim.Native.Nat.{ℕ, zero, suc, _+_, _*_, _%_, _≤_, _<_}
 use native.Mathlib.Nat.{not-suc-le-zero, add-assoc, mod-mod, mod-add-mod, add-mod-mod}
 use native.Mathlib.Numerals.{add-one}
 use native.Mathlib.Omega.{arith}
 use lib.Dec.{eqb}
 use lib.ListN.{getD, set, length-set}
 use lib.Seq.{getD-set-same, getD-set-other}
+use borrow.Author.Count.{below-more}
 use Rattle.basics.specs.Bounded.{some, first}
 use Rattle.basics.proofs.Bounded.{first-holds}
 use Rattle.basics.proofs.Comparing.{below?, same?}
+use Rattle.basics.proofs.Parts.{outside-none, outside-set, outside-within}
 use Rattle.blocks.specs.Terms.{termOf}
 use Rattle.blocks.specs.Layout.{sideAt}
 use Rattle.blocks.specs.Validity.{boundIn}
@@ -49,6 +51,43 @@ low-set {rows} low at v l h =
           ⊎-elim (λ e. omega (arith, getD-set-same rows at v 0 (omega (arith, low .len)), ap (λ (j : ℕ). getD (set rows at v) j 0) e))
           (λ q. omega (arith, getD-set-other rows at k v 0 (λ e. q (sym e)), low .each k m)) (same? at k);
     }
+
+-- a row that grows by d, entry by entry
+module _ {d : ℕ → ℕ} {p : ℕ} where
+  pub added-none : {rows : List ℕ} → Low rows → RowAdded d p 0 rows rows
+  added-none {rows} low =
+      record { sum = λ k l. absurd (not-suc-le-zero l); rows = outside-none (16 * p) (16 * p + 0) rows; low = low }
+
+  pub added-more :
+      {x : ℕ} {rows₀ rows : List ℕ} → p < 16 → x < 16 → RowAdded d p x rows₀ rows
+      → RowAdded d p (x + 1) rows₀ (set rows (16 * p + x) ((entry rows p x + d x) % 16384))
+  added-more {x} {rows₀} {rows} l m added =
+      let at = 16 * p + x in
+      let v = (entry rows p x + d x) % 16384 in
+      record {
+        sum =
+            below-more _ _ (λ k h. getD-set-other rows at (16 * p + k) v 0 (λ e. omega arith) ∙ added .sum k h)
+            (getD-set-same rows at v 0 (omega (arith, added .low .len))
+            ∙ ap (λ (y : ℕ). (y + d x) % 16384) (added .rows .behind at (omega arith)));
+        rows =
+            outside-set at v (omega arith) (omega arith)
+            (outside-within (16 * p) (16 * p + (x + 1)) (omega arith) (omega arith) (added .rows));
+        low = low-set (added .low) at v (omega arith) (omega arith);
+      }
+
+  -- the sum grows by what is added for the label at position p
+  pub total-added :
+      {rows₀ rows₁ : List ℕ} → RowAdded d p 16 rows₀ rows₁ → (n : ℕ) → p < n → (s : List ℕ) → ((k : ℕ) → k < n → getD s k 0 < 16)
+      → total (entryOf rows₁ s) n % 16384 ≡ (total (entryOf rows₀ s) n + d (getD s p 0)) % 16384
+  total-added {rows₀} {rows₁} added n l s small =
+      total-one (entryOf rows₀ s) (entryOf rows₁ s) p (d (getD s p 0)) n l kept
+      (ap (λ (y : ℕ). y % 16384) (added .sum (getD s p 0) (small p l)) ∙ mod-mod (entryOf rows₀ s p + d (getD s p 0)) 16384)
+    where
+      kept : (k : ℕ) → k < n → (k ≡ p → ⊥) → entryOf rows₁ s k ≡ entryOf rows₀ s k
+      kept k m q =
+          let x = small k m in
+          ⊎-elim (λ h. added .rows .before (16 * k + getD s k 0) (omega arith)) (λ h. added .rows .behind (16 * k + getD s k 0) (omega arith))
+          (below? k p)
 
 -- the rows begun take all weights away
 begun-sum :
@@ -115,26 +154,17 @@ module _ (n : ℕ) (left right : ℕ → ℕ) (singles : List ℕ) (few : n ≤ 
         }
 
     pub row-more :
-        {rows′ : List ℕ} (p : ℕ) → p < n → TakenFrom n left i (right i) p → RowAdded singles i p rows rows′
+        {rows′ : List ℕ} (p : ℕ) → p < n → TakenFrom n left i (right i) p → RowAdded (entry singles i) p 16 rows rows′
         → Balanced n left right singles rows′ constant (i + 1)
     row-more {rows′} p l source added =
         record {
           sum = λ s small.
               let d = entry singles i (getD s p 0) in
               with-row (total (entryOf singles s) n) constant (total (entryOf rows s) n) (total (entryOf rows′ s) n) _ d _ (b .sum s small)
-              (more s d (ap (entry singles i) (source .label s)))
-              (total-one (entryOf rows s) (entryOf rows′ s) p d n l (kept s small)
-              (ap (λ (y : ℕ). y % 16384) (added .sum (getD s p 0) (small p l)) ∙ mod-mod (entryOf rows s p + d) 16384));
+              (more s d (ap (entry singles i) (source .label s))) (total-added added n l s small);
           low = added .low;
           constant-low = b .constant-low;
         }
-      where
-        kept :
-            (s : List ℕ) → ((p : ℕ) → p < n → getD s p 0 < 16) → (k : ℕ) → k < n → (k ≡ p → ⊥) → entryOf rows′ s k ≡ entryOf rows s k
-        kept s small k m q =
-            let x = small k m in
-            ⊎-elim (λ h. added .rows .before (16 * k + getD s k 0) (omega arith)) (λ h. added .rows .behind (16 * k + getD s k 0) (omega arith))
-            (below? k p)
 
 -- the same by other names
 pub balanced-as :

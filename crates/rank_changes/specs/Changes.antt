@@ -1,5 +1,6 @@
--- What writing the changes leaves: the weights of pairs in front (`PairsCopied`), the change of a rule (`ChangeAt`, `ChangePlaced`), and of all rules (`ChangesPlaced`).
--- The functions that write changes are stated with these; together they make the array `Changed`.
+-- What writing the changes leaves: the weights of pairs in front (`PairsCopied`), the change of a rule (`ChangeAt`,
+-- `ChangePlaced`), and of all rules (`ChangesPlaced`). The functions that write changes are stated with these;
+-- together they make the array `Changed`.
 use mathlib.Core.Path.{_≡_}
 use mathlib.Core.Bool.{true}
 use mathlib.Core.List.{List}
@@ -12,28 +13,29 @@ use Rattle.psvn.specs.Rules.{applies, step}
 use Rattle.psvn.specs.Relabelling.{relabelState}
 use Rattle.psvn.specs.Ranks.{rank}
 use Rattle.words.specs.Packing.{unpack}
-use Rattle.words.specs.Changes.{changePlace, partCount, nextRank}
+use Rattle.words.specs.Changes.{changesLength, changePlace, partCount, nextRank}
 
 -- the weights of pairs in front
-pub record PairsCopied (pairs weights : List ℕ) : Type 0 where
-  pub len : length weights ≡ 19584
-  pub pair : (k : ℕ) → k < 2048 → getD weights k 0 ≡ getD pairs k 0
+pub record PairsCopied (pairs changes : List ℕ) : Type 0 where
+  pub len : length changes ≡ changesLength
+  pub pair : (k : ℕ) → k < 2048 → getD changes k 0 ≡ getD pairs k 0
 
 -- the change of rule r is right where the rule applies
-pub record ChangeAt (b weights : List ℕ) (r : ℕ) : Type 0 where
-  pub few : partCount weights r ≤ 16
+pub record ChangeAt (b changes : List ℕ) (r : ℕ) : Type 0 where
+  pub some : 0 < partCount changes r
+  pub few : partCount changes r ≤ 16
   pub next :
       (w : ℕ) → stateOk b (unpack (positions b) w) ≡ true → applies b r (unpack (positions b) w) ≡ true
-      → nextRank weights r (rank b (relabelState b (unpack (positions b) w))) w
+      → nextRank changes r (rank b (relabelState b (unpack (positions b) w))) w
       ≡ rank b (relabelState b (step b r (unpack (positions b) w)))
 
 -- it is written, and nothing else
-pub record ChangePlaced (b : List ℕ) (r : ℕ) (weights₀ weights₁ : List ℕ) : Type 0 where
-  pub change : ChangeAt b weights₁ r
-  pub weights : Outside (changePlace r) (changePlace r + 274) weights₀ weights₁
+pub record ChangePlaced (b : List ℕ) (r : ℕ) (changes₀ changes₁ : List ℕ) : Type 0 where
+  pub change : ChangeAt b changes₁ r
+  pub changes : Outside (changePlace r) (changePlace r + 273) changes₀ changes₁
 
 -- the changes of all rules; the front stays
-pub record ChangesPlaced (b weights₀ weights₁ : List ℕ) : Type 0 where
-  pub change : (r : ℕ) → r < rules b → ChangeAt b weights₁ r
-  pub len : length weights₁ ≡ 19584
-  pub front : (k : ℕ) → k < 2048 → getD weights₁ k 0 ≡ getD weights₀ k 0
+pub record ChangesPlaced (b changes₀ changes₁ : List ℕ) : Type 0 where
+  pub change : (r : ℕ) → r < rules b → ChangeAt b changes₁ r
+  pub len : length changes₁ ≡ changesLength
+  pub front : (k : ℕ) → k < 2048 → getD changes₁ k 0 ≡ getD changes₀ k 0

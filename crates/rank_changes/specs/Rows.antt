@@ -1,5 +1,6 @@
--- What a rule adds to a rank, on the way: a row of sixteen entries for each position, what each label there adds, and a constant. With the weights of a state's labels they make
--- the weights of the labels that the right side's terms give (`Balanced`). The functions that make rows are stated with these.
+-- What a rule adds to a rank, on the way: a row of sixteen entries for each position, what each label there adds, and
+-- a constant. With the weights of a state's labels they make the weights of the labels that the right side's terms
+-- give (`Balanced`). The functions that make rows are stated with these.
 use mathlib.Core.Path.{_≡_}
 use mathlib.Core.Bool.{true}
 use mathlib.Core.List.{List}
@@ -37,13 +38,14 @@ pub record RowsBegun (singles rows : List ℕ) : Type 0 where
   pub len : length rows ≡ 256
   pub taken : (k : ℕ) → k < 256 → getD rows k 0 ≡ (16384 - getD singles k 0) % 16384
 
--- the row of position p with the weights of the labels at position i added
-pub record RowAdded (singles : List ℕ) (i p : ℕ) (rows₀ rows₁ : List ℕ) : Type 0 where
-  pub sum : (x : ℕ) → x < 16 → entry rows₁ p x ≡ (entry rows₀ p x + entry singles i x) % 16384
-  pub rows : Outside (16 * p) (16 * p + 16) rows₀ rows₁
+-- the row of position p with d added to its first x entries, modulo 16,384
+pub record RowAdded (d : ℕ → ℕ) (p x : ℕ) (rows₀ rows₁ : List ℕ) : Type 0 where
+  pub sum : (k : ℕ) → k < x → entry rows₁ p k ≡ (entry rows₀ p k + d k) % 16384
+  pub rows : Outside (16 * p) (16 * p + x) rows₀ rows₁
   pub low : Low rows₁
 
--- the weights of a state's labels, the constant and the rows together: the weights of the labels that the first i terms give, modulo 16,384
+-- the weights of a state's labels, the constant and the rows together: the weights of the labels that the first i
+-- terms give, modulo 16,384
 pub record Balanced (n : ℕ) (left right : ℕ → ℕ) (singles rows : List ℕ) (constant i : ℕ) : Type 0 where
   pub sum :
       (s : List ℕ) → ((p : ℕ) → p < n → getD s p 0 < 16)

@@ -1,16 +1,17 @@
-// Where the left term of a rule is a constant, a state that the rule applies to has that label: what the row of the position says of it goes into the rule's constant, and the row adds
-// nothing more.
+// Where the left term of a rule is a constant, a state that the rule applies to has that label: what the row of the
+// position says of it goes into the rule's constant, and the row adds nothing more.
 ghost use Prim.Native.Nat.{_+_, _≤_, _<_};
 ghost use lib.ListN.{length};
 ghost use Rattle.blocks.specs.Layout.{sideAt};
 ghost use Rattle.rank_changes.specs.Rows.{Low};
 ghost use Rattle.rank_changes.specs.Folds.{RowCleared, Folded};
+use super::rows::Rows;
 use basics::wide;
 use blocks::terms::Term;
 use blocks::terms::decode;
 
 // Makes the row of position p add nothing.
-fn clear_row(rows: &mut [u16; 256], p: usize)
+fn clear_row(rows: &mut Rows, p: usize)
     requires { ⌜ (p < 16) × Low (now rows) ⌝ }
     ensures { λ _. ⌜ RowCleared p (now (rows .entry)) (now (rows .exit)) ⌝ }
 {
@@ -22,14 +23,7 @@ fn clear_row(rows: &mut [u16; 256], p: usize)
 }
 
 // Folds the row of position i, if its left term is a constant, into the rule's constant.
-fn fold_term(
-    bytes: &[u8],
-    left: usize,
-    n: usize,
-    rows: &mut [u16; 256],
-    constant: u16,
-    i: usize,
-) -> u16
+fn fold_term(bytes: &[u8], left: usize, n: usize, rows: &mut Rows, constant: u16, i: usize) -> u16
     requires { ⌜ (left + n ≤ length (now bytes)) × (n ≤ 16) × (i < n) × Low (now rows) × (constant < 16384) ⌝ }
     ensures { λ c. ⌜ Folded n (sideAt (now (bytes .entry)) left) (now (rows .entry)) constant (now (rows .exit)) c ⌝ }
 {
@@ -47,7 +41,7 @@ fn fold_term(
 }
 
 // Folds the rows of all positions whose left terms are constants.
-pub fn fold_terms(bytes: &[u8], left: usize, n: usize, rows: &mut [u16; 256], constant: u16) -> u16
+pub fn fold_terms(bytes: &[u8], left: usize, n: usize, rows: &mut Rows, constant: u16) -> u16
     requires { ⌜ (left + n ≤ length (now bytes)) × (n ≤ 16) × Low (now rows) × (constant < 16384) ⌝ }
     ensures { λ c. ⌜ Folded n (sideAt (now (bytes .entry)) left) (now (rows .entry)) constant (now (rows .exit)) c ⌝ }
 {

@@ -1,11 +1,22 @@
-// Compiles a block, with what each rule adds to a rank: the rank of a state that a rule makes is then known before the state is made (see `words::changes`).
+// Compiles a block, with what each rule adds to a rank: the rank of a state that a rule makes is then known before
+// the state is made (see `words::changes`).
 ghost use mathlib.Core.Path.{_≡_};
 ghost use Prim.Native.Nat.{ℕ, _<_};
 ghost use lib.ListN.{length, getD};
+ghost use Rattle.blocks.specs.Layout.{positions, rules};
 ghost use Rattle.blocks.specs.Validity.{Valid};
+ghost use Rattle.words.specs.Code.{codeLength};
 ghost use Rattle.words.specs.Compiled.{Compiled};
-ghost use Rattle.words.specs.Changes.{Changed};
+ghost use Rattle.words.specs.Changes.{changesLength, Changed};
+ghost use Rattle.rule_sets.specs.Plain.{Sets};
+use blocks::layout;
+use compiling::SINGLES;
 use compiling::place_singles;
+use rule_sets::place_sets;
+use words::changes::Changes;
+use words::code::Code;
+use words::ranking::WEIGHTS;
+use words::ranking::Weights;
 
 mod changing;
 mod folding;
@@ -16,29 +27,29 @@ use changing::copy_pairs;
 use changing::place_rule_changes;
 
 // Writes the weights of pairs and, behind them, what each rule adds to a rank.
-fn place_changes(block: &[u8], pairs: &[u16; 2048], weights: &mut [u16; 19584])
-    requires { ⌜ Valid (now block) × (length (now weights) ≡ 19584) ⌝ }
-    ensures { λ _. ⌜ Changed (now (block .entry)) (now (weights .exit)) ⌝ }
-    ensures { λ _. ⌜ ((k : ℕ) → k < 2048 → getD (now (weights .exit)) k 0 ≡ getD (now (pairs .entry)) k 0) × (length (now (weights .exit)) ≡ 19584) ⌝ }
+fn place_changes(block: &[u8], pairs: &Weights, changes: &mut Changes)
+    requires { ⌜ Valid (now block) × (length (now changes) ≡ changesLength) ⌝ }
+    ensures { λ _. ⌜ Changed (now (block .entry)) (now (changes .exit)) ⌝ }
+    ensures { λ _. ⌜ ((k : ℕ) → k < 2048 → getD (now (changes .exit)) k 0 ≡ getD (now (pairs .entry)) k 0) ×
+        (length (now (changes .exit)) ≡ changesLength) ⌝ }
 {
-    let mut singles = [0u16; 256];
+    let mut singles = [0u16; SINGLES];
     place_singles(block, &mut singles);
-    copy_pairs(pairs, weights);
-    place_rule_changes(block, &singles, weights);
+    copy_pairs(pairs, changes);
+    place_rule_changes(block, &singles, changes);
 }
 
-// Compiles an accepted block.
-pub fn compile(
-    block: &[u8],
-    words: &mut [u64; 608],
-    moves: &mut [u8; 4384],
-    weights: &mut [u16; 19584],
-)
-    requires { ⌜ Valid (now block) × (length (now words) ≡ 608) × (length (now moves) ≡ 4384) × (length (now weights) ≡ 19584) ⌝ }
-    ensures { λ _. ⌜ Compiled (now (block .entry)) (now (words .exit)) (now (moves .exit)) (now (weights .exit)) ⌝ }
-    ensures { λ _. ⌜ Changed (now (block .entry)) (now (weights .exit)) × (length (now (weights .exit)) ≡ 19584) ⌝ }
+// Compiles an accepted block: its code with the sets of its rules, and the changes of ranks behind the weights of
+// pairs.
+pub fn compile(block: &[u8], code: &mut Code, changes: &mut Changes)
+    requires { ⌜ Valid (now block) × (length (now code) ≡ codeLength) × (length (now changes) ≡ changesLength) ⌝ }
+    ensures { λ _. ⌜ Compiled (now (block .entry)) (now (code .exit)) (now (changes .exit)) ⌝ }
+    ensures { λ _. ⌜ Changed (now (block .entry)) (now (changes .exit)) ×
+        (length (now (changes .exit)) ≡ changesLength) ⌝ }
+    ensures { λ _. ⌜ Sets (now (code .exit)) (rules (now (block .entry))) (positions (now (block .entry))) ⌝ }
 {
-    let mut pairs = [0u16; 2048];
-    compiling::compile(block, words, moves, &mut pairs);
-    place_changes(block, &pairs, weights);
+    let mut pairs = [0u16; WEIGHTS];
+    compiling::compile(block, code, &mut pairs);
+    place_sets(code, layout::rules(block), layout::positions(block));
+    place_changes(block, &pairs, changes);
 }

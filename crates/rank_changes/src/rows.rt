@@ -1,16 +1,23 @@
-// What a rule adds to a rank, on the way: a constant, and for each position a row of what each of sixteen labels there adds, all modulo 16,384.
+// What a rule adds to a rank, on the way: a constant, and for each position a row of what each of sixteen labels
+// there adds, all modulo 16,384.
 ghost use mathlib.Core.Path.{_≡_};
 ghost use Prim.Native.Nat.{ℕ, _+_, _*_, _≤_, _<_};
 ghost use lib.ListN.{length, getD};
 ghost use Rattle.blocks.specs.Layout.{sideAt};
-ghost use Rattle.rank_changes.specs.Rows.{Low, Bound, RowsBegun, RowAdded, Balanced};
+ghost use Rattle.rank_changes.specs.Rows.{entry, Low, Bound, RowsBegun, RowAdded, Balanced};
 use basics::wide;
 use blocks::layout;
 use blocks::terms::Term;
 use blocks::terms::decode;
+use compiling::Singles;
+
+// The rows of a rule, sixteen numbers for each position.
+pub const ROWS: usize = 256;
+
+pub type Rows = [u16; ROWS];
 
 // The rows of a rule that takes every label away.
-fn begin_rows(singles: &[u16; 256], rows: &mut [u16; 256])
+fn begin_rows(singles: &Singles, rows: &mut Rows)
     requires { ⌜ ((k : ℕ) → getD (now singles) k 0 ≤ 16384) × (length (now rows) ≡ 256) ⌝ }
     ensures { λ _. ⌜ RowsBegun (now (singles .entry)) (now (rows .exit)) ⌝ }
 {
@@ -22,9 +29,9 @@ fn begin_rows(singles: &[u16; 256], rows: &mut [u16; 256])
 }
 
 // Adds the weights of the labels at position i to the row of position p, whose label position i takes.
-fn add_row(singles: &[u16; 256], i: usize, rows: &mut [u16; 256], p: usize)
+fn add_row(singles: &Singles, i: usize, rows: &mut Rows, p: usize)
     requires { ⌜ ((k : ℕ) → getD (now singles) k 0 ≤ 16384) × (i < 16) × (p < 16) × Low (now rows) ⌝ }
-    ensures { λ _. ⌜ RowAdded (now (singles .entry)) i p (now (rows .entry)) (now (rows .exit)) ⌝ }
+    ensures { λ _. ⌜ RowAdded (entry (now (singles .entry)) i) p 16 (now (rows .entry)) (now (rows .exit)) ⌝ }
 {
     let mut x: usize = 0;
     while x < 16 {
@@ -34,21 +41,24 @@ fn add_row(singles: &[u16; 256], i: usize, rows: &mut [u16; 256], p: usize)
     }
 }
 
-// Adds what position i holds after the rule: the weight of its right term's constant to the rule's constant, or a row to that of the position whose label it takes.
+// Adds what position i holds after the rule: the weight of its right term's constant to the rule's constant, or a row
+// to that of the position whose label it takes.
 fn add_term(
     bytes: &[u8],
     left: usize,
     right: usize,
     n: usize,
-    singles: &[u16; 256],
-    rows: &mut [u16; 256],
+    singles: &Singles,
+    rows: &mut Rows,
     constant: u16,
     i: usize,
 ) -> u16
-    requires { ⌜ (left + n ≤ length (now bytes)) × (right + n ≤ length (now bytes)) × (n ≤ 16) × (i < n) × ((k : ℕ) → getD (now singles) k 0 ≤ 16384) ⌝ }
+    requires { ⌜ (left + n ≤ length (now bytes)) × (right + n ≤ length (now bytes)) × (n ≤ 16) × (i < n) ×
+        ((k : ℕ) → getD (now singles) k 0 ≤ 16384) ⌝ }
     requires { ⌜ Bound n (sideAt (now bytes) left) (sideAt (now bytes) right) ⌝ }
     requires { ⌜ Balanced n (sideAt (now bytes) left) (sideAt (now bytes) right) (now singles) (now rows) constant i ⌝ }
-    ensures { λ c. ⌜ Balanced n (sideAt (now (bytes .entry)) left) (sideAt (now (bytes .entry)) right) (now (singles .entry)) (now (rows .exit)) c (i + 1) ⌝ }
+    ensures { λ c. ⌜ Balanced n (sideAt (now (bytes .entry)) left) (sideAt (now (bytes .entry)) right)
+        (now (singles .entry)) (now (rows .exit)) c (i + 1) ⌝ }
 {
     let term = decode(bytes[right + i]);
     match term {
@@ -75,12 +85,14 @@ pub fn add_terms(
     left: usize,
     right: usize,
     n: usize,
-    singles: &[u16; 256],
-    rows: &mut [u16; 256],
+    singles: &Singles,
+    rows: &mut Rows,
 ) -> u16
-    requires { ⌜ (left + n ≤ length (now bytes)) × (right + n ≤ length (now bytes)) × (n ≤ 16) × ((k : ℕ) → getD (now singles) k 0 ≤ 16384) × (length (now rows) ≡ 256) ⌝ }
+    requires { ⌜ (left + n ≤ length (now bytes)) × (right + n ≤ length (now bytes)) × (n ≤ 16) ×
+        ((k : ℕ) → getD (now singles) k 0 ≤ 16384) × (length (now rows) ≡ 256) ⌝ }
     requires { ⌜ Bound n (sideAt (now bytes) left) (sideAt (now bytes) right) ⌝ }
-    ensures { λ c. ⌜ Balanced n (sideAt (now (bytes .entry)) left) (sideAt (now (bytes .entry)) right) (now (singles .entry)) (now (rows .exit)) c n ⌝ }
+    ensures { λ c. ⌜ Balanced n (sideAt (now (bytes .entry)) left) (sideAt (now (bytes .entry)) right)
+        (now (singles .entry)) (now (rows .exit)) c n ⌝ }
 {
     begin_rows(singles, rows);
     let mut constant: u16 = 0;

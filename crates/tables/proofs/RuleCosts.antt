@@ -15,20 +15,20 @@ use Rattle.tables.specs.Abstraction.{stepRank, graphOf, Ready}
 use Rattle.tables.proofs.WordEdges.{word-applies, word-leads, step-in, step-out}
 
 module _
-    (a words moves weights : List ℕ) (ready : Ready a words moves weights)
+    (a code weights : List ℕ) (ready : Ready a code weights)
     (u w r : ℕ) (e : w ≡ wordOf a u) (l : r < rules a) where
-  applied : appliesWord words moves r w ≡ applies a r (unrank a u)
-  applied = ap (appliesWord words moves r) e ∙ word-applies a words moves weights ready u r l
+  applied : appliesWord code r w ≡ applies a r (unrank a u)
+  applied = ap (appliesWord code r) e ∙ word-applies a code weights ready u r l
 
-  pub no-cost : (t : List ℕ) → appliesWord words moves r w ≡ false → via (graphOf a) t u r ≡ none
-  no-cost t h = via-none (graphOf a) t u r (stepRank a u r) refl (step-out a words moves weights ready u r l (sym applied ∙ h))
+  pub no-cost : (t : List ℕ) → appliesWord code r w ≡ false → via (graphOf a) t u r ≡ none
+  no-cost t h = via-none (graphOf a) t u r (stepRank a u r) refl (step-out a code weights ready u r l (sym applied ∙ h))
 
   -- the rank v of the word m that the rule makes
   pub leads-to :
-      (n m v : ℕ) → appliesWord words moves r w ≡ true → n ≡ positions a → m ≡ stepWord words moves r w → v ≡ rankWord weights n m
+      (n m v : ℕ) → appliesWord code r w ≡ true → n ≡ positions a → m ≡ stepWord code r w → v ≡ rankWord weights n m
       → (v ≡ stepRank a u r) × (v < abstractStates a)
   leads-to n m v h p q d =
       let k = sym applied ∙ h in
       let i : v ≡ stepRank a u r =
-      d ∙ ap₂ (rankWord weights) p (q ∙ ap (stepWord words moves r) e) ∙ word-leads a words moves weights ready u r l k in
-      (i, rw i (step-in a words moves weights ready u r l k))
+      d ∙ ap₂ (rankWord weights) p (q ∙ ap (stepWord code r) e) ∙ word-leads a code weights ready u r l k in
+      (i, rw i (step-in a code weights ready u r l k))

@@ -23,7 +23,7 @@ use Rattle.distances.specs.Filling.{Cheap}
 use Rattle.tables.specs.Abstraction.{stepRank, graphOf, Ready}
 use Rattle.tables.proofs.OverRanks.{rank-in}
 
-module _ (a words moves weights : List ℕ) (ready : Ready a words moves weights) where
+module _ (a code weights : List ℕ) (ready : Ready a code weights) where
   pub headed : Headed a
   headed = ready .relabelled .valid .sized .head
 
@@ -39,18 +39,18 @@ module _ (a words moves weights : List ℕ) (ready : Ready a words moves weights
 
   -- the word of a rank
   module _ (u : ℕ) where
-    pub word-applies : (r : ℕ) → r < rules a → appliesWord words moves r (wordOf a u) ≡ applies a r (unrank a u)
+    pub word-applies : (r : ℕ) → r < rules a → appliesWord code r (wordOf a u) ≡ applies a r (unrank a u)
     word-applies r l =
         applies-word (ready .compiled) r (wordOf a u) l (word-of-small headed u)
         ∙ ap (applies a r) (unpack-word-of headed u)
 
-    pub word-goal : meetsWord words moves (goals a) (wordOf a u) ≡ meets a (unrank a u)
+    pub word-goal : meetsWord code (goals a) (wordOf a u) ≡ meets a (unrank a u)
     word-goal =
         meets-word (ready .compiled) (wordOf a u) (word-of-small headed u)
         ∙ ap (meets a) (unpack-word-of headed u)
 
     module _ (r : ℕ) (l : r < rules a) where
-      made : unpack (positions a) (stepWord words moves r (wordOf a u)) ≡ step a r (unrank a u)
+      made : unpack (positions a) (stepWord code r (wordOf a u)) ≡ step a r (unrank a u)
       made =
           step-word (ready .compiled) r (wordOf a u) l (word-of-small headed u)
           ∙ ap (step a r) (unpack-word-of headed u)
@@ -64,10 +64,10 @@ module _ (a words moves weights : List ℕ) (ready : Ready a words moves weights
 
       -- where the rule applies, the rank of the word it makes
       pub word-leads :
-          applies a r (unrank a u) ≡ true → rankWord weights (positions a) (stepWord words moves r (wordOf a u)) ≡ stepRank a u r
+          applies a r (unrank a u) ≡ true → rankWord weights (positions a) (stepWord code r (wordOf a u)) ≡ stepRank a u r
       word-leads h =
           let s = step a r (unrank a u) in
-          rank-word (ready .compiled) (stepWord words moves r (wordOf a u)) (ap (stateOk a) made ∙ made-state)
+          rank-word (ready .compiled) (stepWord code r (wordOf a u)) (ap (stateOk a) made ∙ made-state)
           ∙ ap (λ (t : List ℕ). rank a (relabelState a t)) made ∙ ap (rank a) (ready .relabelled .same s made-state)
           ∙ sym (step-applied h)
 
@@ -82,8 +82,8 @@ module _ (a words moves weights : List ℕ) (ready : Ready a words moves weights
 
       -- a rule that takes the word of u to the word of v is an edge from u to v
       pub word-edge :
-          (v : ℕ) → v < abstractStates a → appliesWord words moves r (wordOf a u) ≡ true
-          → stepWord words moves r (wordOf a u) ≡ wordOf a v → stepRank a u r ≡ v
+          (v : ℕ) → v < abstractStates a → appliesWord code r (wordOf a u) ≡ true
+          → stepWord code r (wordOf a u) ≡ wordOf a v → stepRank a u r ≡ v
       word-edge v i h e =
           step-applied (sym (word-applies r l) ∙ h)
           ∙ ap (rank a) (sym made ∙ ap (unpack (positions a)) e ∙ unpack-word-of headed v)

@@ -1,6 +1,6 @@
--- The relabelled exercise as a graph over the ranks of its states (`graphOf`), of a relabelled block a.
--- A table has one entry per rank; the test and the filled table are stated over this graph. The inner functions ask for a relabelled block (`Relabelled`),
--- compiled (`Ready`).
+-- The relabelled exercise as a graph over the ranks of its states (`graphOf`), of a relabelled block a. A table has
+-- one entry per rank; the test and the filled table are stated over this graph. The inner functions ask for a
+-- relabelled block (`Relabelled`), compiled (`Ready`).
 use mathlib.Core.Path.{_≡_}
 use Prim.Native.Nat.{ℕ}
 use mathlib.Core.Bool.{true, cond}
@@ -35,6 +35,6 @@ pub record Relabelled (a : List ℕ) : Type 0 where
   pub same : (u : List ℕ) → stateOk a u ≡ true → relabelState a u ≡ u
 
 -- and the arrays are compiled from it
-pub record Ready (a words moves weights : List ℕ) : Type 0 where
+pub record Ready (a code weights : List ℕ) : Type 0 where
   pub relabelled : Relabelled a
-  pub compiled : Compiled a words moves weights
+  pub compiled : Compiled a code weights

@@ -1,10 +1,11 @@
--- The lower-bound test by rules and goals, each at every state (`RulePasses`, `GoalPasses`), and over lists of ranks (`EdgesPass`, `Zeros`).
+-- The lower-bound test by rules and goals, each at every state (`RulePasses`, `GoalPasses`), and over lists of ranks
+-- (`EdgesPass`, `Zeros`).
 use mathlib.Core.Path.{_≡_}
 use mathlib.Core.Bool.{true}
 use mathlib.Core.Logic.{_≢_}
 use mathlib.Core.List.{List}
 use Prim.Native.Nat.{ℕ, _+_, _≤_, _<_}
-use lib.ListN.{getD}
+use lib.ListN.{length, getD}
 use Rattle.blocks.specs.Layout.{abstractStates}
 use Rattle.psvn.specs.Rules.{goalMet}
 use Rattle.psvn.specs.Ranks.{unrank}
@@ -14,14 +15,18 @@ use Rattle.distances.specs.Graphs.{Graph, mark}
 abbrev pub Bounded : ℕ → ℕ → ℕ → Type 0
 Bounded e c f = f ≢ mark → (e ≢ mark) × (e ≤ c + f)
 
+-- the ranks of a list have entries
+abbrev pub InTable : List ℕ → (ℕ → ℕ) → ℕ → Type 0
+InTable t ranks count = (j : ℕ) → j < count → ranks j < length t
+
 -- the entries at the ranks of two lists are so, in pairs
-abbrev pub EdgesPass : List ℕ → List ℕ → List ℕ → ℕ → ℕ → Type 0
+abbrev pub EdgesPass : List ℕ → (ℕ → ℕ) → (ℕ → ℕ) → ℕ → ℕ → Type 0
 EdgesPass t sources targets count c =
-    (j : ℕ) → j < count → Bounded (getD t (getD sources j 0) 0) c (getD t (getD targets j 0) 0)
+    (j : ℕ) → j < count → Bounded (getD t (sources j) 0) c (getD t (targets j) 0)
 
 -- the entries at the ranks of a list are 0
-abbrev pub Zeros : List ℕ → List ℕ → ℕ → Type 0
-Zeros t sources count = (j : ℕ) → j < count → getD t (getD sources j 0) 0 ≡ 0
+abbrev pub Zeros : List ℕ → (ℕ → ℕ) → ℕ → Type 0
+Zeros t sources count = (j : ℕ) → j < count → getD t (sources j) 0 ≡ 0
 
 -- condition (ii) for rule r at every state
 abbrev pub RulePasses : Graph → List ℕ → ℕ → Type 0

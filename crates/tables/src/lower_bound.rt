@@ -15,31 +15,35 @@ use super::edges::best;
 use super::edges::wide_entry;
 use blocks::layout;
 use compiling::compile;
+use edge_ranks::LISTS;
 use psvn::relabelling::relabel_block;
+use words::code::CODE;
+use words::code::Code;
+use words::ranking::WEIGHTS;
+use words::ranking::Weights;
 use words::ranking::word_of;
 use words::sides::meets_word;
 
 // Whether the table passes at the state of rank u, whose word is given.
 fn passes_at(
     block: &[u8],
-    words: &[u64; 608],
-    moves: &[u8; 4384],
-    weights: &[u16; 2048],
+    code: &Code,
+    weights: &Weights,
     table: &[u32],
     u: usize,
     word: u64,
 ) -> bool
-    requires { ⌜ Ready (now block) (now words) (now moves) (now weights) × (abstractStates (now block) ≤ length (now table)) ⌝ }
+    requires { ⌜ Ready (now block) (now code) (now weights) × (abstractStates (now block) ≤ length (now table)) ⌝ }
     requires { ⌜ (u < abstractStates (now block)) × (word ≡ wordOf (now block) u) ⌝ }
     ensures { λ x. ⌜ x ≡ test.passesAt (graphOf (now (block .entry))) (now (table .entry)) u ⌝ }
 {
     let entry = table[u];
     if 0 < entry {
-        if meets_word(words, moves, layout::goals(block), word) {
+        if meets_word(code, layout::goals(block), word) {
             return false;
         }
     }
-    let least = best(block, words, moves, weights, table, u, word);
+    let least = best(block, code, weights, table, u, word);
     if NO_COST <= least {
         return true;
     }
@@ -50,20 +54,14 @@ fn passes_at(
 }
 
 // Whether the table passes at every abstract state of a compiled block.
-fn passes_everywhere(
-    block: &[u8],
-    words: &[u64; 608],
-    moves: &[u8; 4384],
-    weights: &[u16; 2048],
-    table: &[u32],
-) -> bool
-    requires { ⌜ Ready (now block) (now words) (now moves) (now weights) × (abstractStates (now block) ≤ length (now table)) ⌝ }
+fn passes_everywhere(block: &[u8], code: &Code, weights: &Weights, table: &[u32]) -> bool
+    requires { ⌜ Ready (now block) (now code) (now weights) × (abstractStates (now block) ≤ length (now table)) ⌝ }
     ensures { λ x. ⌜ x ≡ test.passes (graphOf (now (block .entry))) (now (table .entry)) ⌝ }
 {
     let states = layout::abstract_states(block);
     let mut u: usize = 0;
     while u < states {
-        if !passes_at(block, words, moves, weights, table, u, word_of(block, u)) {
+        if !passes_at(block, code, weights, table, u, word_of(block, u)) {
             return false;
         }
         u += 1;
@@ -76,14 +74,14 @@ fn passes_relabelled(block: &[u8], table: &[u32]) -> bool
     requires { ⌜ Relabelled (now block) × (abstractStates (now block) ≤ length (now table)) ⌝ }
     ensures { λ x. ⌜ x ≡ test.passes (graphOf (now (block .entry))) (now (table .entry)) ⌝ }
 {
-    let mut words = [0u64; 608];
-    let mut moves = [0u8; 4384];
-    let mut weights = [0u16; 2048];
-    compile(block, &mut words, &mut moves, &mut weights);
-    if passes_by_sides(block, &words, &moves, &weights, table) {
+    let mut code = [0u64; CODE];
+    let mut weights = [0u16; WEIGHTS];
+    let mut lists = [0u16; LISTS];
+    compile(block, &mut code, &mut weights);
+    if passes_by_sides(block, &code, &weights, table, &mut lists) {
         return true;
     }
-    passes_everywhere(block, &words, &moves, &weights, table)
+    passes_everywhere(block, &code, &weights, table)
 }
 
 // Whether a table passes the lower-bound test.

@@ -3,3 +3,4 @@
 pub mod WordDigits
 pub mod WordRanks
 pub mod Meaning
+pub mod KeptCode

@@ -37,46 +37,46 @@ even-or-odd n = ⊎-elim (λ e. inl e) (λ d. inr (omega arith)) (same? (2 * (n 
 
 -- a side of its own: a word matches it as the word's state does
 matches-word :
-    (n : ℕ) (side : ℕ → ℕ) (words moves : List ℕ) (x : ℕ) → Sided n side side words moves x
-    → (w : ℕ) → w < 16 ^ n → matchesWord words moves x w ≡ matches n side (unpack n w)
+    (n : ℕ) (side : ℕ → ℕ) (code : List ℕ) (x : ℕ) → Sided n side side code x
+    → (w : ℕ) → w < 16 ^ n → matchesWord code x w ≡ matches n side (unpack n w)
 unfolding matchesWord
-matches-word n side words moves x s w l = go (matches n side (unpack n w)) refl
+matches-word n side code x s w l = go (matches n side (unpack n w)) refl
   where
-    go : (t : Bool) → matches n side (unpack n w) ≡ t → matchesWord words moves x w ≡ matches n side (unpack n w)
+    go : (t : Bool) → matches n side (unpack n w) ≡ t → matchesWord code x w ≡ matches n side (unpack n w)
     go true e =
         let self = matches-itself n side (unpack n w) (unpack-length n w) e in
-        and-intro (eqb (bitAnd w (maskAt words x)) (valueAt words x)) (eqb (rewrittenWord words moves x w) w)
+        and-intro (eqb (bitAnd w (maskAt code x)) (valueAt code x)) (eqb (rewrittenWord code x w) w)
         (eq-eqb _ _ (s .mask w l self))
-        (eq-eqb _ _ (unpack-injective n (rewrittenWord words moves x w) w (s .small w l) l (s .makes w l ∙ self)))
+        (eq-eqb _ _ (unpack-injective n (rewrittenWord code x w) w (s .small w l) l (s .makes w l ∙ self)))
         ∙ sym e
     go false e =
-        not-so (matchesWord words moves x w) (λ q.
-        let same = eqb-true (rewrittenWord words moves x w) w (and-true (eqb (bitAnd w (maskAt words x)) (valueAt words x)) _ q .1) in
+        not-so (matchesWord code x w) (λ q.
+        let same = eqb-true (rewrittenWord code x w) w (and-true (eqb (bitAnd w (maskAt code x)) (valueAt code x)) _ q .1) in
         true-false (itself-matches n side (unpack n w) (sym (s .makes w l) ∙ ap (unpack n) same)) e)
         ∙ sym e
 
-module _ {b words moves weights : List ℕ} (c : Compiled b words moves weights) where
+module _ {b code weights : List ℕ} (c : Compiled b code weights) where
   pub applies-word :
-      (r w : ℕ) → r < rules b → w < 16 ^ positions b → appliesWord words moves r w ≡ applies b r (unpack (positions b) w)
+      (r w : ℕ) → r < rules b → w < 16 ^ positions b → appliesWord code r w ≡ applies b r (unpack (positions b) w)
   unfolding applies
-  applies-word r w lr l = matches-word (positions b) _ words moves _ (c .rule r lr .left) w l
+  applies-word r w lr l = matches-word (positions b) _ code _ (c .rule r lr .left) w l
 
   pub step-word :
-      (r w : ℕ) → r < rules b → w < 16 ^ positions b → unpack (positions b) (stepWord words moves r w) ≡ step b r (unpack (positions b) w)
+      (r w : ℕ) → r < rules b → w < 16 ^ positions b → unpack (positions b) (stepWord code r w) ≡ step b r (unpack (positions b) w)
   unfolding step
   step-word r w lr l = c .rule r lr .right .makes w l
 
-  pub step-small : (r w : ℕ) → r < rules b → w < 16 ^ positions b → stepWord words moves r w < 16 ^ positions b
+  pub step-small : (r w : ℕ) → r < rules b → w < 16 ^ positions b → stepWord code r w < 16 ^ positions b
   step-small r w lr l = c .rule r lr .right .small w l
 
-  pub cost-word : (r : ℕ) → r < rules b → costWord words r ≡ costOf b r
+  pub cost-word : (r : ℕ) → r < rules b → costWord code r ≡ costOf b r
   cost-word r lr = c .rule r lr .cost
 
-  pub meets-word : (w : ℕ) → w < 16 ^ positions b → meetsWord words moves (goals b) w ≡ meets b (unpack (positions b) w)
+  pub meets-word : (w : ℕ) → w < 16 ^ positions b → meetsWord code (goals b) w ≡ meets b (unpack (positions b) w)
   unfolding meets goalMet
   meets-word w l =
-      some-ext (λ g. matchesWord words moves (goalPlace g) w) (λ g. matches (positions b) (goalOf b g) (unpack (positions b) w)) (goals b) (λ g lg.
-      matches-word (positions b) (goalOf b g) words moves (goalPlace g) (c .goal g lg) w l)
+      some-ext (λ g. matchesWord code (goalPlace g) w) (λ g. matches (positions b) (goalOf b g) (unpack (positions b) w)) (goals b) (λ g lg.
+      matches-word (positions b) (goalOf b g) code (goalPlace g) (c .goal g lg) w l)
 
   module _ (w : ℕ) (ok : stateOk b (unpack (positions b) w) ≡ true) where
     digit-low : (j : ℕ) → j < positions b → digit w j < labelCount b j

@@ -1,5 +1,6 @@
--- Sides compiled for words, as the arrays hold them: what a side makes of a word (`rewrittenWord`), whether a word matches it (`matchesWord`),
--- and so a rule's test, its result and its cost, and the goal test. Where a side stands in the arrays is defined here; this crate and `compiling` alone know it.
+-- Sides compiled for words, as the arrays hold them: what a side makes of a word (`rewrittenWord`), whether a word
+-- matches it (`matchesWord`), and so a rule's test, its result and its cost, and the goal test. Where a side stands
+-- in the arrays is defined here; this crate and `compiling` alone know it.
 use Prim.Native.Nat.{ℕ, zero, suc, _+_, _*_, _%_, _^_}
 use mathlib.Core.Bool.{Bool, _&&_}
 use mathlib.Core.List.{List}
@@ -19,50 +20,59 @@ rightPlace r = 2 * r + 1
 abbrev pub goalPlace : ℕ → ℕ
 goalPlace g = 128 + g
 
--- the side at place x: the mask and the value of its constants, the mask of the positions that keep their label, the number of its moves
+-- the side at place x: the mask and the value of its constants, the mask of the positions that keep their label, the
+-- number of its moves
 abbrev pub maskAt : List ℕ → ℕ → ℕ
-maskAt words x = getD words (4 * x) 0
+maskAt code x = getD code (6 * x) 0
 
 abbrev pub valueAt : List ℕ → ℕ → ℕ
-valueAt words x = getD words (4 * x + 1) 0
+valueAt code x = getD code (6 * x + 1) 0
 
 abbrev pub keepAt : List ℕ → ℕ → ℕ
-keepAt words x = getD words (4 * x + 2) 0
+keepAt code x = getD code (6 * x + 2) 0
 
 abbrev pub countAt : List ℕ → ℕ → ℕ
-countAt words x = getD words (4 * x + 3) 0 % 32
+countAt code x = getD code (6 * x + 3) 0
+
+-- the positions that its moves read and those that they write, each as the digits of a word
+abbrev pub fromAt : List ℕ → ℕ → ℕ
+fromAt code x = getD code (6 * x + 4) 0
+
+abbrev pub toAt : List ℕ → ℕ → ℕ
+toAt code x = getD code (6 * x + 5) 0
 
 -- the label read at one position, at the position to write
 unfoldable pub moved : ℕ → ℕ → ℕ → ℕ
-moved w from to = digit w (from % 16) * 16 ^ (to % 16)
+moved w from to = digit w from * 16 ^ to
 
--- what the side at place x keeps of a word, its constants, and its first j moves
-unfoldable pub rewrittenTo : List ℕ → List ℕ → ℕ → ℕ → ℕ → ℕ
-rewrittenTo words moves x w zero = bitOr (bitAnd w (keepAt words x)) (valueAt words x)
-rewrittenTo words moves x w (suc j) =
-    bitOr (rewrittenTo words moves x w j) (moved w (getD moves (32 * x + 2 * j) 0) (getD moves (32 * x + 2 * j + 1) 0))
+-- the first j moves of those that two words tell, joined to a word
+unfoldable pub joinMoves : ℕ → ℕ → ℕ → ℕ → ℕ → ℕ
+joinMoves v w from to zero = v
+joinMoves v w from to (suc j) = bitOr (joinMoves v w from to j) (moved w (digit from j) (digit to j))
 
-unfoldable pub rewrittenWord : List ℕ → List ℕ → ℕ → ℕ → ℕ
-rewrittenWord words moves x w = rewrittenTo words moves x w (countAt words x)
+-- what the side at place x keeps of a word, its constants, and its moves
+unfoldable pub rewrittenWord : List ℕ → ℕ → ℕ → ℕ
+rewrittenWord code x w =
+    joinMoves (bitOr (bitAnd w (keepAt code x)) (valueAt code x)) w (fromAt code x) (toAt code x) (countAt code x)
 
 -- a word has the constants of the side at place x
 abbrev pub constantsWord : List ℕ → ℕ → ℕ → Bool
-constantsWord words x w = eqb (bitAnd w (maskAt words x)) (valueAt words x)
+constantsWord code x w = eqb (bitAnd w (maskAt code x)) (valueAt code x)
 
 -- it has them, and the side makes the word itself
-unfoldable pub matchesWord : List ℕ → List ℕ → ℕ → ℕ → Bool
-matchesWord words moves x w = constantsWord words x w && eqb (rewrittenWord words moves x w) w
+unfoldable pub matchesWord : List ℕ → ℕ → ℕ → Bool
+matchesWord code x w = constantsWord code x w && eqb (rewrittenWord code x w) w
 
 -- rule r applies to a word; the word it makes; its cost
-abbrev pub appliesWord : List ℕ → List ℕ → ℕ → ℕ → Bool
-appliesWord words moves r w = matchesWord words moves (leftPlace r) w
+abbrev pub appliesWord : List ℕ → ℕ → ℕ → Bool
+appliesWord code r w = matchesWord code (leftPlace r) w
 
-abbrev pub stepWord : List ℕ → List ℕ → ℕ → ℕ → ℕ
-stepWord words moves r w = rewrittenWord words moves (rightPlace r) w
+abbrev pub stepWord : List ℕ → ℕ → ℕ → ℕ
+stepWord code r w = rewrittenWord code (rightPlace r) w
 
 abbrev pub costWord : List ℕ → ℕ → ℕ
-costWord words r = getD words (544 + r) 0 % 256
+costWord code r = getD code (816 + r) 0 % 256
 
 -- a word meets one of the goals
-abbrev pub meetsWord : List ℕ → List ℕ → ℕ → ℕ → Bool
-meetsWord words moves goals w = some goals (λ g. matchesWord words moves (goalPlace g) w)
+abbrev pub meetsWord : List ℕ → ℕ → ℕ → Bool
+meetsWord code goals w = some goals (λ g. matchesWord code (goalPlace g) w)

@@ -9,7 +9,13 @@ use super::packing::ConcretePair;
 use super::packing::first_pair;
 use blocks::layout;
 
-// What the labels of pair j add to the rank: the weights of their two abstract labels, which the map gave and whose sum was stored when the block was compiled.
+// The weights of pairs of labels.
+pub const WEIGHTS: usize = 2048;
+
+pub type Weights = [u16; WEIGHTS];
+
+// What the labels of pair j add to the rank: the weights of their two abstract labels, which the map gave and whose
+// sum was stored when the block was compiled.
 fn weight(weights: &[u16], j: usize, pair: ConcretePair) -> usize
     requires { ⌜ (2048 ≤ length (now weights)) × (j < 8) × (pair .0 < 256) ⌝ }
     ensures { λ r. ⌜ (r ≡ getD (now (weights .entry)) (256 * j + pair .0) 0) × (r ≤ 65535) ⌝ }

@@ -1,5 +1,5 @@
 -- `compiling::compile` meets its contract.
--- The goals' places are not the rules', and the weights are an array of their own.
+-- The places of goals and counts are not the rules', and the weights are an array of their own.
 use Rattle.compiling.proofs.RulesPlaced.{compiled}
 use borrow.Author.Needs.{needs}
 use Rattle.compiling.proofs.compile.Statement.{statement}
@@ -11,14 +11,24 @@ place-rules-requires c κs = search needs
 place-goals-requires : tie.Need-place-goals-requires
 place-goals-requires c κs = search needs
 
+place-counts-requires : tie.Need-place-counts-requires
+place-counts-requires c κs = search needs
+
 place-weights-requires : tie.Need-place-weights-requires
 place-weights-requires c κs = search needs
 
 returns : tie.Need-returns
 returns c =
-    compiled (c .before .before .before .before .before .before .before .before .before .pre .0) (c .before .before .before .before .before .place-rules .ensures)
-    (c .before .before .place-goals .ensures) (c .place-weights .ensures)
+    let h = c .before .before .before .before .before .before .before .before .before .pre in
+    compiled (h .0) (h .1) (c .before .before .before .before .before .before .place-rules .ensures)
+    (c .before .before .before .before .place-goals .ensures) (c .before .before .place-counts .ensures) (c .place-weights .ensures)
 
 pub compile-spec : {M : Type 1} → statement M
 compile-spec =
-    tie.close (tie.spec place-rules-requires place-goals-requires place-weights-requires returns)
+    tie.close
+    (tie.spec
+    place-rules-requires
+    place-goals-requires
+    place-counts-requires
+    place-weights-requires
+    returns)

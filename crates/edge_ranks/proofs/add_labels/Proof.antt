@@ -1,36 +1,43 @@
 -- `edge_ranks::add_labels` meets its contract.
 -- The loop's invariant: the labels passed have been added to both lists.
-use mathlib.Core.Path.{_≡_, refl, sym, ap, _∙_}
-use Prim.Native.Nat.{ℕ, _+_, _-_, _*_, _%_, _^_, _≤_, _<_}
+use mathlib.Core.Path.{_≡_, sym, ap, _∙_}
+use Prim.Native.Nat.{ℕ, _-_, _*_, _%_, _≤_}
 use native.Mathlib.Nat.{one-mul}
 use native.Mathlib.Omega.{arith}
 use denote.Ref.{now}
+use lib.ListN.{length}
 use borrow.Author.Needs.{needs}
-use Rattle.edge_ranks.specs.Lists.{firstRank, secondRank}
-use Rattle.edge_ranks.proofs.Growing.{Grown, grown-none, grown-more, grown-all, grown-over, next-at}
+use Rattle.edge_ranks.specs.Lists.{listsLength, sourceAt, targetAt, firstRank, secondRank}
+use Rattle.edge_ranks.proofs.Growing.{Grown, longer-both, grown-none, grown-more, grown-all, grown-over, next-at}
 use Rattle.edge_ranks.proofs.add_labels.Statement.{statement}
 use Rattle.edge_ranks.proofs.add_labels.Tie as tie
 
 abbrev Inv-loop : tie.InvT-loop
-Inv-loop words moves weights n x y labels p source target sources₀ targets₀ count at₀ label₀ sources targets at label =
-    (1 ≤ label) × (at ≤ 16384) × (count ≤ at) × (at ≡ label * count)
-    × Grown (firstRank words moves weights n x) label p source count at sources₀ sources
-    × Grown (secondRank words moves weights n x y) label p target count at targets₀ targets
+Inv-loop code weights x y labels p lists₀ count source target at₀ label₀ lists at label =
+    (1 ≤ label) × (at ≤ 16384) × (count ≤ at) × (at ≡ label * count) × (length lists ≡ listsLength)
+    × Grown (firstRank code weights x) label p count at (sourceAt lists₀) (sourceAt lists)
+    × Grown (secondRank code weights x y) label p count at (targetAt lists₀) (targetAt lists)
 
 abbrev μ-loop : tie.MeasureT-loop
-μ-loop words moves weights n x y labels p source target sources₀ targets₀ count at₀ label₀ sources targets at label =
-    labels - label
+μ-loop code weights x y labels p lists₀ count source target at₀ label₀ lists at label = labels - label
+
+element-copy-out-source : tie.Need-element-copy-out-source Inv-loop μ-loop
+element-copy-out-source c = search needs
+
+element-copy-out-target : tie.Need-element-copy-out-target Inv-loop μ-loop
+element-copy-out-target c = search needs
 
 loop-holds : tie.Need-loop-holds Inv-loop μ-loop
 loop-holds c =
-    let a = c .args in
-    (omega arith, c .pre .1 .2, omega arith, sym (one-mul (a .count)), grown-none (a .count) (c .pre .1 .0), grown-none (a .count) (c .pre .1 .1))
+    let s = c .before .before in
+    let n = s .args .count in
+    (omega arith, omega arith, omega arith, sym (one-mul n), s .pre .1 .0, grown-none n, grown-none n)
 
 sub-if1 : tie.Need-sub-if1 Inv-loop μ-loop
 sub-if1 c = search needs
 
 returns : tie.Need-returns Inv-loop μ-loop
-returns c = let i = c .before .before .loop .inv in (grown-over (i .4), grown-over (i .5))
+returns c = let i = c .before .before .loop .inv in (grown-over (i .5), (grown-over (i .6), i .4))
 
 single-requires : tie.Need-single-requires Inv-loop μ-loop
 single-requires c κs = search needs
@@ -47,7 +54,7 @@ difference-requires c κs = search needs
 extend-requires : tie.Need-extend-requires Inv-loop μ-loop
 extend-requires c κs =
     let i = c .before .before .before .before .before .before .before .loop .inv in
-    (i .4 .len, i .2, omega arith, c .difference .ensures .0)
+    (i .4, i .2, omega arith, c .difference .ensures .0)
 
 difference-requires-2 : tie.Need-difference-requires-2 Inv-loop μ-loop
 difference-requires-2 c κs = search needs
@@ -55,7 +62,7 @@ difference-requires-2 c κs = search needs
 extend-requires-2 : tie.Need-extend-requires-2 Inv-loop μ-loop
 extend-requires-2 c κs =
     let i = c .before .before .before .before .before .before .before .before .before .before .loop .inv in
-    (i .5 .len, i .2, omega arith, c .difference2 .ensures .0)
+    (c .before .before .extend .ensures .outside .len ∙ i .4, i .2, omega arith, c .difference2 .ensures .0)
 
 add-at : tie.Need-add-at Inv-loop μ-loop
 add-at c = search needs
@@ -68,26 +75,32 @@ loop-less c = search needs
 
 loop-again : tie.Need-loop-again Inv-loop μ-loop
 loop-again c =
-    let s = c .before .before .before .before .before .before .before .before in
-    let a = s .before .before .before .before .args in
-    let l = s .before .before .before .loop in
     let e = c .before .before .before in
-    let f = firstRank (now (a .words)) (now (a .moves)) (now (a .weights)) (a .n) (a .x) in
-    let g = secondRank (now (a .words)) (now (a .moves)) (now (a .weights)) (a .n) (a .x) (a .y) in
-    let first = e .before .difference .ensures .1 ∙ e .before .before .before .before .rank-by .ensures ∙ ap (λ (w : ℕ). f w % 16384) (s .single .ensures) in
-    let second = c .before .difference2 .ensures .1 ∙ e .before .before .before .second-rank-by .ensures ∙ ap (λ (w : ℕ). g w % 16384) (s .single .ensures) in (
+    let s = e .before .before .before .before .before in
+    let l = s .before .before .before .loop in
+    let a = s .before .before .before .before .before .before .args in
+    let f = firstRank (now (a .code)) (now (a .weights)) (a .x) in
+    let g = secondRank (now (a .code)) (now (a .weights)) (a .x) (a .y) in
+    let first =
+    e .before .difference .ensures .1 ∙ e .before .before .before .before .rank-by .ensures
+    ∙ ap (λ (w : ℕ). f w % 16384) (s .single .ensures) in
+    let second =
+    c .before .difference2 .ensures .1 ∙ e .before .before .before .second-rank-by .ensures
+    ∙ ap (λ (w : ℕ). g w % 16384) (s .single .ensures) in
+    let longer = longer-both (e .extend .ensures) (c .extend2 .ensures) (l .inv .2) (omega arith) in (
       omega arith,
       omega arith,
       omega arith,
       next-at (a .count) (l .label) (l .at) (l .inv .3),
-      grown-more (l .inv .4) (e .extend .ensures) (l .inv .3) (l .inv .2) first,
-      grown-more (l .inv .5) (c .extend2 .ensures) (l .inv .3) (l .inv .2) second,
+      c .extend2 .ensures .outside .len ∙ e .extend .ensures .outside .len ∙ l .inv .4,
+      grown-more (l .inv .5) (longer .0) (l .inv .3) (l .inv .2) first,
+      grown-more (l .inv .6) (longer .1) (l .inv .3) (l .inv .2) second,
     )
 
 returns-2 : tie.Need-returns-2 Inv-loop μ-loop
 returns-2 c =
     let i = c .before .loop .inv in
-    (grown-all (i .4) (omega arith) (i .1) (i .2) (i .3), grown-all (i .5) (omega arith) (i .1) (i .2) (i .3))
+    (grown-all (i .5) (omega arith) (i .1) (i .2) (i .3), (grown-all (i .6) (omega arith) (i .1) (i .2) (i .3), i .4))
 
 pub add-labels-spec : {M : Type 1} → statement M
 add-labels-spec =
@@ -95,6 +108,8 @@ add-labels-spec =
     (tie.spec
     Inv-loop
     μ-loop
+    element-copy-out-source
+    element-copy-out-target
     loop-holds
     sub-if1
     returns

@@ -1,28 +1,31 @@
 -- `edge_ranks::find_edges` meets its contract.
--- The loop's invariant: the lists have all words without the labels before position p.
-use mathlib.Core.Path.{_≡_, refl, sym, ap, _∙_}
-use mathlib.Core.Bool.{true, false}
-use Prim.Native.Nat.{ℕ, suc, _+_, _-_, _*_, _%_, _^_, _≤_, _<_}
+-- The loop's invariant: the lists begin with the ranks of the word 0, and have all words without the labels before p.
+use mathlib.Core.Path.{_≡_, ap, _∙_}
+use Prim.Native.Nat.{suc, _-_, _%_, _≤_, _<_}
 use native.Mathlib.Omega.{arith}
 use denote.Ref.{now}
-use lib.ListN.{length, getD, set, length-set}
-use lib.Seq.{getD-set-same}
+use lib.ListN.{length, set, length-set}
+use lib.Seq.{getD-set-same, getD-set-other}
 use borrow.Author.Needs.{needs}
-use borrow.Author.Tests.{not-true, not-false}
+use borrow.Author.Tests.{not-false}
+use Rattle.words.specs.Code.{positionCount}
 use Rattle.words.specs.Ranking.{rankWord}
-use Rattle.words.specs.Sides.{rewrittenWord}
-use Rattle.edge_ranks.specs.Lists.{firstRank, secondRank, Listed}
+use Rattle.edge_ranks.specs.Lists.{listsLength, sourceAt, targetAt, firstRank, secondRank, Listed}
 use Rattle.edge_ranks.proofs.Listing.{listed-first, listed-idle, listed-more}
 use Rattle.edge_ranks.proofs.find_edges.Statement.{statement}
 use Rattle.edge_ranks.proofs.find_edges.Tie as tie
 
 abbrev Inv-loop : tie.InvT-loop
-Inv-loop words moves weights n x y labels sources₀ targets₀ base source target count₀ p₀ sources targets count p =
-    (p ≤ n) × (count ≤ 16384) × (length sources ≡ 16384) × (length targets ≡ 16384)
-    × (0 < count → Listed (firstRank words moves weights n x) (secondRank words moves weights n x y) n labels p sources targets count)
+Inv-loop code weights x y labels lists₀ base count₀ p₀ lists count p =
+    (p ≤ positionCount code) × (count ≤ 16384) × (length lists ≡ listsLength)
+    × (sourceAt lists 0 ≡ firstRank code weights x 0 % 16384)
+    × (targetAt lists 0 ≡ secondRank code weights x y 0 % 16384)
+    × (0 < count
+    → Listed (firstRank code weights x) (secondRank code weights x y) (positionCount code) labels p
+    (sourceAt lists) (targetAt lists) count)
 
 abbrev μ-loop : tie.MeasureT-loop
-μ-loop words moves weights n x y labels sources₀ targets₀ base source target count₀ p₀ sources targets count p = p
+μ-loop code weights x y labels lists₀ base count₀ p₀ lists count p = p
 
 rewritten-word-requires : tie.Need-rewritten-word-requires Inv-loop μ-loop
 rewritten-word-requires c κs = search needs
@@ -30,29 +33,41 @@ rewritten-word-requires c κs = search needs
 rank-by-requires : tie.Need-rank-by-requires Inv-loop μ-loop
 rank-by-requires c κs = search needs
 
+element-write-lists : tie.Need-element-write-lists Inv-loop μ-loop
+element-write-lists c = search needs
+
 second-rank-by-requires : tie.Need-second-rank-by-requires Inv-loop μ-loop
 second-rank-by-requires c κs = search needs
 
-element-write-sources : tie.Need-element-write-sources Inv-loop μ-loop
-element-write-sources c = search needs
+element-write-lists-2 : tie.Need-element-write-lists-2 Inv-loop μ-loop
+element-write-lists-2 c = search needs
 
-element-write-targets : tie.Need-element-write-targets Inv-loop μ-loop
-element-write-targets c = search needs
+position-count-requires : tie.Need-position-count-requires Inv-loop μ-loop
+position-count-requires c κs = search needs
 
 loop-holds : tie.Need-loop-holds Inv-loop μ-loop
 loop-holds c =
-    let s = c .before .before .before in
+    let s = c .before .before .before .before in
     let a = s .args in
-    let first = c .before .rank-by .result in
-    let second = c .second-rank-by .result in (
+    let old = now (a .lists) in
+    let first = c .before .before .rank-by .result in
+    let second = c .before .second-rank-by .result in
+    let front = set old 0 first in
+    let len : length front ≡ listsLength = length-set old 0 first ∙ s .pre .0 .4 in
+    let source =
+    getD-set-other front 16384 0 second 0 (λ e. omega arith)
+    ∙ getD-set-same old 0 first 0 (omega (arith, s .pre .0 .4)) ∙ c .before .before .rank-by .ensures in
+    let target = getD-set-same front 16384 second 0 (omega (arith, len)) ∙ c .before .second-rank-by .ensures in
+    let f = firstRank (now (a .code)) (now (a .weights)) (a .x) in
+    let g = secondRank (now (a .code)) (now (a .weights)) (a .x) (a .y) in (
+      omega (arith, c .position-count .ensures),
       omega arith,
-      omega arith,
-      length-set (now (a .sources)) 0 first ∙ s .pre .0 .4,
-      length-set (now (a .targets)) 0 second ∙ s .pre .0 .5,
+      length-set front 16384 second ∙ len,
+      source,
+      target,
       λ z.
-          listed-first (firstRank (now (a .words)) (now (a .moves)) (now (a .weights)) (a .n) (a .x)) (secondRank (now (a .words)) (now (a .moves)) (now (a .weights)) (a .n) (a .x) (a .y)) (a .n) (a .labels) (set (now (a .sources)) 0 first) (set (now (a .targets)) 0 second)
-          (getD-set-same (now (a .sources)) 0 first 0 (omega (arith, s .pre .0 .4)) ∙ c .before .rank-by .ensures)
-          (getD-set-same (now (a .targets)) 0 second 0 (omega (arith, s .pre .0 .5)) ∙ c .second-rank-by .ensures),
+          rw (c .position-count .ensures)
+          (listed-first f g (positionCount (now (a .code))) (a .labels) _ _ source target),
     )
 
 sub-p : tie.Need-sub-p Inv-loop μ-loop
@@ -63,35 +78,33 @@ is-idle-requires c κs = search needs
 
 add-labels-requires : tie.Need-add-labels-requires Inv-loop μ-loop
 add-labels-requires c κs =
-    let l = c .before .before .before .before .before .loop in
-    let t = c .before .before .before .before .before .before in
-    let q = t .before .before .before .pre .0 in (
-      (q .0, q .1, q .2, q .3, omega arith, omega (arith, t .before .rank-by .ensures), omega (arith, t .second-rank-by .ensures)),
-      (l .inv .2, l .inv .3, l .inv .1),
-    )
+    let l = c .before .before .before .before .loop in
+    let q = c .before .before .before .before .before .before .before .before .before .pre .0 in
+    ((q .0, q .1, q .2, q .3, omega arith, l .inv .1), (l .inv .2, omega (arith, l .inv .3), omega (arith, l .inv .4)))
 
 loop-less : tie.Need-loop-less Inv-loop μ-loop
 loop-less c = search needs
 
 loop-again : tie.Need-loop-again Inv-loop μ-loop
 loop-again c =
-    let l = c .before .before .before .before .before .before .loop in
-    let t = c .before .before .before .before .before .before .before in
-    let s = t .before .before .before in
+    let l = c .before .before .before .before .before .loop in
+    let s = c .before .before .before .before .before .before .before .before .before .before in
     let a = s .args in
     let q = c .add-labels .ensures in
-    let f = firstRank (now (a .words)) (now (a .moves)) (now (a .weights)) (a .n) (a .x) in
-    let g = secondRank (now (a .words)) (now (a .moves)) (now (a .weights)) (a .n) (a .x) (a .y) in
-    let k = c .before .before .before .before .before .loop-test .taken in
+    let f = firstRank (now (a .code)) (now (a .weights)) (a .x) in
+    let g = secondRank (now (a .code)) (now (a .weights)) (a .x) (a .y) in
+    let k = c .before .before .before .before .loop-test .taken in
+    let n = positionCount (now (a .code)) in
     let e : l .p ≡ suc (l .p - 1) = omega (arith, k) in (
       omega (arith, l .inv .0),
       q .0 .few,
-      q .0 .len,
-      q .1 .len,
+      q .1 .1,
+      q .0 .first ∙ l .inv .3,
+      q .1 .0 .first ∙ l .inv .4,
       λ z.
-          listed-more f g (a .n) (a .labels) (s .pre .1 .0) (s .pre .1 .1) (l .p - 1) (omega (arith, k, l .inv .0)) (l .sources) (l .targets) _ _
-          (t .before .rank-by .result) (t .second-rank-by .result) (l .count) (c .add-labels .result)
-          (t .before .rank-by .ensures) (t .second-rank-by .ensures) (q .0) (q .1) z (rw e at (l .inv .4 (q .0 .some z))),
+          listed-more f g n (a .labels) (s .pre .1 .0) (s .pre .1 .1) (l .p - 1) (omega (arith, k, l .inv .0)) _ _ _ _
+          (l .count) (c .add-labels .result) (l .inv .3) (l .inv .4) (q .0) (q .1 .0) z
+          (rw e at (l .inv .5 (q .0 .some z))),
     )
 
 loop-less-2 : tie.Need-loop-less-2 Inv-loop μ-loop
@@ -101,33 +114,32 @@ loop-again-2 : tie.Need-loop-again-2 Inv-loop μ-loop
 unfolding firstRank secondRank
 loop-again-2 c =
     let l = c .before .before .before .loop in
-    let t = c .before .before .before .before in
-    let s = t .before .before .before in
+    let s = c .before .before .before .before .before .before .before .before in
     let a = s .args in
-    let f = firstRank (now (a .words)) (now (a .moves)) (now (a .weights)) (a .n) (a .x) in
-    let g = secondRank (now (a .words)) (now (a .moves)) (now (a .weights)) (a .n) (a .x) (a .y) in
-    let same = rewrittenWord (now (a .words)) (now (a .moves)) (a .x) in
-    let idle : (k : ℕ) → 1 ≤ k → k < a .labels → same (k * 16 ^ (l .p - 1)) ≡ same 0 =
-    λ k m b. c .before .is-idle .ensures (not-false _ (c .if1 .left)) k m b ∙ t .before .before .rewritten-word .ensures in
+    let n = positionCount (now (a .code)) in
+    let f = firstRank (now (a .code)) (now (a .weights)) (a .x) in
+    let g = secondRank (now (a .code)) (now (a .weights)) (a .x) (a .y) in
+    let idle = c .before .is-idle .ensures (not-false _ (c .if1 .left)) in
     let e : l .p ≡ suc (l .p - 1) = omega arith in (
       omega arith,
       l .inv .1,
       l .inv .2,
       l .inv .3,
+      l .inv .4,
       λ z.
-          listed-idle f g (a .n) (a .labels) (s .pre .1 .0) (s .pre .1 .1) (l .p - 1) (omega arith) (l .sources) (l .targets) (l .count)
+          listed-idle f g n (a .labels) (s .pre .1 .0) (s .pre .1 .1) (l .p - 1) (omega arith) _ _ (l .count)
           (λ k m b. (
-            ap (rankWord (now (a .weights)) (a .n)) (idle k m b),
-            ap (firstRank (now (a .words)) (now (a .moves)) (now (a .weights)) (a .n) (a .y)) (idle k m b),
+            ap (rankWord (now (a .weights)) n) (idle k m b),
+            ap (firstRank (now (a .code)) (now (a .weights)) (a .y)) (idle k m b),
           ))
-          (rw e at (l .inv .4 z)),
+          (rw e at (l .inv .5 z)),
     )
 
 returns : tie.Need-returns Inv-loop μ-loop
 returns c =
     let l = c .before .loop in
     let e : l .p ≡ 0 = omega arith in
-    (rw e at (l .inv .4), (l .inv .1, l .inv .2, l .inv .3))
+    (rw e at (l .inv .5), (l .inv .1, l .inv .2))
 
 pub find-edges-spec : {M : Type 1} → statement M
 find-edges-spec =
@@ -137,9 +149,10 @@ find-edges-spec =
     μ-loop
     rewritten-word-requires
     rank-by-requires
+    element-write-lists
     second-rank-by-requires
-    element-write-sources
-    element-write-targets
+    element-write-lists-2
+    position-count-requires
     loop-holds
     sub-p
     is-idle-requires

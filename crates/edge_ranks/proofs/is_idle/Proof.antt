@@ -2,7 +2,7 @@
 -- The loop's invariant: the labels passed change nothing.
 use mathlib.Core.Path.{_≡_, refl, sym, ap, _∙_}
 use mathlib.Core.Logic.{⊎-elim}
-use Prim.Native.Nat.{ℕ, _+_, _-_, _*_, _^_, _≤_, _<_}
+use Prim.Native.Nat.{ℕ, _-_, _*_, _^_, _≤_, _<_}
 use native.Mathlib.Omega.{arith}
 use denote.Ref.{now}
 use borrow.Author.Needs.{needs}
@@ -13,11 +13,11 @@ use Rattle.edge_ranks.proofs.is_idle.Statement.{statement}
 use Rattle.edge_ranks.proofs.is_idle.Tie as tie
 
 abbrev Inv-loop : tie.InvT-loop
-Inv-loop words moves x labels p base label₀ label =
-    (1 ≤ label) × ((l : ℕ) → 1 ≤ l → l < label → rewrittenWord words moves x (l * 16 ^ p) ≡ base)
+Inv-loop code x labels p base label₀ label =
+    (1 ≤ label) × ((l : ℕ) → 1 ≤ l → l < label → rewrittenWord code x (l * 16 ^ p) ≡ base)
 
 abbrev μ-loop : tie.MeasureT-loop
-μ-loop words moves x labels p base label₀ label = labels - label
+μ-loop code x labels p base label₀ label = labels - label
 
 loop-holds : tie.Need-loop-holds Inv-loop μ-loop
 loop-holds c = (omega arith, λ l a b. absurd (omega arith))
@@ -41,7 +41,7 @@ loop-again : tie.Need-loop-again Inv-loop μ-loop
 loop-again c =
     let a = c .before .before .before .before .before .args in
     let l = c .before .before .before .before .loop in
-    let made = rewrittenWord (now (a .words)) (now (a .moves)) (a .x) in
+    let made = rewrittenWord (now (a .code)) (a .x) in
     let here : made (l .label * 16 ^ a .p) ≡ a .base =
     ap made (sym (c .before .before .single .ensures)) ∙ sym (c .before .rewritten-word .ensures) ∙ omega arith in (
       omega arith,
@@ -50,7 +50,7 @@ loop-again c =
     )
 
 returns-2 : tie.Need-returns-2 Inv-loop μ-loop
-returns-2 c = λ e l a b. c .before .loop .inv .1 l a (omega arith)
+returns-2 c = λ e l a b. c .before .loop .inv .1 l a (omega arith) ∙ c .before .before .pre .3
 
 pub is-idle-spec : {M : Type 1} → statement M
 is-idle-spec =

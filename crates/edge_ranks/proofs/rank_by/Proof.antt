@@ -1,5 +1,5 @@
 -- `edge_ranks::rank_by` meets its contract.
-use mathlib.Core.Path.{_≡_, ap, _∙_}
+use mathlib.Core.Path.{ap, ap₂, _∙_}
 use Prim.Native.Nat.{ℕ, _%_}
 use denote.Ref.{now}
 use borrow.Author.Needs.{needs}
@@ -7,6 +7,9 @@ use Rattle.words.specs.Ranking.{rankWord}
 use Rattle.edge_ranks.specs.Lists.{firstRank}
 use Rattle.edge_ranks.proofs.rank_by.Statement.{statement}
 use Rattle.edge_ranks.proofs.rank_by.Tie as tie
+
+position-count-requires : tie.Need-position-count-requires
+position-count-requires c κs = search needs
 
 rewritten-word-requires : tie.Need-rewritten-word-requires
 rewritten-word-requires c κs = search needs
@@ -20,10 +23,19 @@ narrow-requires c κs = search needs
 returns : tie.Need-returns
 unfolding firstRank
 returns c =
-    let a = c .before .before .before .before .args in
+    let a = c .before .before .before .before .before .args in
     c .narrow .ensures
-    ∙ ap (λ (k : ℕ). k % 16384) (c .before .rank-word .ensures ∙ ap (rankWord (now (a .weights)) (a .n)) (c .before .before .rewritten-word .ensures))
+    ∙ ap (λ (k : ℕ). k % 16384)
+    (c .before .rank-word .ensures
+    ∙ ap₂ (rankWord (now (a .weights))) (c .before .before .before .position-count .ensures)
+    (c .before .before .rewritten-word .ensures))
 
 pub rank-by-spec : {M : Type 1} → statement M
 rank-by-spec =
-    tie.close (tie.spec rewritten-word-requires rank-word-requires narrow-requires returns)
+    tie.close
+    (tie.spec
+    position-count-requires
+    rewritten-word-requires
+    rank-word-requires
+    narrow-requires
+    returns)

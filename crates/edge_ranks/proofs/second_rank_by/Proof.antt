@@ -1,5 +1,5 @@
 -- `edge_ranks::second_rank_by` meets its contract.
-use mathlib.Core.Path.{_≡_, ap, _∙_}
+use mathlib.Core.Path.{ap, _∙_}
 use Prim.Native.Nat.{ℕ, _%_}
 use denote.Ref.{now}
 use borrow.Author.Needs.{needs}
@@ -18,7 +18,7 @@ unfolding secondRank
 returns c =
     let a = c .before .before .args in
     c .rank-by .ensures
-    ∙ ap (λ (w : ℕ). firstRank (now (a .words)) (now (a .moves)) (now (a .weights)) (a .n) (a .y) w % 16384) (c .before .rewritten-word .ensures)
+    ∙ ap (λ (w : ℕ). firstRank (now (a .code)) (now (a .weights)) (a .y) w % 16384) (c .before .rewritten-word .ensures)
 
 pub second-rank-by-spec : {M : Type 1} → statement M
 second-rank-by-spec = tie.close (tie.spec rewritten-word-requires rank-by-requires returns)

@@ -1,6 +1,4 @@
 -- `edge_ranks::single` meets its contract.
-use mathlib.Core.Path.{_≡_}
-use native.Mathlib.Omega.{arith}
 use borrow.Author.Needs.{needs}
 use Rattle.words.proofs.WordDigits.{shifted}
 use Rattle.edge_ranks.proofs.single.Statement.{statement}

@@ -1,5 +1,6 @@
 -- `rank_changes::compile` meets its contract.
--- The weights of pairs stand at the front, and so mean what they meant.
+-- Writing the sets keeps what the code says of its block, and the weights of pairs stand at the front, where they mean what they meant.
+use Rattle.words.proofs.KeptCode.{compiled-kept}
 use Rattle.words.proofs.WordRanks.{weighted-front}
 use borrow.Author.Needs.{needs}
 use Rattle.rank_changes.proofs.compile.Statement.{statement}
@@ -8,21 +9,43 @@ use Rattle.rank_changes.proofs.compile.Tie as tie
 compile-requires : tie.Need-compile-requires
 compile-requires c κs = search needs
 
+rules-requires : tie.Need-rules-requires
+rules-requires c κs = search needs
+
+positions-requires : tie.Need-positions-requires
+positions-requires c κs = search needs
+
+place-sets-requires : tie.Need-place-sets-requires
+place-sets-requires c κs = search needs
+
 place-changes-requires : tie.Need-place-changes-requires
 place-changes-requires c κs = search needs
 
 returns : tie.Need-returns
 returns c =
-    let s = c .before .before .before .before .before .before .before .before in
-    let made = c .before .before .before .compile .ensures in (
+    let sets = c .before .before .before .place-sets .ensures in
+    let compiled = compiled-kept (c .before .before .before .before .before .before .before .compile .ensures .0) (sets .1) in
+    let changed = c .place-changes .ensures in (
       record {
-        valid = made .valid;
-        rule = made .rule;
-        goal = made .goal;
-        weighted = weighted-front (s .pre .0 .sized .head) (made .weighted) (c .place-changes .ensures .1 .0);
+        valid = compiled .valid;
+        counted = compiled .counted;
+        rule = compiled .rule;
+        goal = compiled .goal;
+        weighted = weighted-front (compiled .valid .sized .head) (compiled .weighted) (changed .1 .0);
       },
-      (c .place-changes .ensures .0, c .place-changes .ensures .1 .1),
+      (
+        (changed .0, changed .1 .1),
+        rw (← c .before .before .before .before .before .rules .ensures .0, ← c .before .before .before .before .positions .ensures .0) (sets .0),
+      ),
     )
 
 pub compile-spec : {M : Type 1} → statement M
-compile-spec = tie.close (tie.spec compile-requires place-changes-requires returns)
+compile-spec =
+    tie.close
+    (tie.spec
+    compile-requires
+    rules-requires
+    positions-requires
+    place-sets-requires
+    place-changes-requires
+    returns)

@@ -41,6 +41,7 @@ use denote.Exit.{yes}
 use Rattle.tallies.specs.declared.Tally.{Tally}
 use Rattle.tallies.proofs.Tally as T
 use Rattle.tallies.proofs.Tally.Laws as T′
+use Rattle.tallies.proofs.Cells.{fits-least}
 use Rattle.tallies.proofs.lesser as lesser
 use Rattle.tallies.proofs.lesser.Symbol as lesser-def
 use Rattle.tallies.proofs.lesser.Symbol.{name as #tallies·lesser}
@@ -78,10 +79,7 @@ module _ {M : Type 1} (𝓤 : URA M) (H : Heap 𝓤) (A : Atoms 𝓤) (W : Given
   abbrev mach : ℕ → Val
   mach m = vstruct (vcons (vint w32 (h .visits)) (vcons (vint w64 m) vnil))
 
-  -- what whoever holds the record knows of its second field, and what closing the borrow asks
-  fits-least : Is T.the-row h (LL.vals T.the-type T′.the-laws h) → h .least < 2 ^ 64
-  fits-least was = LL.owed T.the-type T′.the-laws h (LL.vals T.the-type T′.the-laws h) was .1 .0 .1
-
+  -- what closing the borrow asks
   made : (r : ℕ) → r < 2 ^ 64 → Is T.the-row h (LL.vals T.the-type T′.the-laws h) → Is T.the-row (h′ r) (mach r ∷ [])
   made r fits was = LL.owes T.the-type T′.the-laws (h′ r) (LL.owed T.the-type T′.the-laws h (LL.vals T.the-type T′.the-laws h) was .0, ((refl, fits), tt))
 
@@ -115,9 +113,9 @@ module _ {M : Type 1} (𝓤 : URA M) (H : Heap 𝓤) (A : Atoms 𝓤) (W : Given
         move ! (10 ∷ 11 ∷ 12 ∷ []) $ opens ! tt T.the-row {h = h} b o (λ vs. spelt ! T.the-row (Is T.the-row) (shows 𝓤 H A T.the-row) (LL.vals T.the-type T′.the-laws) (LL.tells T.the-type T′.the-laws) fullShare h vs b o $
         move ! (1 ∷ []) $ peeks ! T.the-row (Is T.the-row) (shows 𝓤 H A T.the-row) h (LL.vals T.the-type T′.the-laws h) (λ was. move ! (1 ∷ 0 ∷ []) $
         -- [the struct's cell; what a Tally owns; the open borrow; obs; auth; _4; …; _3; …; _2; …; _1; …; room for _0; …]
-        assigns ! (of-opd ! (load ! (from ! (hop ! (look ! 11 refl) (fld ! refl (stop !)))) (look-in ! 0 (sub ! 1 refl (whole !))))) (from ! (stop !)) (init ! 5 refl (tt, record { fits = fits-least was })) $
+        assigns ! (of-opd ! (load ! (from ! (hop ! (look ! 11 refl) (fld ! refl (stop !)))) (look-in ! 0 (sub ! 1 refl (whole !))))) (from ! (stop !)) (init ! 5 refl (tt, record { fits = fits-least h was })) $
         -- the call
-        nothing ! $ owned ! u64 (Is u64) (uint-makes 𝓤 H A W w64) n _ (refl, gn .1) $ fjoin ! $ owned ! u64 (Is u64) (uint-makes 𝓤 H A W w64) (h .least) _ (refl, fits-least was) $ fjoin ! $ nothing ! $
+        nothing ! $ owned ! u64 (Is u64) (uint-makes 𝓤 H A W w64) n _ (refl, gn .1) $ fjoin ! $ owned ! u64 (Is u64) (uint-makes 𝓤 H A W w64) (h .least) _ (refl, fits-least h was) $ fjoin ! $ nothing ! $
         use2 W (raw (Lesser 𝓤 H A at-mem run .pre to)) goes-lesser $
         calls-at ! fm (Lesser 𝓤 H A at-mem run) known to (and-then ! (load ! (from ! (stop !)) (look ! 6 refl)) (and-then ! (load ! (from ! (stop !)) (look ! 10 refl)) (no-more !))) (λ v.
         use1 W (later (some (λ (r : ℕ). (‵ ftrue ⊛ ‵ (u64 .own r (v ∷ []))) ⊛ raw (ensured 𝓤 H A lesser.ended (lesser.clauses 𝓤 H A at-mem run) tt (h .least, (n, tt)) tt r)))) (id⊢ 𝓤 _) $ await ! tt $ pick ! (λ r.

@@ -16,20 +16,19 @@ use prog.Wp.{Heap, Calls, Loops, WpFn, Tables}
 use ghost.Atoms.{Atoms, sem}
 use contract.Monad.{Fun, fact}
 use contract.Running.{givenOf, tables, tablesOf}
-use types.Kit.{Given, ‵, raw, some, later, _⊛_, _$_, _∵_, !, qed, by, move, keep, use1, use2, use3, split, join, pick, fsplit, fjoin, fpick, fpack, feqL, suffices, frame, await, done}
+use types.Kit.{Given, ‵, raw, some, later, _⊛_, _$_, _∵_, !, qed, by, move, keep, use1, use2, use3, split, join, pick, fsplit, fjoin, feqL, suffices, frame, await, done}
 use types.Run.{look, init, forget, stop, from, load, addr, of-opd, and-then, no-more, assigns, land, returns, enter, alloc1, alloc0, params1, pass1, pass0, free1, free0}
 use types.SemTy.{Body}
 use types.Tokens.{lft-new, lft-end}
 use sound.WpLaws.{FmC, fmOf, WpFn-mono}
 use denote.RattleType.{owns}
 use denote.Laws.{Is, shows}
-use denote.Memory.{mem, cellAt, partAt, partOf}
+use denote.Memory.{mem, partAt}
 use denote.Plain.{Nothing, uint-vals, uint-tells, uint-makes}
 use denote.Builtin.{u64}
 use denote.Ref.{RefT, MutRef}
 use denote.Lend.{lends-ref, ref-back}
 use denote.Steps.{only, owned, peeks, heard, nothing}
-use denote.Struct.Steps.{spelt}
 use denote.Struct.Laws as LL
 use denote.Triple.Entry.{onEntry}
 use denote.Triple.Spec.{Meets, tripleOf}
@@ -43,6 +42,7 @@ use Rattle.tallies.specs.Tallies.{overshotBy}
 use Rattle.tallies.specs.declared.Tally.{Tally}
 use Rattle.tallies.proofs.Tally as T
 use Rattle.tallies.proofs.Tally.Laws as T′
+use Rattle.tallies.proofs.Cells.{cell-in, cell-out}
 use Rattle.tallies.proofs.overshoot as over
 use Rattle.tallies.proofs.overshoot.Symbol as over-def
 use Rattle.tallies.proofs.overshoot.Symbol.{name as #tallies·overshoot}
@@ -58,22 +58,6 @@ stayed = (stay-none (λ _. T.the-row) yes, (stay-none (λ _. u64) yes, tt))
 -- the contract that the proof cites
 abbrev Over : {M : Type 1} (𝓤 : URA M) (H : Heap 𝓤) (A : Atoms 𝓤) (at-mem : Memory → SProp 𝓤) (run : Routine → Fun 𝓤) → Contract 𝓤
 Over 𝓤 H A at-mem run = tripleOf 𝓤 H A over.signature (over.spec 𝓤 H A at-mem run)
-
-module _ {M : Type 1} (𝓤 : URA M) (H : Heap 𝓤) (A : Atoms 𝓤) (W : Given 𝓤 H A) (z : Tally) (l : ℕ) where
-  -- a record that lies in a local is one that can be lent, each way
-  cell-in : Is T.the-row z (T′.lowered z ∷ []) → ent 𝓤 (H .at fullShare T′.mir l 0 (T′.lowered z)) (sem 𝓤 H A (partAt T.the-row fullShare z l 0))
-  unfolding partOf
-  cell-in is =
-      qed W (‵ (fat fullShare T′.mir l 0 (T′.lowered z)) ∷ []) ∵ use1 W (‵ (cellAt fullShare (T.the-row .mir) (T′.lowered z ∷ []) l 0)) (W .laws .at-raw fullShare T′.mir l 0 (T′.lowered z)) $
-      owned ! T.the-row (Is T.the-row) ((LL.makes T.the-type T′.the-plain) 𝓤 H A) z _ is $ move ! (1 ∷ 0 ∷ []) $ fjoin ! $
-      fpack ! (List Val) (λ vs. base.Fml.fsep (cellAt fullShare (T.the-row .mir) vs l 0) (T.the-row .own z vs)) (T′.lowered z ∷ []) $ done !
-
-  cell-out : ent 𝓤 (sem 𝓤 H A (partAt T.the-row fullShare z l 0)) (sep 𝓤 (H .at fullShare T′.mir l 0 (T′.lowered z)) (sem 𝓤 H A (T.the-row .own z (T′.lowered z ∷ []))))
-  unfolding partOf
-  cell-out =
-      qed W (‵ (partAt T.the-row fullShare z l 0) ∷ []) ∵ fpick ! (λ vs. fsplit ! $
-      spelt ! T.the-row (Is T.the-row) (shows 𝓤 H A T.the-row) (LL.vals T.the-type T′.the-laws) (LL.tells T.the-type T′.the-laws) fullShare z vs l 0 $
-      use1 W (‵ (fat fullShare T′.mir l 0 (T′.lowered z))) (W .laws .raw-at fullShare T′.mir l 0 (T′.lowered z)) $ frame ! $ done !)
 
 module _ {M : Type 1} (𝓤 : URA M) (H : Heap 𝓤) (A : Atoms 𝓤) (W : Given 𝓤 H A) (at-mem : Memory → SProp 𝓤) (run : Routine → Fun 𝓤) (h : Tally) (n : ℕ) (n-fits : n < 2 ^ 64) where
   abbrev at : List Val × (List Val × Unit {0})

@@ -1,70 +1,51 @@
 -- `candidates::reversed_rules::next_candidate` meets its contract.
--- The loop's invariant: the groups passed are among the rule's, which are at most 16.
-use mathlib.Core.Path.{_≡_}
-use Prim.Native.Nat.{_*_, _≤_, _<_, _-_}
+-- The loop's invariant: the group is one of fifteen.
+use Prim.Native.Nat.{_≤_, _<_, _-_}
 use borrow.Author.Needs.{needs}
 use Rattle.candidates.proofs.reversed_rules.next_candidate.Statement.{statement}
 use Rattle.candidates.proofs.reversed_rules.next_candidate.Tie as tie
 
 abbrev Inv-loop : tie.InvT-loop
-Inv-loop groups k r word at count next₀ g₀ next g = (k ≤ 16) × (r < 64) × (at ≡ 34 * r) × (count < 17) × (g ≤ count)
+Inv-loop code k r word groups next₀ g₀ next g = (k ≤ 16) × (r < 64) × (0 < g) × (g ≤ 16)
 
 abbrev μ-loop : tie.MeasureT-loop
-μ-loop groups k r word at count next₀ g₀ next g = count - g
+μ-loop code k r word groups next₀ g₀ next g = 16 - g
 
-mul-at : tie.Need-mul-at Inv-loop μ-loop
-mul-at c = search needs
+add-groups : tie.Need-add-groups Inv-loop μ-loop
+add-groups c = search needs
 
-mul-count : tie.Need-mul-count Inv-loop μ-loop
-mul-count c = search needs
+mul-groups : tie.Need-mul-groups Inv-loop μ-loop
+mul-groups c = search needs
 
-element-copy-out-count : tie.Need-element-copy-out-count Inv-loop μ-loop
-element-copy-out-count c = search needs
+element-copy-out-groups : tie.Need-element-copy-out-groups Inv-loop μ-loop
+element-copy-out-groups c = search needs
 
 loop-holds : tie.Need-loop-holds Inv-loop μ-loop
 loop-holds c = search needs
 
-add-group : tie.Need-add-group Inv-loop μ-loop
-add-group c = search needs
+members-requires : tie.Need-members-requires Inv-loop μ-loop
+members-requires c κs = search needs
 
-mul-group : tie.Need-mul-group Inv-loop μ-loop
-mul-group c = search needs
+returns : tie.Need-returns Inv-loop μ-loop
+returns c = search needs
 
-add-group-2 : tie.Need-add-group-2 Inv-loop μ-loop
-add-group-2 c = search needs
+repeated-requires : tie.Need-repeated-requires Inv-loop μ-loop
+repeated-requires c κs = search needs
 
-mul-group-2 : tie.Need-mul-group-2 Inv-loop μ-loop
-mul-group-2 c = search needs
+lowest-of-requires : tie.Need-lowest-of-requires Inv-loop μ-loop
+lowest-of-requires c κs = search needs
 
-element-copy-out-group : tie.Need-element-copy-out-group Inv-loop μ-loop
-element-copy-out-group c = search needs
-
-add-digit : tie.Need-add-digit Inv-loop μ-loop
-add-digit c = search needs
-
-mul-digit : tie.Need-mul-digit Inv-loop μ-loop
-mul-digit c = search needs
-
-add-digit-2 : tie.Need-add-digit-2 Inv-loop μ-loop
-add-digit-2 c = search needs
-
-mul-digit-2 : tie.Need-mul-digit-2 Inv-loop μ-loop
-mul-digit-2 c = search needs
-
-element-copy-out-digit : tie.Need-element-copy-out-digit Inv-loop μ-loop
-element-copy-out-digit c = search needs
-
-digit-requires : tie.Need-digit-requires Inv-loop μ-loop
-digit-requires c κs = search needs
+shr-label : tie.Need-shr-label Inv-loop μ-loop
+shr-label c = search needs
 
 add-label : tie.Need-add-label Inv-loop μ-loop
 add-label c = search needs
 
-mul-result : tie.Need-mul-result Inv-loop μ-loop
-mul-result c = search needs
+repeated-requires-2 : tie.Need-repeated-requires-2 Inv-loop μ-loop
+repeated-requires-2 c κs = search needs
 
-returns : tie.Need-returns Inv-loop μ-loop
-returns c = search needs
+returns-2 : tie.Need-returns-2 Inv-loop μ-loop
+returns-2 c = search needs
 
 add-g : tie.Need-add-g Inv-loop μ-loop
 add-g c = search needs
@@ -75,8 +56,8 @@ loop-less c = search needs
 loop-again : tie.Need-loop-again Inv-loop μ-loop
 loop-again c = search needs
 
-returns-2 : tie.Need-returns-2 Inv-loop μ-loop
-returns-2 c = search needs
+returns-3 : tie.Need-returns-3 Inv-loop μ-loop
+returns-3 c = search needs
 
 pub next-candidate-spec : {M : Type 1} → statement M
 next-candidate-spec =
@@ -84,25 +65,19 @@ next-candidate-spec =
     (tie.spec
     Inv-loop
     μ-loop
-    mul-at
-    mul-count
-    element-copy-out-count
+    add-groups
+    mul-groups
+    element-copy-out-groups
     loop-holds
-    add-group
-    mul-group
-    add-group-2
-    mul-group-2
-    element-copy-out-group
-    add-digit
-    mul-digit
-    add-digit-2
-    mul-digit-2
-    element-copy-out-digit
-    digit-requires
-    add-label
-    mul-result
+    members-requires
     returns
+    repeated-requires
+    lowest-of-requires
+    shr-label
+    add-label
+    repeated-requires-2
+    returns-2
     add-g
     loop-less
     loop-again
-    returns-2)
+    returns-3)

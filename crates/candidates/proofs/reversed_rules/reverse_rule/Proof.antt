@@ -1,8 +1,9 @@
 -- `candidates::reversed_rules::reverse_rule` meets its contract.
--- Both sides of the rule lie in the block, and the arrays of sides keep their lengths.
+-- Both sides of the rule lie in the block, and the array of sides and the compiled block keep their lengths.
+use mathlib.Core.Path.{_∙_}
 use Prim.Native.Nat.{_+_, _≤_}
 use native.Mathlib.Omega.{arith}
-use lib.ListN.{length}
+use lib.ListN.{length, length-set}
 use denote.Ref.{now}
 use borrow.Author.Needs.{needs}
 use Rattle.blocks.proofs.Offsets.{left-inside, right-inside}
@@ -17,8 +18,11 @@ inside :
     (n ≤ 16) × (d .before .left-at .result + n ≤ length b) × (d .right-at .result + n ≤ length b)
 inside d =
     let s = d .before .before .before .before in
-    let b = now (s .args .block) in
-    (omega arith, omega (arith, left-inside b (s .pre .0) (s .args .r) (s .pre .1)), omega (arith, right-inside b (s .pre .0) (s .args .r) (s .pre .1)))
+    let b = now (s .args .block) in (
+      omega arith,
+      omega (arith, left-inside b (s .pre .0) (s .args .r) (s .pre .1)),
+      omega (arith, right-inside b (s .pre .0) (s .args .r) (s .pre .1)),
+    )
 
 positions-requires : tie.Need-positions-requires
 positions-requires c κs = search needs
@@ -41,15 +45,22 @@ slice-aggregate-place-sides c = search needs
 place-sides-requires : tie.Need-place-sides-requires
 place-sides-requires c κs = search needs
 
-place-groups-requires : tie.Need-place-groups-requires
-place-groups-requires c κs =
-    let d = c .before .before .before .before .before .before .before .before .before .before in
-    let p = d .before .before .before .before .pre in
-    let i = inside d in
-    (i .0, omega (arith, p .1, p .0 .head .sizes .r-high), i .1, i .2)
+groups-of-requires : tie.Need-groups-of-requires
+groups-of-requires c κs = inside (c .before .before .before .before .before .before .before .before)
+
+add-code : tie.Need-add-code
+add-code c = search needs
+
+mul-code : tie.Need-mul-code
+mul-code c = search needs
+
+element-write-code : tie.Need-element-write-code
+element-write-code c = search needs
 
 returns : tie.Need-returns
-returns c = search needs
+returns c =
+    let s = c .before .before .before .before .before .before .before .before .before .before .before .before .before in
+    simp length-set (c .before .before .place-sides .ensures .code .len ∙ s .pre .2)
 
 pub reverse-rule-spec : {M : Type 1} → statement M
 reverse-rule-spec =
@@ -62,5 +73,8 @@ reverse-rule-spec =
     reverse-right-requires
     slice-aggregate-place-sides
     place-sides-requires
-    place-groups-requires
+    groups-of-requires
+    add-code
+    mul-code
+    element-write-code
     returns)

@@ -1,19 +1,19 @@
 -- `candidates::reversed_rules::reverse_rules` meets its contract.
--- The loop's invariant: the rules passed are rules of the block, and the arrays of sides keep their lengths.
+-- The loop's invariant: the rules passed are rules of the block, and the compiled block keeps its length.
 use mathlib.Core.Path.{_≡_}
 use Prim.Native.Nat.{_≤_, _-_}
 use lib.ListN.{length}
 use borrow.Author.Needs.{needs}
 use Rattle.blocks.specs.Layout.{rules}
+use Rattle.words.specs.Code.{codeLength}
 use Rattle.candidates.proofs.reversed_rules.reverse_rules.Statement.{statement}
 use Rattle.candidates.proofs.reversed_rules.reverse_rules.Tie as tie
 
 abbrev Inv-loop : tie.InvT-loop
-Inv-loop block words₀ moves₀ groups₀ count r₀ words moves groups r =
-    (count ≡ rules block) × (r ≤ count) × (length words ≡ 608) × (length moves ≡ 4384)
+Inv-loop block code₀ count r₀ code r = (count ≡ rules block) × (r ≤ count) × (length code ≡ codeLength)
 
 abbrev μ-loop : tie.MeasureT-loop
-μ-loop block words₀ moves₀ groups₀ count r₀ words moves groups r = count - r
+μ-loop block code₀ count r₀ code r = count - r
 
 rules-requires : tie.Need-rules-requires Inv-loop μ-loop
 rules-requires c κs = search needs

@@ -17,12 +17,12 @@ use Rattle.compiling.proofs.placing_sides.place_goals.Statement.{statem
 use Rattle.compiling.proofs.placing_sides.place_goals.Tie as tie
 
 abbrev Inv-loop : tie.InvT-loop
-Inv-loop block words₀ moves₀ n count g₀ words moves g =
-    (n ≡ positions block) × (count ≡ goals block) × (g ≤ count) × Outside (4 * goalPlace 0) (4 * goalPlace 8) words₀ words × Outside (32 * goalPlace 0) (32 * goalPlace 8) moves₀ moves
-    × ((k : ℕ) → k < g → Sided (positions block) (goalOf block k) (goalOf block k) words moves (goalPlace k))
+Inv-loop block code₀ n count g₀ code g =
+    (n ≡ positions block) × (count ≡ goals block) × (g ≤ count) × Outside (6 * goalPlace 0) (6 * goalPlace 8) code₀ code
+    × ((k : ℕ) → k < g → Sided (positions block) (goalOf block k) (goalOf block k) code (goalPlace k))
 
 abbrev μ-loop : tie.MeasureT-loop
-μ-loop block words₀ moves₀ n count g₀ words moves g = count - g
+μ-loop block code₀ n count g₀ code g = count - g
 
 positions-requires : tie.Need-positions-requires Inv-loop μ-loop
 positions-requires c κs = search needs
@@ -36,8 +36,7 @@ loop-holds c =
       search needs,
       search needs,
       search needs,
-      outside-none (4 * goalPlace 0) (4 * goalPlace 8) (now (a .words)),
-      outside-none (32 * goalPlace 0) (32 * goalPlace 8) (now (a .moves)),
+      outside-none (6 * goalPlace 0) (6 * goalPlace 8) (now (a .code)),
       λ k l. absurd (omega arith),
     )
 
@@ -49,14 +48,14 @@ add-place-side c = search needs
 
 place-side-requires : tie.Need-place-side-requires Inv-loop μ-loop
 place-side-requires c κs =
-    let b = now (c .before .before .before .before .before .before .before .before .args .block) in
-    let h = c .before .before .before .before .before .before .before .before .pre in
-    let inv = c .before .before .before .before .loop .inv in
-    let g = c .before .before .before .before .loop .g in
+    let b = now (c .before .before .before .before .before .before .before .args .block) in
+    let h = c .before .before .before .before .before .before .before .pre in
+    let inv = c .before .before .before .loop .inv in
+    let g = c .before .before .before .loop .g in
     let few = h .0 .head .sizes .g-high in
-    let e = c .before .before .goal-at .ensures .0 in
+    let e = c .before .goal-at .ensures .0 in
     let l = goal-inside b (h .0) g (omega arith) in
-    (omega arith, omega arith, omega (arith, h .0 .head .sizes .n-high), omega arith, inv .3 .len ∙ h .1, inv .4 .len ∙ h .2)
+    (omega arith, omega arith, omega (arith, h .0 .head .sizes .n-high), omega arith, inv .3 .len ∙ h .1)
 
 add-g : tie.Need-add-g Inv-loop μ-loop
 add-g c = search needs
@@ -66,25 +65,24 @@ loop-less c = search needs
 
 loop-again : tie.Need-loop-again Inv-loop μ-loop
 loop-again c =
-    let b = now (c .before .before .before .before .before .before .before .before .before .args .block) in
-    let h = c .before .before .before .before .before .before .before .before .before .pre in
+    let b = now (c .before .before .before .before .before .before .before .before .args .block) in
+    let h = c .before .before .before .before .before .before .before .before .pre in
     let few = h .0 .head .sizes .g-high in
-    let inv = c .before .before .before .before .before .loop .inv in
-    let g = c .before .before .before .before .before .loop .g in
-    let at = c .before .before .before .goal-at .ensures .0 in
+    let inv = c .before .before .before .before .loop .inv in
+    let g = c .before .before .before .before .loop .g in
+    let at = c .before .before .goal-at .ensures .0 in
     let p = placed-as b (inv .0) at at (c .place-side .ensures) in (
       inv .0,
       inv .1,
       search needs,
-      outside-then (inv .3) (outside-within (4 * goalPlace 0) (4 * goalPlace 8) (omega arith) (omega arith) (p .words)),
-      outside-then (inv .4) (outside-within (32 * goalPlace 0) (32 * goalPlace 8) (omega arith) (omega arith) (p .moves)),
-      below-more _ _ (λ k l. goal-kept g k l p (inv .5 k l)) (p .sided),
+      outside-then (inv .3) (outside-within (6 * goalPlace 0) (6 * goalPlace 8) (omega arith) (omega arith) (p .code)),
+      below-more _ _ (λ k l. goal-kept g k l p (inv .4 k l)) (p .sided),
     )
 
 returns : tie.Need-returns Inv-loop μ-loop
 returns c =
     let inv = c .before .loop .inv in
-    record { goal = λ g l. inv .5 g (omega arith); words = inv .3; moves = inv .4 }
+    record { goal = λ g l. inv .4 g (omega arith); code = inv .3 }
 
 pub place-goals-spec : {M : Type 1} → statement M
 place-goals-spec =

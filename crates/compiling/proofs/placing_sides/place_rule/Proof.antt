@@ -1,6 +1,7 @@
 -- `compiling::placing_sides::place_rule` meets its contract.
 -- Both sides lie in the block, and the cost has a place of its own.
 use mathlib.Core.Path.{_∙_}
+use Prim.Native.Nat.{_<_}
 use native.Mathlib.Omega.{arith}
 use denote.Ref.{now}
 use Rattle.blocks.proofs.Offsets.{left-inside, right-inside}
@@ -20,15 +21,15 @@ right-at-requires c κs = search needs
 
 place-sides-requires : tie.Need-place-sides-requires
 place-sides-requires c κs =
-    let s = c .before .before .before .before .before .before in
+    let s = c .before .before .before .before .before in
     let b = now (s .args .block) in
     let h = s .pre in
-    let n = c .before .before .before .before .positions .ensures .0 in
-    let e = c .before .before .before .left-at .ensures .0 in
-    let f = c .before .before .right-at .ensures .0 in
+    let n = c .before .before .before .positions .ensures .0 in
+    let e = c .before .before .left-at .ensures .0 in
+    let f = c .before .right-at .ensures .0 in
     let l = left-inside b (h .0) (s .args .r) (h .1) in
     let k = right-inside b (h .0) (s .args .r) (h .1) in
-    (omega arith, omega arith, omega (arith, h .0 .head .sizes .n-high), omega (arith, h .0 .head .sizes .r-high), h .2, h .3)
+    (omega arith, omega arith, omega (arith, h .0 .head .sizes .n-high), omega (arith, h .0 .head .sizes .r-high), h .2)
 
 cost-requires : tie.Need-cost-requires
 cost-requires c κs = search needs
@@ -36,23 +37,24 @@ cost-requires c κs = search needs
 wide-requires : tie.Need-wide-requires
 wide-requires c κs = search needs
 
-add-words : tie.Need-add-words
-add-words c = search needs
+add-code : tie.Need-add-code
+add-code c = search needs
 
-mul-words : tie.Need-mul-words
-mul-words c = search needs
+mul-code : tie.Need-mul-code
+mul-code c = search needs
 
-element-write-words : tie.Need-element-write-words
-element-write-words c = search needs
+element-write-code : tie.Need-element-write-code
+element-write-code c = search needs
 
 returns : tie.Need-returns
 returns c =
-    let s = c .before .before .before .before .before .before .before .before .before in
+    let s = c .before .before .before .before .before .before .before .before in
     let b = now (s .args .block) in
-    let n = c .before .before .before .before .before .before .before .positions .ensures .0 in
-    let left = c .before .before .before .before .before .before .left-at .ensures .0 in
-    let right = c .before .before .before .before .before .right-at .ensures .0 in
-    rule-placed b (s .args .r) (c .wide .result) (omega (arith, s .pre .1, s .pre .0 .head .sizes .r-high)) (omega (arith, s .pre .1, s .pre .2, s .pre .0 .head .sizes .r-high))
+    let n = c .before .before .before .before .before .before .positions .ensures .0 in
+    let left = c .before .before .before .before .before .left-at .ensures .0 in
+    let right = c .before .before .before .before .right-at .ensures .0 in
+    let few : s .args .r < 64 = omega (arith, s .pre .1, s .pre .0 .head .sizes .r-high) in
+    rule-placed b (s .args .r) (c .wide .result) few (omega (arith, s .pre .2))
     (sides-as b n left right (c .before .before .place-sides .ensures))
     (c .wide .ensures .0 ∙ c .before .cost .ensures) (c .wide .ensures .1)
 
@@ -66,7 +68,7 @@ place-rule-spec =
     place-sides-requires
     cost-requires
     wide-requires
-    add-words
-    mul-words
-    element-write-words
+    add-code
+    mul-code
+    element-write-code
     returns)

@@ -12,24 +12,23 @@ use Rattle.compiling.proofs.placing_sides.place_rules.Statement.{statem
 use Rattle.compiling.proofs.placing_sides.place_rules.Tie as tie
 
 abbrev Inv-loop : tie.InvT-loop
-Inv-loop block words₀ moves₀ count r₀ words moves r =
-    (count ≡ rules block) × (r ≤ count) × (length words ≡ length words₀) × (length moves ≡ length moves₀)
-    × ((k : ℕ) → k < r → RuleAt block words moves k)
+Inv-loop block code₀ count r₀ code r =
+    (count ≡ rules block) × (r ≤ count) × (length code ≡ length code₀) × ((k : ℕ) → k < r → RuleAt block code k)
 
 abbrev μ-loop : tie.MeasureT-loop
-μ-loop block words₀ moves₀ count r₀ words moves r = count - r
+μ-loop block code₀ count r₀ code r = count - r
 
 rules-requires : tie.Need-rules-requires Inv-loop μ-loop
 rules-requires c κs = search needs
 
 loop-holds : tie.Need-loop-holds Inv-loop μ-loop
-loop-holds c = (search needs, search needs, refl, refl, λ k l. absurd (omega arith))
+loop-holds c = (search needs, search needs, refl, λ k l. absurd (omega arith))
 
 place-rule-requires : tie.Need-place-rule-requires Inv-loop μ-loop
 place-rule-requires c κs =
-    let h = c .before .before .before .before .before .before .pre in
-    let inv = c .before .before .before .loop .inv in
-    (h .0, omega arith, inv .2 ∙ h .1, inv .3 ∙ h .2)
+    let h = c .before .before .before .before .before .pre in
+    let inv = c .before .before .loop .inv in
+    (h .0, omega arith, inv .2 ∙ h .1)
 
 add-r : tie.Need-add-r Inv-loop μ-loop
 add-r c = search needs
@@ -39,14 +38,14 @@ loop-less c = search needs
 
 loop-again : tie.Need-loop-again Inv-loop μ-loop
 loop-again c =
-    let inv = c .before .before .before .before .loop .inv in
+    let inv = c .before .before .before .loop .inv in
     let p = c .place-rule .ensures in
-    (inv .0, search needs, p .words ∙ inv .2, p .moves ∙ inv .3, below-more _ _ (λ k l. p .others k l (inv .4 k l)) (p .rule))
+    (inv .0, search needs, p .code ∙ inv .2, below-more _ _ (λ k l. p .others k l (inv .3 k l)) (p .rule))
 
 returns : tie.Need-returns Inv-loop μ-loop
 returns c =
     let inv = c .before .loop .inv in
-    record { rule = λ r l. inv .4 r (omega arith); words = inv .2; moves = inv .3 }
+    record { rule = λ r l. inv .3 r (omega arith); code = inv .2 }
 
 pub place-rules-spec : {M : Type 1} → statement M
 place-rules-spec =

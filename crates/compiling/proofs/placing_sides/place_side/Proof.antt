@@ -1,126 +1,96 @@
 -- `compiling::placing_sides::place_side` meets its contract.
--- The loop's invariant: the first i positions are compiled, and only moves of place x are written.
-use mathlib.Core.Path.{_≡_, subst, _∙_}
-use Prim.Native.Nat.{ℕ, _≤_, _-_, _+_, _*_}
+-- The six elements of place x are those of the side made.
 use native.Mathlib.Omega.{arith}
 use denote.Ref.{now}
-use Rattle.basics.specs.Parts.{Outside}
-use Rattle.basics.proofs.Parts.{outside-none, outside-then}
-use Rattle.blocks.specs.Layout.{sideAt}
-use Rattle.compiling.specs.PlacingSides.{Begun}
-use Rattle.compiling.proofs.SidePlaced.{begun-none, side-placed}
+use Rattle.compiling.proofs.SidePlaced.{side-placed}
 use borrow.Author.Needs.{needs}
 use Rattle.compiling.proofs.placing_sides.place_side.Statement.{statement}
 use Rattle.compiling.proofs.placing_sides.place_side.Tie as tie
 
-abbrev Inv-loop : tie.InvT-loop
-Inv-loop bytes left side n words moves₀ x made₀ i₀ moves made i = (i ≤ n) × Begun n (sideAt bytes left) (sideAt bytes side) made moves x i × Outside (32 * x) (32 * x + 32) moves₀ moves
+make-side-requires : tie.Need-make-side-requires
+make-side-requires c κs = search needs
 
-abbrev μ-loop : tie.MeasureT-loop
-μ-loop bytes left side n words moves₀ x made₀ i₀ moves made i = n - i
+mul-at : tie.Need-mul-at
+mul-at c = search needs
 
-loop-holds : tie.Need-loop-holds Inv-loop μ-loop
-loop-holds c =
-    let a = c .before .args in
-    (search needs, begun-none (a .n) _ _ (now (a .moves)) (a .x), outside-none (32 * a .x) (32 * a .x + 32) (now (a .moves)))
+mul-code : tie.Need-mul-code
+mul-code c = search needs
 
-with-term-requires : tie.Need-with-term-requires Inv-loop μ-loop
-with-term-requires c κs =
-    let h = c .before .before .before .before .pre in
-    let inv = c .before .before .loop .inv in
-    ((h .0, h .1, h .2, c .before .loop-test .taken, h .3, inv .2 .len ∙ h .5), inv .1)
+element-write-code : tie.Need-element-write-code
+element-write-code c = search needs
 
-add-i : tie.Need-add-i Inv-loop μ-loop
-add-i c = search needs
+add-code : tie.Need-add-code
+add-code c = search needs
 
-loop-less : tie.Need-loop-less Inv-loop μ-loop
-loop-less c = search needs
+mul-code-2 : tie.Need-mul-code-2
+mul-code-2 c = search needs
 
-loop-again : tie.Need-loop-again Inv-loop μ-loop
-loop-again c =
-    let e = c .with-term .ensures in
-    (search needs, e .0, outside-then (c .before .before .before .loop .inv .2) (e .1))
+element-write-code-2 : tie.Need-element-write-code-2
+element-write-code-2 c = search needs
 
-mul-words : tie.Need-mul-words Inv-loop μ-loop
-mul-words c = search needs
+add-code-2 : tie.Need-add-code-2
+add-code-2 c = search needs
 
-mul-words-2 : tie.Need-mul-words-2 Inv-loop μ-loop
-mul-words-2 c = search needs
+mul-code-3 : tie.Need-mul-code-3
+mul-code-3 c = search needs
 
-element-write-words : tie.Need-element-write-words Inv-loop μ-loop
-element-write-words c = search needs
+element-write-code-3 : tie.Need-element-write-code-3
+element-write-code-3 c = search needs
 
-mul-words-3 : tie.Need-mul-words-3 Inv-loop μ-loop
-mul-words-3 c = search needs
+add-code-3 : tie.Need-add-code-3
+add-code-3 c = search needs
 
-add-words : tie.Need-add-words Inv-loop μ-loop
-add-words c = search needs
+mul-code-4 : tie.Need-mul-code-4
+mul-code-4 c = search needs
 
-mul-words-4 : tie.Need-mul-words-4 Inv-loop μ-loop
-mul-words-4 c = search needs
+element-write-code-4 : tie.Need-element-write-code-4
+element-write-code-4 c = search needs
 
-element-write-words-2 : tie.Need-element-write-words-2 Inv-loop μ-loop
-element-write-words-2 c = search needs
+add-code-4 : tie.Need-add-code-4
+add-code-4 c = search needs
 
-mul-words-5 : tie.Need-mul-words-5 Inv-loop μ-loop
-mul-words-5 c = search needs
+mul-code-5 : tie.Need-mul-code-5
+mul-code-5 c = search needs
 
-add-words-2 : tie.Need-add-words-2 Inv-loop μ-loop
-add-words-2 c = search needs
+element-write-code-5 : tie.Need-element-write-code-5
+element-write-code-5 c = search needs
 
-mul-words-6 : tie.Need-mul-words-6 Inv-loop μ-loop
-mul-words-6 c = search needs
+add-code-5 : tie.Need-add-code-5
+add-code-5 c = search needs
 
-element-write-words-3 : tie.Need-element-write-words-3 Inv-loop μ-loop
-element-write-words-3 c = search needs
+mul-code-6 : tie.Need-mul-code-6
+mul-code-6 c = search needs
 
-mul-words-7 : tie.Need-mul-words-7 Inv-loop μ-loop
-mul-words-7 c = search needs
+element-write-code-6 : tie.Need-element-write-code-6
+element-write-code-6 c = search needs
 
-add-words-3 : tie.Need-add-words-3 Inv-loop μ-loop
-add-words-3 c = search needs
-
-mul-words-8 : tie.Need-mul-words-8 Inv-loop μ-loop
-mul-words-8 c = search needs
-
-element-write-words-4 : tie.Need-element-write-words-4 Inv-loop μ-loop
-element-write-words-4 c = search needs
-
-returns : tie.Need-returns Inv-loop μ-loop
+returns : tie.Need-returns
 returns c =
-    let a = c .before .before .before .args in
-    let h = c .before .before .before .pre in
-    let l = c .before .loop in
-    let left = sideAt (now (a .bytes)) (a .left) in
-    let side = sideAt (now (a .bytes)) (a .side) in
-    let e : l .i ≡ a .n = omega arith in
-    side-placed (now (a .words)) (a .x) (l .made) (omega arith) (a .n) left side (now (a .moves)) (l .moves) (h .2)
-    (subst (λ (k : ℕ). Begun (a .n) left side (l .made) (l .moves) (a .x) k) e (l .inv .1)) (l .inv .2)
+    let a = c .before .before .args in
+    let h = c .before .before .pre in
+    side-placed (now (a .code)) (a .x) (c .make-side .result) (omega arith) (a .n) _ _ (h .2) (c .make-side .ensures)
 
 pub place-side-spec : {M : Type 1} → statement M
 place-side-spec =
     tie.close
     (tie.spec
-    Inv-loop
-    μ-loop
-    loop-holds
-    with-term-requires
-    add-i
-    loop-less
-    loop-again
-    mul-words
-    mul-words-2
-    element-write-words
-    mul-words-3
-    add-words
-    mul-words-4
-    element-write-words-2
-    mul-words-5
-    add-words-2
-    mul-words-6
-    element-write-words-3
-    mul-words-7
-    add-words-3
-    mul-words-8
-    element-write-words-4
+    make-side-requires
+    mul-at
+    mul-code
+    element-write-code
+    add-code
+    mul-code-2
+    element-write-code-2
+    add-code-2
+    mul-code-3
+    element-write-code-3
+    add-code-3
+    mul-code-4
+    element-write-code-4
+    add-code-4
+    mul-code-5
+    element-write-code-5
+    add-code-5
+    mul-code-6
+    element-write-code-6
     returns)

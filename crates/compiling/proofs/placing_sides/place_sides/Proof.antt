@@ -1,8 +1,6 @@
 -- `compiling::placing_sides::place_sides` meets its contract.
 -- Each side has a place of its own.
-use denote.Ref.{now}
 use borrow.Author.Needs.{needs}
-use Rattle.blocks.specs.Layout.{sideAt}
 use Rattle.compiling.proofs.RulesPlaced.{sides-placed}
 use Rattle.compiling.proofs.placing_sides.place_sides.Statement.{statement}
 use Rattle.compiling.proofs.placing_sides.place_sides.Tie as tie
@@ -24,12 +22,8 @@ place-side-requires-2 c κs = search needs
 
 returns : tie.Need-returns
 returns c =
-    let a = c .before .before .before .before .before .before .before .args in
-    let b = now (a .bytes) in
-    let p = c .before .before .before .place-side in
-    sides-placed (a .n) (sideAt b (a .left)) (sideAt b (a .right)) (a .r) (now (a .words)) (now (a .moves))
-    (p .last .1 .1 .1 .1 .0) (p .last .1 .1 .1 .1 .1 .0) (c .place-side2 .last .1 .1 .1 .1 .0) (c .place-side2 .last .1 .1 .1 .1 .1 .0)
-    (p .ensures) (c .place-side2 .ensures)
+    let r = c .before .before .before .before .before .args .r in
+    sides-placed r (c .before .before .place-side .ensures) (c .place-side2 .ensures)
 
 pub place-sides-spec : {M : Type 1} → statement M
 place-sides-spec =

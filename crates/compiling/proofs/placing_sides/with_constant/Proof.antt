@@ -23,7 +23,7 @@ shl-next-2 c = search needs
 returns : tie.Need-returns
 returns c =
     let a = c .before .before .before .args in
-    record { begun = λ n left side moves x li ln e b. constant-more n left side (a .made) moves x (a .i) li ln b (a .label) e }
+    record { begun = λ n left side li ln e b. constant-more n left side (a .made) (a .i) li ln b (a .label) e }
 
 pub with-constant-spec : {M : Type 1} → statement M
 with-constant-spec = tie.close (tie.spec mul-next shl-next cast-next mul-next-2 shl-next-2 returns)

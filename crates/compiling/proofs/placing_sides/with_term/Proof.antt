@@ -1,9 +1,7 @@
 -- `compiling::placing_sides::with_term` meets its contract.
 -- Each arm is the definition's case for the term decoded.
 use mathlib.Core.Path.{sym, _∙_}
-use Prim.Native.Nat.{_+_, _*_}
 use denote.Ref.{now}
-use Rattle.basics.proofs.Parts.{outside-none}
 use Rattle.blocks.specs.Layout.{sideAt}
 use Rattle.compiling.proofs.TermsPlaced.{taken-variable, taken-dash, taken-refused}
 use borrow.Author.Needs.{needs}
@@ -52,44 +50,36 @@ returns c =
     let h = c .before .before .before .before .before .before .before .pre in
     let left = sideAt (now (a .bytes)) (a .left) in
     let side = sideAt (now (a .bytes)) (a .side) in
-    let e = sym (c .before .before .before .before .decode .ensures) ∙ c .before .before .term .given .1 in (
-      c .with-constant .ensures .begun (a .n) left side (now (a .moves)) (a .x) (h .0 .3) (h .0 .2) e (h .1),
-      outside-none (32 * a .x) (32 * a .x + 32) (now (a .moves)),
-    )
+    let e = sym (c .before .before .before .before .decode .ensures) ∙ c .before .before .term .given .1 in
+    c .with-constant .ensures .begun (a .n) left side (h .0 .3) (h .0 .2) e (h .1)
 
 returns-2 : tie.Need-returns-2
 returns-2 c =
-    let a = c .before .before .before .before .before .before .before .before .before .args in
-    let h = c .before .before .before .before .before .before .before .before .before .pre in
+    let a = c .before .before .before .before .before .before .before .before .args in
+    let h = c .before .before .before .before .before .before .before .before .pre in
     let left = sideAt (now (a .bytes)) (a .left) in
     let side = sideAt (now (a .bytes)) (a .side) in
-    let e = sym (c .before .before .before .before .before .before .decode .ensures) ∙ c .before .before .before .before .term2 .given .1 in
-    let first = c .before .before .first-of in (
-      c .with-source .ensures .begun left side (taken-variable (a .n) left (a .i) (side (a .i)) _ (first .result) e (first .ensures)) (h .1),
-      c .with-source .ensures .moves,
-    )
+    let e = sym (c .before .before .before .before .before .decode .ensures) ∙ c .before .before .before .term2 .given .1 in
+    let first = c .before .first-of in
+    c .with-source .ensures .begun left side (taken-variable (a .n) left (a .i) (side (a .i)) _ (first .result) e (first .ensures)) (h .1)
 
 returns-3 : tie.Need-returns-3
 returns-3 c =
-    let a = c .before .before .before .before .before .before .before .args in
-    let h = c .before .before .before .before .before .before .before .pre in
+    let a = c .before .before .before .before .before .before .args in
+    let h = c .before .before .before .before .before .before .pre in
     let left = sideAt (now (a .bytes)) (a .left) in
     let side = sideAt (now (a .bytes)) (a .side) in
-    let e = sym (c .before .before .before .before .decode .ensures) ∙ c .before .before .enum-told .given .1 in (
-      c .with-source2 .ensures .begun left side (taken-dash (a .n) left (a .i) (side (a .i)) e) (h .1),
-      c .with-source2 .ensures .moves,
-    )
+    let e = sym (c .before .before .before .decode .ensures) ∙ c .before .enum-told .given .1 in
+    c .with-source2 .ensures .begun left side (taken-dash (a .n) left (a .i) (side (a .i)) e) (h .1)
 
 returns-4 : tie.Need-returns-4
 returns-4 c =
-    let a = c .before .before .before .before .before .before .before .args in
-    let h = c .before .before .before .before .before .before .before .pre in
+    let a = c .before .before .before .before .before .before .args in
+    let h = c .before .before .before .before .before .before .pre in
     let left = sideAt (now (a .bytes)) (a .left) in
     let side = sideAt (now (a .bytes)) (a .side) in
-    let e = sym (c .before .before .before .before .decode .ensures) ∙ c .before .before .enum-told2 .given .1 in (
-      c .with-source3 .ensures .begun left side (taken-refused (a .n) left (a .i) (side (a .i)) e) (h .1),
-      c .with-source3 .ensures .moves,
-    )
+    let e = sym (c .before .before .before .decode .ensures) ∙ c .before .enum-told2 .given .1 in
+    c .with-source3 .ensures .begun left side (taken-refused (a .n) left (a .i) (side (a .i)) e) (h .1)
 
 pub with-term-spec : {M : Type 1} → statement M
 with-term-spec =

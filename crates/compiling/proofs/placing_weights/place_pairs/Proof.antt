@@ -12,14 +12,20 @@ use Rattle.compiling.proofs.placing_weights.place_pairs.Statement.{stat
 use Rattle.compiling.proofs.placing_weights.place_pairs.Tie as tie
 
 abbrev Inv-loop : tie.InvT-loop
-Inv-loop singles weights₀ k₀ weights k =
-    (k ≤ 2048) × (length weights ≡ 2048) × ((j : ℕ) → j < k → getD weights j 0 ≡ pairWeight singles j)
+Inv-loop singles n weights₀ end k₀ weights k =
+    (k ≤ 256 * ((n + 1) / 2)) × (n ≤ 16) × (length weights ≡ 2048) × ((j : ℕ) → j < k → getD weights j 0 ≡ pairWeight singles j)
 
 abbrev μ-loop : tie.MeasureT-loop
-μ-loop singles weights₀ k₀ weights k = 2048 - k
+μ-loop singles n weights₀ end k₀ weights k = 256 * ((n + 1) / 2) - k
+
+add-end : tie.Need-add-end Inv-loop μ-loop
+add-end c = search needs
+
+mul-end : tie.Need-mul-end Inv-loop μ-loop
+mul-end c = search needs
 
 loop-holds : tie.Need-loop-holds Inv-loop μ-loop
-loop-holds c = (search needs, c .pre .1, λ j l. absurd (omega arith))
+loop-holds c = (omega arith, c .pre .0, c .pre .2, λ j l. absurd (omega arith))
 
 mul-row : tie.Need-mul-row Inv-loop μ-loop
 mul-row c = search needs
@@ -47,7 +53,7 @@ element-copy-out-weights-2 c = search needs
 
 add-weights-4 : tie.Need-add-weights-4 Inv-loop μ-loop
 add-weights-4 c =
-    let low = c .before .before .before .before .pre .0 in
+    let low = c .before .before .before .before .pre .1 in
     let k = c .before .before .before .loop .k in
     omega (arith, low (32 * (k / 256) + k % 16), low (32 * (k / 256) + 16 + k / 16 % 16))
 
@@ -67,13 +73,14 @@ loop-again : tie.Need-loop-again Inv-loop μ-loop
 loop-again c =
     let l = c .before .before .before .loop in
     let pair = pairWeight (now (c .before .before .before .before .args .singles)) in (
-      search needs,
-      length-set (l .weights) (l .k) (pair (l .k)) ∙ l .inv .1,
-      set-more pair (l .weights) (l .k) (pair (l .k)) (l .inv .2) (omega arith) refl,
+      omega (arith, l .inv .0),
+      l .inv .1,
+      length-set (l .weights) (l .k) (pair (l .k)) ∙ l .inv .2,
+      set-more pair (l .weights) (l .k) (pair (l .k)) (l .inv .3) (omega arith) refl,
     )
 
 returns : tie.Need-returns Inv-loop μ-loop
-returns c = record { pair = λ k l. c .before .loop .inv .2 k (omega arith) }
+returns c = record { pair = λ k l. c .before .loop .inv .3 k (omega arith) }
 
 pub place-pairs-spec : {M : Type 1} → statement M
 place-pairs-spec =
@@ -81,6 +88,8 @@ place-pairs-spec =
     (tie.spec
     Inv-loop
     μ-loop
+    add-end
+    mul-end
     loop-holds
     mul-row
     add-weights

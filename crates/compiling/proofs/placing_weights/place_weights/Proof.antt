@@ -9,13 +9,18 @@ use Rattle.compiling.proofs.placing_weights.place_weights.Tie as tie
 place-singles-requires : tie.Need-place-singles-requires
 place-singles-requires c κs = (c .before .before .pre .0, refl, zeros 256)
 
+positions-requires : tie.Need-positions-requires
+positions-requires c κs = search needs
+
 place-pairs-requires : tie.Need-place-pairs-requires
 place-pairs-requires c κs = search needs
 
 returns : tie.Need-returns
 returns c =
-    pairs-weighted (c .before .before .before .before .before .before .pre .0 .sized .head) (c .before .before .before .place-singles .ensures)
-    (c .place-pairs .ensures)
+    let s = c .before .before .before .before .before .before .before in
+    let pairs = rw (c .before .before .positions .ensures .0) at (c .place-pairs .ensures) in
+    pairs-weighted (s .pre .0 .sized .head) (c .before .before .before .before .place-singles .ensures) pairs
 
 pub place-weights-spec : {M : Type 1} → statement M
-place-weights-spec = tie.close (tie.spec place-singles-requires place-pairs-requires returns)
+place-weights-spec =
+    tie.close (tie.spec place-singles-requires positions-requires place-pairs-requires returns)

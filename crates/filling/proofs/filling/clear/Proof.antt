@@ -21,12 +21,12 @@ use Rattle.filling.proofs.filling.clear.Statement.{statement}
 use Rattle.filling.proofs.filling.clear.Tie as tie
 
 abbrev Inv-loop : tie.InvT-loop
-Inv-loop block words moves weights ranked₀ table₀ word₀ u₀ ranked table word u =
+Inv-loop block code weights ranked₀ table₀ word₀ u₀ ranked table word u =
     (u ≤ abstractStates block) × (abstractStates block ≤ 16384) × (length ranked ≡ 16384) × (length table ≡ abstractStates block)
     × ((w : ℕ) → w < u → getD ranked w 0 ≡ wordOf block w) × Cleared (graphOf block) table u × (0 < u → word ≡ wordOf block (u - 1))
 
 abbrev μ-loop : tie.MeasureT-loop
-μ-loop block words moves weights ranked₀ table₀ word₀ u₀ ranked table word u = abstractStates block - u
+μ-loop block code weights ranked₀ table₀ word₀ u₀ ranked table word u = abstractStates block - u
 
 -- the entry that is written
 entry :
@@ -36,18 +36,17 @@ entry :
 entry c =
     let s = c .before .before .before .before .before .before in
     let b = now (s .args .block) in
-    let w = now (s .args .words) in
-    let m = now (s .args .moves) in
+    let w = now (s .args .code) in
     c .cleared-entry .ensures
     ∙ ap (λ (t : Bool). cond t 0 mark)
-    (ap (λ (x : ℕ). meetsWord w m (goals b) x) (c .before .word-at .ensures)
-    ∙ word-goal b w m (now (s .args .weights)) (s .pre .0) (c .before .before .before .loop .u))
+    (ap (λ (x : ℕ). meetsWord w (goals b) x) (c .before .word-at .ensures)
+    ∙ word-goal b w (now (s .args .weights)) (s .pre .0) (c .before .before .before .loop .u))
 
 loop-holds : tie.Need-loop-holds Inv-loop μ-loop
 loop-holds c =
     let s = c .before .before in
     let a = s .args in
-    (search needs, few (now (a .block)) (now (a .words)) (now (a .moves)) (now (a .weights)) (s .pre .0), s .pre .1, s .pre .2, λ w h. absurd (omega arith), λ w h. absurd (omega arith), λ z. absurd (omega arith))
+    (search needs, few (now (a .block)) (now (a .code)) (now (a .weights)) (s .pre .0), s .pre .1, s .pre .2, λ w h. absurd (omega arith), λ w h. absurd (omega arith), λ z. absurd (omega arith))
 
 word-at-requires : tie.Need-word-at-requires Inv-loop μ-loop
 word-at-requires c κs =

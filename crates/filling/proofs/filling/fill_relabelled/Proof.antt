@@ -1,5 +1,6 @@
 -- `filling::filling::fill_relabelled` meets its contract.
--- The arrays are ready once the block is compiled, and every step keeps the table good; the last leaves the least costs.
+-- The arrays are ready once the block is compiled, and every step keeps the table good; the last leaves the least
+-- costs.
 use denote.Ref.{now}
 use borrow.Author.Needs.{needs}
 use Rattle.distances.proofs.LeastCostLaws.{least-costs-only}
@@ -11,8 +12,8 @@ use Rattle.filling.proofs.filling.fill_relabelled.Tie as tie
 -- the arrays, once compiled
 ready :
     (c : tie.After-compile)
-    → Ready (now (c .before .before .before .before .before .before .args .block)) (c .compile .last .1 .0) (c .compile .last .1 .1 .0) (c .compile .last .1 .1 .1 .0)
-ready c = record { relabelled = c .before .before .before .before .before .before .pre .0; compiled = c .compile .ensures }
+    → Ready (now (c .before .before .before .before .before .args .block)) (c .compile .last .1 .0) (c .compile .last .1 .1 .0)
+ready c = record { relabelled = c .before .before .before .before .before .pre .0; compiled = c .compile .ensures .0 }
 
 compile-requires : tie.Need-compile-requires
 compile-requires c κs = search needs
@@ -27,7 +28,8 @@ settle-requires : tie.Need-settle-requires
 settle-requires c κs =
     let d = c .before .before .before .before .before .before .before in
     let e = d .before .before .before .before .before .before .before .before in
-    (ready (e .before .before .before .before .before .before), e .clear .ensures .0, d .spread .ensures)
+    let s = d .spread .ensures in
+    ((ready (e .before .before .before .before .before), e .clear .ensures .0, s .0), s .1)
 
 same-length : tie.Need-same-length
 same-length c = search needs
@@ -35,12 +37,13 @@ same-length c = search needs
 returns : tie.Need-returns
 returns c =
     let d = c .before .before in
-    let e = d .before .before .before .before .before .before .before .before .before .before .before .before .before .before .before .before .before .before .before .before .before .before in
-    let a = now (e .before .before .before .before .before .before .args .block) in
-    let words = e .compile .last .1 .0 in
-    let moves = e .compile .last .1 .1 .0 in
-    let weights = e .compile .last .1 .1 .1 .0 in
-    least-costs-only (graphOf a) (cheap a words moves weights (ready e)) (few a words moves weights (ready e)) (d .settle .last .1 .1 .1 .1 .1 .0) (d .settle .ensures)
+    let k = d .before .before .before .before .before .before .before .before in
+    let e = k .before .before .before .before .before .before .before .before .before .before .before .before .before in
+    let a = now (e .before .before .before .before .before .args .block) in
+    let code = e .compile .last .1 .0 in
+    let weights = e .compile .last .1 .1 .0 in
+    least-costs-only (graphOf a) (cheap a code weights (ready e)) (few a code weights (ready e))
+    (d .settle .last .1 .1 .1 .1 .0) (d .settle .ensures)
 
 pub fill-relabelled-spec : {M : Type 1} → statement M
 fill-relabelled-spec =

@@ -1,9 +1,10 @@
 -- `filling::spreading::expand` meets its contract.
--- The loop's invariant: the table is good; the set of rules falls.
+-- The loop's invariant: the table is good, and the queue's array keeps its length; the set of rules falls.
 use mathlib.Core.Path.{_≡_, sym, _∙_}
-use Prim.Native.Nat.{_≤_, _-_}
 use native.Mathlib.Omega.{arith}
+use lib.ListN.{length}
 use Rattle.blocks.specs.Layout as layout
+use Rattle.edge_ranks.specs.Lists.{listsLength}
 use Rattle.distances.specs.Filling.{Good}
 use Rattle.tables.specs.Abstraction.{graphOf}
 use borrow.Author.Needs.{needs}
@@ -11,11 +12,11 @@ use Rattle.filling.proofs.spreading.expand.Statement.{statement}
 use Rattle.filling.proofs.spreading.expand.Tie as tie
 
 abbrev Inv-loop : tie.InvT-loop
-Inv-loop block words moves weights ranked back-words back-moves groups back-sets table₀ links₀ v rules rest₀ table links rest =
-    (rules ≡ layout.rules block) × Good (graphOf block) table
+Inv-loop block code weights ranked back table₀ links₀ v rules rest₀ table links rest =
+    (rules ≡ layout.rules block) × Good (graphOf block) table × (length links ≡ listsLength)
 
 abbrev μ-loop : tie.MeasureT-loop
-μ-loop block words moves weights ranked back-words back-moves groups back-sets table₀ links₀ v rules rest₀ table links rest = rest
+μ-loop block code weights ranked back table₀ links₀ v rules rest₀ table links rest = rest
 
 rules-requires : tie.Need-rules-requires Inv-loop μ-loop
 rules-requires c κs = search needs
@@ -30,25 +31,31 @@ element-copy-out-agreeing-with : tie.Need-element-copy-out-agreeing-with Inv-loo
 element-copy-out-agreeing-with c = search needs
 
 agreeing-with-requires : tie.Need-agreeing-with-requires Inv-loop μ-loop
-agreeing-with-requires c κs = omega (arith, c .before .positions .ensures .0, c .before .before .before .before .before .pre .0 .0 .relabelled .valid .sized .head .sizes .n-high)
+agreeing-with-requires c κs =
+    let z = c .before .before .before .before .before .pre .0 .0 .relabelled .valid .sized .head .sizes in
+    omega (arith, c .before .positions .ensures .0, z .n-high)
 
 loop-holds : tie.Need-loop-holds Inv-loop μ-loop
-loop-holds c = (c .before .before .before .rules .ensures .0, c .before .before .before .before .before .before .pre .0 .2)
+loop-holds c =
+    let p = c .before .before .before .before .before .before .pre in
+    (c .before .before .before .rules .ensures .0, p .0 .2, p .1 .1)
 
 lowest-of-requires : tie.Need-lowest-of-requires Inv-loop μ-loop
 lowest-of-requires c κs = search needs
 
 same-length : tie.Need-same-length Inv-loop μ-loop
-same-length c = c .before .before .before .loop .inv .1 .len ∙ sym (c .before .before .before .before .before .before .before .before .before .before .pre .0 .2 .len)
+same-length c =
+    let l = c .before .before .before in
+    l .loop .inv .1 .len ∙ sym (l .before .before .before .before .before .before .before .pre .0 .2 .len)
 
 returns : tie.Need-returns Inv-loop μ-loop
-returns c = c .before .before .before .loop .inv .1
+returns c = let i = c .before .before .before .loop .inv in (i .1, i .2)
 
 pull-requires : tie.Need-pull-requires Inv-loop μ-loop
 pull-requires c κs =
     let p = c .before .before .before .before .before .before .before .before .before .before .before .before .pre in
     let l = c .before .before .before .before .before .loop in
-    ((p .0 .0, p .0 .1, l .inv .1), (omega (arith, l .inv .0, c .before .before .if1 .left), p .1))
+    ((p .0 .0, p .0 .1, l .inv .1), (omega (arith, l .inv .0, c .before .before .if1 .left), p .1 .0, l .inv .2))
 
 without-lowest-requires : tie.Need-without-lowest-requires Inv-loop μ-loop
 without-lowest-requires c κs = search needs
@@ -57,13 +64,17 @@ loop-less : tie.Need-loop-less Inv-loop μ-loop
 loop-less c = c .without-lowest .ensures .1
 
 loop-again : tie.Need-loop-again Inv-loop μ-loop
-loop-again c = (c .before .before .before .before .before .before .before .before .before .loop .inv .0, c .before .before .before .pull .ensures)
+loop-again c =
+    let d = c .before .before .before in
+    (d .before .before .before .before .before .before .loop .inv .0, d .pull .ensures .0, d .pull .ensures .1)
 
 same-length-2 : tie.Need-same-length-2 Inv-loop μ-loop
-same-length-2 c = c .before .loop .inv .1 .len ∙ sym (c .before .before .before .before .before .before .before .before .pre .0 .2 .len)
+same-length-2 c =
+    let l = c .before in
+    l .loop .inv .1 .len ∙ sym (l .before .before .before .before .before .before .before .pre .0 .2 .len)
 
 returns-2 : tie.Need-returns-2 Inv-loop μ-loop
-returns-2 c = c .before .loop .inv .1
+returns-2 c = let i = c .before .loop .inv in (i .1, i .2)
 
 pub expand-spec : {M : Type 1} → statement M
 expand-spec =

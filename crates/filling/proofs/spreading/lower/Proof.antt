@@ -1,32 +1,33 @@
 -- `filling::spreading::lower` meets its contract.
--- The entry after the rule leaves room for its cost, and the one write keeps the table good.
+-- An entry above the cost by a rule leaves room for that cost, and the one write keeps the table good; the queue's
+-- functions keep the length of its array.
+use mathlib.Core.Logic.{⊎-elim}
 use native.Mathlib.Omega.{arith}
 use denote.Ref.{now}
 use borrow.Author.Needs.{needs}
 use Rattle.blocks.specs.Layout.{ruleAt, costOf}
 use Rattle.distances.specs.Filling.{Cheap}
-use Rattle.distances.proofs.Writing.{room, good-write}
+use Rattle.distances.proofs.Writing.{good-write}
 use Rattle.tables.specs.Abstraction.{graphOf}
 use Rattle.filling.proofs.spreading.lower.Statement.{statement}
 use Rattle.filling.proofs.spreading.lower.Tie as tie
-
-mul-after : tie.Need-mul-after
-mul-after c = search needs
-
-slice-read-after : tie.Need-slice-read-after
-slice-read-after c = search needs
-
-add-new : tie.Need-add-new
-add-new c =
-    let s = c .before .before .before .before in
-    let p = s .pre .0 in
-    omega (arith, room (graphOf (now (s .args .block))) (now (s .args .table)) (p .good) (p .small) (s .args .v) (p .v-in) (c .if1 .taken))
 
 mul-old : tie.Need-mul-old
 mul-old c = search needs
 
 slice-read-old : tie.Need-slice-read-old
 slice-read-old c = search needs
+
+mul-new : tie.Need-mul-new
+mul-new c = search needs
+
+slice-read-new : tie.Need-slice-read-new
+slice-read-new c = search needs
+
+add-new : tie.Need-add-new
+add-new c =
+    let s = c .before .before .before .before in
+    omega (arith, s .pre .1, c .before .before .slice-known .given (s .args .u))
 
 list-of-requires : tie.Need-list-of-requires
 list-of-requires c κs = search needs
@@ -44,7 +45,10 @@ list-of-requires-2 : tie.Need-list-of-requires-2
 list-of-requires-2 c κs = search needs
 
 put-in-requires : tie.Need-put-in-requires
-put-in-requires c κs = search needs
+put-in-requires c κs =
+    let d = c .before .before in
+    let p = d .before .before .before .before .before .pre in
+    (search needs, search needs, ⊎-elim (λ w. rw (w .4) (w .3 .ensures)) (λ w. rw (w .1) (p .0 .3)) (d .if1 .came))
 
 same-length : tie.Need-same-length
 same-length c = search needs
@@ -52,28 +56,28 @@ same-length c = search needs
 returns : tie.Need-returns
 unfolding costOf
 returns c =
-    let e = c .before .before .before .before .before .before .before .before .before in
+    let d = c .before .before .before .before .before .before in
+    let e = d .before in
     let a = e .before .args in
-    let p = e .before .pre .0 in
-    let cheap : Cheap (graphOf (now (a .block))) = λ r l. omega (arith, e .shared-slice-known .given (ruleAt (now (a .block)) r)) in
-    good-write (graphOf (now (a .block))) (now (a .table)) (p .good) (p .small) cheap (a .u) (a .r) (a .v) _
-    (p .u-in) (p .r-in) (p .edge) (p .v-in) (c .before .before .before .before .before .before .if1 .taken) (omega arith) (c .before .before .before .before .if2 .taken)
-
-returns-2 : tie.Need-returns-2
-returns-2 c = search needs
-
-returns-3 : tie.Need-returns-3
-returns-3 c = search needs
+    let p = e .before .pre .0 .0 in
+    let b = now (a .block) in
+    let top = d .slice-known .given (a .u) in
+    let cheap : Cheap (graphOf b) = λ r l. omega (arith, e .shared-slice-known .given (ruleAt b r)) in (
+      good-write (graphOf b) (now (a .table)) (p .good) (p .small) cheap (a .u) (a .edge .rule) (a .edge .to) _
+          (p .u-in) (p .r-in) (p .edge) (p .v-in) (omega (arith, e .before .pre .1, top)) (omega arith)
+          (omega (arith, e .before .pre .1)),
+      c .put-in .ensures,
+    )
 
 pub lower-spec : {M : Type 1} → statement M
 lower-spec =
     tie.close
     (tie.spec
-    mul-after
-    slice-read-after
-    add-new
     mul-old
     slice-read-old
+    mul-new
+    slice-read-new
+    add-new
     list-of-requires
     take-out-requires
     mul-table
@@ -81,6 +85,4 @@ lower-spec =
     list-of-requires-2
     put-in-requires
     same-length
-    returns
-    returns-2
-    returns-3)
+    returns)

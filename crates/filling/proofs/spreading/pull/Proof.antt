@@ -1,20 +1,21 @@
 -- `filling::spreading::pull` meets its contract.
--- The loop's invariant: the table is good.
-use mathlib.Core.Path.{sym, _∙_}
+-- The loop's invariant: the table is good, and the queue's array keeps its length.
+use mathlib.Core.Path.{_≡_, sym, _∙_}
 use native.Mathlib.Omega.{arith}
+use lib.ListN.{length}
 use borrow.Author.Needs.{needs}
+use Rattle.edge_ranks.specs.Lists.{listsLength}
 use Rattle.distances.specs.Filling.{Good}
 use Rattle.tables.specs.Abstraction.{graphOf}
 use Rattle.filling.proofs.spreading.pull.Statement.{statement}
 use Rattle.filling.proofs.spreading.pull.Tie as tie
 
 abbrev Inv-loop : tie.InvT-loop
-Inv-loop block words moves weights ranked back-words back-moves groups table₀ links₀ r v after start w₀ left₀ table links w left =
-    Good (graphOf block) table
+Inv-loop block code weights ranked back table₀ links₀ edge r v after start w₀ left₀ table links w left =
+    Good (graphOf block) table × (length links ≡ listsLength)
 
 abbrev μ-loop : tie.MeasureT-loop
-μ-loop block words moves weights ranked back-words back-moves groups table₀ links₀ r v after start w₀ left₀ table links w left =
-    left
+μ-loop block code weights ranked back table₀ links₀ edge r v after start w₀ left₀ table links w left = left
 
 mul-after : tie.Need-mul-after Inv-loop μ-loop
 mul-after c = search needs
@@ -26,35 +27,43 @@ applies-word-requires : tie.Need-applies-word-requires Inv-loop μ-loop
 applies-word-requires c κs = search needs
 
 returns : tie.Need-returns Inv-loop μ-loop
-returns c = c .before .before .before .before .before .pre .0 .2
+returns c = let p = c .before .before .before .before .before .pre in (p .0 .2, p .1 .2)
 
 step-word-requires : tie.Need-step-word-requires Inv-loop μ-loop
 step-word-requires c κs = search needs
 
 loop-holds : tie.Need-loop-holds Inv-loop μ-loop
-loop-holds c = c .before .before .before .before .before .before .pre .0 .2
+loop-holds c = let p = c .before .before .before .before .before .before .pre in (p .0 .2, p .1 .2)
 
 try-candidate-requires : tie.Need-try-candidate-requires Inv-loop μ-loop
 try-candidate-requires c κs =
     let p = c .before .before .before .before .before .before .before .before .before .before .pre in
-    ((p .0 .0, p .0 .1, c .before .before .before .loop .inv), p .1)
+    let i = c .before .before .before .loop .inv in
+    ((p .0 .0, p .0 .1, i .0), (p .1 .0, p .1 .1, i .1))
 
 same-length : tie.Need-same-length Inv-loop μ-loop
-same-length c = c .before .before .before .try-candidate .ensures .len ∙ sym (c .before .before .before .before .before .before .before .before .before .before .before .before .before .before .pre .0 .2 .len)
+same-length c =
+    let d = c .before .before .before in
+    d .try-candidate .ensures .0 .len ∙ sym (d .before .before .before .before .before .before .before .before .before .before .before .pre .0 .2 .len)
 
 returns-2 : tie.Need-returns-2 Inv-loop μ-loop
 returns-2 c = c .before .before .before .try-candidate .ensures
 
 abstracts-requires : tie.Need-abstracts-requires Inv-loop μ-loop
-abstracts-requires c κs = c .before .before .before .before .before .before .before .before .before .before .before .before .before .before .pre .0 .0 .relabelled .valid .sized .head .long
+abstracts-requires c κs =
+    let d = c .before .before .before .before .before .before .before in
+    d .before .before .before .before .before .before .before .pre .0 .0 .relabelled .valid .sized .head .long
 
 next-candidate-requires : tie.Need-next-candidate-requires Inv-loop μ-loop
 next-candidate-requires c κs =
-    let s = c .before .before .before .before .before .before .before .before .before .before .before .before .before .before .before .pre .0 .0 .relabelled .valid .sized .head .sizes in
+    let d = c .before .before .before .before .before .before .before .before in
+    let s = d .before .before .before .before .before .before .before .pre .0 .0 .relabelled .valid .sized .head .sizes in
     (omega (arith, s .k-high, s .l-high, c .abstracts .ensures .0), omega (arith, s .r-high))
 
 same-length-2 : tie.Need-same-length-2 Inv-loop μ-loop
-same-length-2 c = c .before .before .before .before .before .before .try-candidate .ensures .len ∙ sym (c .before .before .before .before .before .before .before .before .before .before .before .before .before .before .before .before .before .pre .0 .2 .len)
+same-length-2 c =
+    let d = c .before .before .before .before .before .before in
+    d .try-candidate .ensures .0 .len ∙ sym (d .before .before .before .before .before .before .before .before .before .before .before .pre .0 .2 .len)
 
 returns-3 : tie.Need-returns-3 Inv-loop μ-loop
 returns-3 c = c .before .before .before .before .before .before .try-candidate .ensures
@@ -69,7 +78,9 @@ loop-again : tie.Need-loop-again Inv-loop μ-loop
 loop-again c = c .before .before .before .before .before .before .try-candidate .ensures
 
 same-length-3 : tie.Need-same-length-3 Inv-loop μ-loop
-same-length-3 c = c .before .loop .inv .len ∙ sym (c .before .before .before .before .before .before .before .before .pre .0 .2 .len)
+same-length-3 c =
+    let l = c .before in
+    l .loop .inv .0 .len ∙ sym (l .before .before .before .before .before .before .before .pre .0 .2 .len)
 
 returns-4 : tie.Need-returns-4 Inv-loop μ-loop
 returns-4 c = c .before .loop .inv

@@ -1,18 +1,22 @@
 -- `filling::spreading::run_queue` meets its contract.
--- The loop's invariant: the list is one of the queue's, and the table is good.
+-- The loop's invariant: the list is one of the queue's, whose array keeps its length, and the table is good.
+use mathlib.Core.Path.{_≡_}
 use Prim.Native.Nat.{_<_}
+use native.Mathlib.Omega.{arith}
+use lib.ListN.{length}
 use borrow.Author.Needs.{needs}
+use Rattle.edge_ranks.specs.Lists.{listsLength}
 use Rattle.distances.specs.Filling.{Good}
 use Rattle.tables.specs.Abstraction.{graphOf}
 use Rattle.filling.proofs.spreading.run_queue.Statement.{statement}
 use Rattle.filling.proofs.spreading.run_queue.Tie as tie
 
 abbrev Inv-loop : tie.InvT-loop
-Inv-loop block words moves weights ranked back-words back-moves groups back-sets table₀ links₀ list₀ left₀ table links list left =
-    (list < 256) × Good (graphOf block) table
+Inv-loop block code weights ranked back table₀ links₀ list₀ left₀ table links list left =
+    (list < 256) × Good (graphOf block) table × (length links ≡ listsLength)
 
 abbrev μ-loop : tie.MeasureT-loop
-μ-loop block words moves weights ranked back-words back-moves groups back-sets table₀ links₀ list₀ left₀ table links list left = left
+μ-loop block code weights ranked back table₀ links₀ list₀ left₀ table links list left = left
 
 loop-holds : tie.Need-loop-holds Inv-loop μ-loop
 loop-holds c = search needs
@@ -33,7 +37,11 @@ take-out-requires : tie.Need-take-out-requires Inv-loop μ-loop
 take-out-requires c κs = search needs
 
 expand-requires : tie.Need-expand-requires Inv-loop μ-loop
-expand-requires c κs = search needs
+expand-requires c κs =
+    let l = c .before .before .before .before .before .before .before .before .before .before in
+    let p = l .before .before .before .pre in
+    let i = l .loop .inv in
+    ((p .0 .0, p .0 .1, i .1), (omega (arith, i .1 .len), c .before .before .take-out .ensures))
 
 sub-left : tie.Need-sub-left Inv-loop μ-loop
 sub-left c = search needs

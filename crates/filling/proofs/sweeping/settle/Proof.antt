@@ -1,5 +1,6 @@
 -- `filling::sweeping::settle` meets its contract.
--- A table that passes is left as it is. The loop's invariant: the table is good. The sum of its entries falls with every pass but the last.
+-- A table that passes is left as it is. The loop's invariant: the table is good. The sum of its entries falls with every
+-- pass but the last.
 use mathlib.Core.Path.{_≡_, refl, _∙_}
 use native.Mathlib.Omega.{arith}
 use lib.ListN.{length}
@@ -13,24 +14,29 @@ use Rattle.filling.proofs.sweeping.settle.Statement.{statement}
 use Rattle.filling.proofs.sweeping.settle.Tie as tie
 
 abbrev Inv-loop : tie.InvT-loop
-Inv-loop block words moves weights ranked table₀ lowered₀ table lowered = (length table ≡ length table₀) × Good (graphOf block) table
+Inv-loop block code weights ranked table₀ lists lowered₀ table lowered =
+    (length table ≡ length table₀) × Good (graphOf block) table
 
 abbrev μ-loop : tie.MeasureT-loop
-μ-loop block words moves weights ranked table₀ lowered₀ table lowered = total table
+μ-loop block code weights ranked table₀ lists lowered₀ table lowered = total table
 
 passes-by-sides-requires : tie.Need-passes-by-sides-requires Inv-loop μ-loop
-passes-by-sides-requires c κs = let s = c .before .before .before in (s .pre .0, omega (arith, s .pre .2 .len))
+passes-by-sides-requires c κs =
+    let p = c .before .before .before .before .pre in
+    (p .0 .0, omega (arith, p .0 .2 .len), p .1)
 
 same-length : tie.Need-same-length Inv-loop μ-loop
 same-length c = refl
 
 returns : tie.Need-returns Inv-loop μ-loop
 returns c =
-    let s = c .before .before .before .before .before in
-    exact (graphOf (now (s .args .block))) (now (s .args .table)) (s .pre .2) (c .before .passes-by-sides .ensures (c .if1 .taken)) (λ u. omega (arith, c .before .before .before .slice-known .given u))
+    let k = c .before .before .before .before in
+    let s = k .before .before in
+    exact (graphOf (now (s .args .block))) (now (s .args .table)) (s .pre .0 .2)
+    (c .before .passes-by-sides .ensures .0 (c .if1 .taken)) (λ u. omega (arith, k .slice-known .given u))
 
 loop-holds : tie.Need-loop-holds Inv-loop μ-loop
-loop-holds c = (refl, c .before .before .before .before .before .pre .2)
+loop-holds c = (refl, c .before .before .before .before .before .before .pre .0 .2)
 
 sweep-requires : tie.Need-sweep-requires Inv-loop μ-loop
 sweep-requires c κs = search needs
@@ -38,13 +44,15 @@ sweep-requires c κs = search needs
 same-length-2 : tie.Need-same-length-2 Inv-loop μ-loop
 same-length-2 c =
     let d = c .before .before .before in
-    d .sweep .kept .1 .1 .1 .1 .1 .0 ∙ d .before .before .loop .inv .0
+    d .sweep .kept .1 .1 .1 .1 .0 ∙ d .before .before .loop .inv .0
 
 returns-2 : tie.Need-returns-2 Inv-loop μ-loop
 returns-2 c =
     let d = c .before .before .before in
+    let b = now (d .before .before .before .before .before .before .before .before .before .args .block) in
     let s = d .sweep .ensures in
-    exact (graphOf (now (c .before .before .before .before .before .before .before .before .before .before .before .args .block))) (d .sweep .last .1 .1 .1 .1 .1 .0) (s .good) (s .passes (not-true _ (c .if2 .taken))) (λ u. omega (arith, c .before .slice-known2 .given u))
+    exact (graphOf b) (d .sweep .last .1 .1 .1 .1 .0) (s .good) (s .passes (not-true _ (c .if2 .taken)))
+    (λ u. omega (arith, c .before .slice-known2 .given u))
 
 loop-less : tie.Need-loop-less Inv-loop μ-loop
 loop-less c = c .before .before .before .sweep .ensures .falls (not-false _ (c .if2 .left))
@@ -52,7 +60,7 @@ loop-less c = c .before .before .before .sweep .ensures .falls (not-false _ (c .
 loop-again : tie.Need-loop-again Inv-loop μ-loop
 loop-again c =
     let d = c .before .before .before in
-    (d .sweep .kept .1 .1 .1 .1 .1 .0 ∙ d .before .before .loop .inv .0, d .sweep .ensures .good)
+    (d .sweep .kept .1 .1 .1 .1 .0 ∙ d .before .before .loop .inv .0, d .sweep .ensures .good)
 
 pub settle-spec : {M : Type 1} → statement M
 settle-spec =

@@ -14,17 +14,17 @@ use Rattle.filling.proofs.sweeping.sweep.Statement.{statement}
 use Rattle.filling.proofs.sweeping.sweep.Tie as tie
 
 abbrev Inv-loop : tie.InvT-loop
-Inv-loop block words moves weights ranked table₀ fell₀ u₀ table fell u =
+Inv-loop block code weights ranked table₀ fell₀ u₀ table fell u =
     (u ≤ abstractStates block) × (abstractStates block ≤ 16384) × Sweeping (graphOf block) table₀ table fell u
 
 abbrev μ-loop : tie.MeasureT-loop
-μ-loop block words moves weights ranked table₀ fell₀ u₀ table fell u = abstractStates block - u
+μ-loop block code weights ranked table₀ fell₀ u₀ table fell u = abstractStates block - u
 
 loop-holds : tie.Need-loop-holds Inv-loop μ-loop
 loop-holds c =
     let s = c .before .before in
     let a = s .args in
-    (search needs, few (now (a .block)) (now (a .words)) (now (a .moves)) (now (a .weights)) (s .pre .0), sweep-none (graphOf (now (a .block))) (now (a .table)) (s .pre .2) (λ w. omega (arith, c .slice-known .given w)))
+    (search needs, few (now (a .block)) (now (a .code)) (now (a .weights)) (s .pre .0), sweep-none (graphOf (now (a .block))) (now (a .table)) (s .pre .2) (λ w. omega (arith, c .slice-known .given w)))
 
 mul-best : tie.Need-mul-best Inv-loop μ-loop
 mul-best c = search needs
@@ -70,7 +70,7 @@ loop-again c =
     let a = s .args in
     let g = graphOf (now (a .block)) in
     let x = d .best .result in
-    let costs = cheap (now (a .block)) (now (a .words)) (now (a .moves)) (now (a .weights)) (s .pre .0) in
+    let costs = cheap (now (a .block)) (now (a .code)) (now (a .weights)) (s .pre .0) in
     let i = l .inv .2 in
     ⊎-elim
     (λ w.
@@ -97,7 +97,7 @@ returns c =
     let s = c .before .before .before .before in
     let a = s .args in
     let l = c .before .loop in
-    sweep-all (graphOf (now (a .block))) (l .inv .1) (cheap (now (a .block)) (now (a .words)) (now (a .moves)) (now (a .weights)) (s .pre .0))
+    sweep-all (graphOf (now (a .block))) (l .inv .1) (cheap (now (a .block)) (now (a .code)) (now (a .weights)) (s .pre .0))
     (now (a .table)) (l .table) (l .fell) (l .u) (l .inv .2) (omega arith)
 
 pub sweep-spec : {M : Type 1} → statement M

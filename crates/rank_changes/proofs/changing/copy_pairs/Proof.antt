@@ -6,31 +6,32 @@ use native.Mathlib.Omega.{arith}
 use denote.Ref.{now}
 use lib.ListN.{length, getD, length-set}
 use Rattle.basics.proofs.Lists.{set-more}
+use Rattle.words.specs.Changes.{changesLength}
 use borrow.Author.Needs.{needs}
 use Rattle.rank_changes.proofs.changing.copy_pairs.Statement.{statement}
 use Rattle.rank_changes.proofs.changing.copy_pairs.Tie as tie
 
 abbrev Inv-loop : tie.InvT-loop
-Inv-loop pairs weights₀ k₀ weights k =
-    (k ≤ 2048) × (length weights ≡ 19584) × ((j : ℕ) → j < k → getD weights j 0 ≡ getD pairs j 0)
+Inv-loop pairs changes₀ k₀ changes k =
+    (k ≤ 2048) × (length changes ≡ changesLength) × ((j : ℕ) → j < k → getD changes j 0 ≡ getD pairs j 0)
 
 abbrev μ-loop : tie.MeasureT-loop
-μ-loop pairs weights₀ k₀ weights k = 2048 - k
+μ-loop pairs changes₀ k₀ changes k = 2048 - k
 
 loop-holds : tie.Need-loop-holds Inv-loop μ-loop
 loop-holds c = (search needs, c .pre, λ j l. absurd (omega arith))
 
-mul-weights : tie.Need-mul-weights Inv-loop μ-loop
-mul-weights c = search needs
+mul-changes : tie.Need-mul-changes Inv-loop μ-loop
+mul-changes c = search needs
 
-element-copy-out-weights : tie.Need-element-copy-out-weights Inv-loop μ-loop
-element-copy-out-weights c = search needs
+element-copy-out-changes : tie.Need-element-copy-out-changes Inv-loop μ-loop
+element-copy-out-changes c = search needs
 
-mul-weights-2 : tie.Need-mul-weights-2 Inv-loop μ-loop
-mul-weights-2 c = search needs
+mul-changes-2 : tie.Need-mul-changes-2 Inv-loop μ-loop
+mul-changes-2 c = search needs
 
-element-write-weights : tie.Need-element-write-weights Inv-loop μ-loop
-element-write-weights c = search needs
+element-write-changes : tie.Need-element-write-changes Inv-loop μ-loop
+element-write-changes c = search needs
 
 add-k : tie.Need-add-k Inv-loop μ-loop
 add-k c = search needs
@@ -43,8 +44,8 @@ loop-again c =
     let l = c .before .before .loop in
     let f : ℕ → ℕ = λ j. getD (now (c .before .before .before .args .pairs)) j 0 in (
       search needs,
-      length-set (l .weights) (l .k) (f (l .k)) ∙ l .inv .1,
-      set-more f (l .weights) (l .k) (f (l .k)) (l .inv .2) (omega arith) refl,
+      length-set (l .changes) (l .k) (f (l .k)) ∙ l .inv .1,
+      set-more f (l .changes) (l .k) (f (l .k)) (l .inv .2) (omega arith) refl,
     )
 
 returns : tie.Need-returns Inv-loop μ-loop
@@ -57,10 +58,10 @@ copy-pairs-spec =
     Inv-loop
     μ-loop
     loop-holds
-    mul-weights
-    element-copy-out-weights
-    mul-weights-2
-    element-write-weights
+    mul-changes
+    element-copy-out-changes
+    mul-changes-2
+    element-write-changes
     add-k
     loop-less
     loop-again

@@ -1,6 +1,7 @@
 -- `rank_changes::changing::place_change` meets its contract.
--- Both sides lie in the block, and every right variable stands on the left.
+-- Both sides lie in the block, and every right variable stands on the left; the constant is folded into the row of the first part, which is one of the positions.
 use mathlib.Core.Path.{refl, sym}
+use Prim.Native.Nat.{_<_}
 use native.Mathlib.Omega.{arith}
 use denote.Ref.{now}
 use Rattle.blocks.proofs.Accepted.{right-bound}
@@ -8,7 +9,7 @@ use Rattle.blocks.proofs.Offsets.{left-inside, right-inside}
 use Rattle.compiling.proofs.RulesPlaced.{named}
 use Rattle.rank_changes.specs.Rows.{Bound}
 use Rattle.rank_changes.proofs.RowSums.{balanced-as}
-use Rattle.rank_changes.proofs.RowFolds.{folded-as}
+use Rattle.rank_changes.proofs.RowFolds.{constant-folded, folded-as}
 use Rattle.rank_changes.proofs.PartsWritten.{parts-as}
 use Rattle.rank_changes.proofs.RankAfter.{change-placed}
 use borrow.Author.Needs.{needs}
@@ -48,55 +49,48 @@ fold-terms-requires c κs =
     let made = c .before .add-terms .ensures in
     (omega arith, omega (arith, h .0 .sized .head .sizes .n-high), made .low, made .constant-low)
 
+first-part-requires : tie.Need-first-part-requires
+first-part-requires c κs = search needs
+
+add-constant-requires : tie.Need-add-constant-requires
+add-constant-requires c κs = search needs
+
 place-parts-requires : tie.Need-place-parts-requires
-place-parts-requires c κs =
-    let h = c .before .before .before .before .before .before .before .before .before .before .pre in
-    (omega (arith, h .0 .sized .head .sizes .n-high, c .before .before .before .before .before .before .before .before .positions .ensures .0), omega (arith, h .0 .sized .head .sizes .r-high), h .3)
+place-parts-requires c κs = search needs
 
-mul-weights : tie.Need-mul-weights
-mul-weights c = search needs
+cast-changes : tie.Need-cast-changes
+cast-changes c = search needs
 
-add-weights : tie.Need-add-weights
-add-weights c = search needs
+-- the rule is one of 64
+few-rules : (c : tie.After-place-parts) → c .before .before .before .before .before .before .before .before .before .before .before .before .before .before .before .args .r < 64
+few-rules c = omega (arith, c .before .before .before .before .before .before .before .before .before .before .before .before .before .before .before .pre .0 .sized .head .sizes .r-high)
 
-mul-weights-2 : tie.Need-mul-weights-2
-mul-weights-2 c = search needs
+mul-changes : tie.Need-mul-changes
+mul-changes c = omega (arith, few-rules c)
 
-element-write-weights : tie.Need-element-write-weights
-element-write-weights c =
-    let h = c .before .before .before .before .before .before .before .before .before .before .before .pre in
-    omega (arith, h .0 .sized .head .sizes .r-high, c .place-parts .ensures .weights .len)
+add-changes : tie.Need-add-changes
+add-changes c = omega (arith, few-rules c)
 
-cast-weights : tie.Need-cast-weights
-cast-weights c =
-    omega (arith, c .place-parts .ensures .few, c .before .before .before .before .before .before .before .before .before .positions .ensures .0, c .before .before .before .before .before .before .before .before .before .before .before .pre .0 .sized .head .sizes .n-high)
+mul-changes-2 : tie.Need-mul-changes-2
+mul-changes-2 c = omega (arith, few-rules c)
 
-mul-weights-3 : tie.Need-mul-weights-3
-mul-weights-3 c = search needs
-
-add-weights-2 : tie.Need-add-weights-2
-add-weights-2 c = search needs
-
-add-weights-3 : tie.Need-add-weights-3
-add-weights-3 c = search needs
-
-mul-weights-4 : tie.Need-mul-weights-4
-mul-weights-4 c = search needs
-
-element-write-weights-2 : tie.Need-element-write-weights-2
-element-write-weights-2 c =
-    let h = c .before .before .before .before .before .before .before .before .before .before .before .pre in
-    omega (arith, h .0 .sized .head .sizes .r-high, c .place-parts .ensures .weights .len)
+element-write-changes : tie.Need-element-write-changes
+element-write-changes c = omega (arith, few-rules c)
 
 returns : tie.Need-returns
 returns c =
-    let s = c .before .before .before .before .before .before .before .before .before .before .before in
+    let s = c .before .before .before .before .before .before .before .before .before .before .before .before .before .before .before in
     let b = now (s .args .block) in
     let h = s .pre in
-    let n = c .before .before .before .before .before .before .before .before .before .positions .ensures .0 in
-    let left = c .before .before .before .before .before .before .before .before .left-at .ensures .0 in
-    let right = c .before .before .before .before .before .before .before .right-at .ensures .0 in
-    change-placed b (h .0) (h .2) (h .1) (balanced-as b n left right (c .before .before .before .before .before .add-terms .ensures)) (folded-as b n left (c .before .before .before .fold-terms .ensures)) (parts-as n (c .place-parts .ensures)) (h .3)
+    let n = c .before .before .before .before .before .before .before .before .before .before .before .before .before .positions .ensures .0 in
+    let left = c .before .before .before .before .before .before .before .before .before .before .before .before .left-at .ensures .0 in
+    let right = c .before .before .before .before .before .before .before .before .before .before .before .right-at .ensures .0 in
+    let first = c .before .before .before .before .before .first-part in
+    let balanced = balanced-as b n left right (c .before .before .before .before .before .before .before .before .before .add-terms .ensures) in
+    let folded =
+    constant-folded _ _ (first .result) (first .ensures) (c .before .before .before .before .before .before .before .fold-terms .ensures)
+    (c .before .before .before .add-constant .ensures) in
+    change-placed b (h .0) (h .2) (h .1) balanced (folded-as b n left folded) (omega arith) (parts-as n (c .place-parts .ensures)) (h .3)
 
 pub place-change-spec : {M : Type 1} → statement M
 place-change-spec =
@@ -107,15 +101,12 @@ place-change-spec =
     right-at-requires
     add-terms-requires
     fold-terms-requires
+    first-part-requires
+    add-constant-requires
     place-parts-requires
-    mul-weights
-    add-weights
-    mul-weights-2
-    element-write-weights
-    cast-weights
-    mul-weights-3
-    add-weights-2
-    add-weights-3
-    mul-weights-4
-    element-write-weights-2
+    cast-changes
+    mul-changes
+    add-changes
+    mul-changes-2
+    element-write-changes
     returns)

@@ -8,17 +8,18 @@ use borrow.Author.Count.{below-more}
 use Rattle.blocks.specs.Layout.{rules}
 use Rattle.rank_changes.specs.Changes.{ChangeAt}
 use Rattle.rank_changes.proofs.RankAfter.{change-kept}
+use Rattle.words.specs.Changes.{changesLength}
 use borrow.Author.Needs.{needs}
 use Rattle.rank_changes.proofs.changing.place_rule_changes.Statement.{statement}
 use Rattle.rank_changes.proofs.changing.place_rule_changes.Tie as tie
 
 abbrev Inv-loop : tie.InvT-loop
-Inv-loop block singles weights₀ count r₀ weights r =
-    (count ≡ rules block) × (r ≤ count) × (length weights ≡ 19584) × ((k : ℕ) → k < r → ChangeAt block weights k)
-    × ((k : ℕ) → k < 2048 → getD weights k 0 ≡ getD weights₀ k 0)
+Inv-loop block singles changes₀ count r₀ changes r =
+    (count ≡ rules block) × (r ≤ count) × (length changes ≡ changesLength) × ((k : ℕ) → k < r → ChangeAt block changes k)
+    × ((k : ℕ) → k < 2048 → getD changes k 0 ≡ getD changes₀ k 0)
 
 abbrev μ-loop : tie.MeasureT-loop
-μ-loop block singles weights₀ count r₀ weights r = count - r
+μ-loop block singles changes₀ count r₀ changes r = count - r
 
 rules-requires : tie.Need-rules-requires Inv-loop μ-loop
 rules-requires c κs = search needs
@@ -43,9 +44,9 @@ loop-again c =
     let p = c .place-change .ensures in (
       inv .0,
       search needs,
-      p .weights .len ∙ inv .2,
-      below-more _ _ (λ k l. change-kept k (λ j a m. p .weights .before j (omega arith)) (inv .3 k l)) (p .change),
-      λ k l. p .weights .before k (omega arith) ∙ inv .4 k l,
+      p .changes .len ∙ inv .2,
+      below-more _ _ (λ k l. change-kept k (λ j a m. p .changes .before j (omega arith)) (inv .3 k l)) (p .change),
+      λ k l. p .changes .before k (omega arith) ∙ inv .4 k l,
     )
 
 returns : tie.Need-returns Inv-loop μ-loop

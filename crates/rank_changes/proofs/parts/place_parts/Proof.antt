@@ -1,11 +1,10 @@
 -- `rank_changes::parts::place_parts` meets its contract.
--- The loop's invariant: the rows passed that add something are parts.
+-- The loop's invariant: of the rows passed those that add something, and that of the first part, are parts.
 use mathlib.Core.Path.{_≡_, sym, _∙_}
 use mathlib.Core.Logic.{⊎-elim}
 use Prim.Native.Nat.{_-_, _≤_}
 use native.Mathlib.Omega.{arith}
 use denote.Ref.{now}
-use borrow.Author.Tests.{not-false}
 use Rattle.rank_changes.specs.Parts.{PartsPlaced}
 use Rattle.rank_changes.proofs.PartsWritten.{parts-none, parts-as, part-more, plain-more}
 use borrow.Author.Needs.{needs}
@@ -13,25 +12,25 @@ use Rattle.rank_changes.proofs.parts.place_parts.Statement.{statement}
 use Rattle.rank_changes.proofs.parts.place_parts.Tie as tie
 
 abbrev Inv-loop : tie.InvT-loop
-Inv-loop rows n weights₀ r first count₀ p₀ weights count p = (p ≤ n) × PartsPlaced rows r p count weights₀ weights
+Inv-loop rows n first changes₀ r at count₀ p₀ changes count p = (p ≤ n) × PartsPlaced rows first r p count changes₀ changes
 
 abbrev μ-loop : tie.MeasureT-loop
-μ-loop rows n weights₀ r first count₀ p₀ weights count p = n - p
+μ-loop rows n first changes₀ r at count₀ p₀ changes count p = n - p
 
-mul-first : tie.Need-mul-first Inv-loop μ-loop
-mul-first c = search needs
+mul-at : tie.Need-mul-at Inv-loop μ-loop
+mul-at c = search needs
 
-add-first : tie.Need-add-first Inv-loop μ-loop
-add-first c = search needs
+add-at : tie.Need-add-at Inv-loop μ-loop
+add-at c = search needs
 
-add-first-2 : tie.Need-add-first-2 Inv-loop μ-loop
-add-first-2 c = search needs
+add-at-2 : tie.Need-add-at-2 Inv-loop μ-loop
+add-at-2 c = search needs
 
 loop-holds : tie.Need-loop-holds Inv-loop μ-loop
-loop-holds c = (search needs, parts-none (now (c .args .weights)))
+loop-holds c = (search needs, parts-none (now (c .args .changes)))
 
-is-plain-requires : tie.Need-is-plain-requires Inv-loop μ-loop
-is-plain-requires c κs = search needs
+is-part-requires : tie.Need-is-part-requires Inv-loop μ-loop
+is-part-requires c κs = search needs
 
 mul-place-part : tie.Need-mul-place-part Inv-loop μ-loop
 mul-place-part c = let few = c .before .before .before .before .loop .inv .1 .few in omega arith
@@ -44,7 +43,7 @@ place-part-requires c κs =
     let s = c .before .before .before .before .before in
     let l = c .before .before .before .before .loop in
     let few = l .inv .1 .few in
-    (omega arith, omega arith, l .inv .1 .weights .len ∙ s .pre .2)
+    (omega arith, omega arith, l .inv .1 .changes .len ∙ s .pre .2)
 
 add-count : tie.Need-add-count Inv-loop μ-loop
 add-count c = search needs
@@ -58,11 +57,11 @@ loop-less c = search needs
 loop-again : tie.Need-loop-again Inv-loop μ-loop
 loop-again c =
     let l = c .before .before .before .loop in
-    let k = c .before .is-plain in (
+    let k = c .before .is-part in (
       search needs,
       ⊎-elim
           (λ w. rw (w .3, w .4) (part-more (l .inv .1) (omega arith) (w .2 .ensures)))
-          (λ w. rw (w .1, w .2) (plain-more (l .inv .1) (sym (k .ensures) ∙ not-false (k .result) (w .0 .left))))
+          (λ w. rw (w .1, w .2) (plain-more (l .inv .1) (sym (k .ensures) ∙ w .0 .left)))
           (c .if1 .came),
     )
 
@@ -79,11 +78,11 @@ place-parts-spec =
     (tie.spec
     Inv-loop
     μ-loop
-    mul-first
-    add-first
-    add-first-2
+    mul-at
+    add-at
+    add-at-2
     loop-holds
-    is-plain-requires
+    is-part-requires
     mul-place-part
     add-place-part
     place-part-requires

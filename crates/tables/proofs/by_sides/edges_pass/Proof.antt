@@ -1,109 +1,48 @@
 -- `tables::by_sides::edges_pass` meets its contract.
--- The loop's invariant: the edges passed pass.
-use mathlib.Core.Path.{_≡_, refl, sym, ap, ap₂, _∙_}
-use mathlib.Core.Bool.{true}
-use mathlib.Core.Logic.{⊎-elim}
-use Prim.Native.Nat.{ℕ, _+_, _-_, _≤_, _<_}
+-- Ranks below the bound have entries.
+use mathlib.Core.Path.{refl}
+use native.Mathlib.Nat.{zero-add}
 use native.Mathlib.Omega.{arith}
-use denote.Ref.{now}
-use lib.ListN.{getD}
-use borrow.Author.Count.{below-more}
-use borrow.Author.Tests.{leb-true, not-false}
+use borrow.Author.Tests.{not-false}
 use Rattle.basics.proofs.Truth.{true-false}
-use Rattle.tables.specs.BySides.{EdgesPass}
 use borrow.Author.Needs.{needs}
 use Rattle.tables.proofs.by_sides.edges_pass.Statement.{statement}
 use Rattle.tables.proofs.by_sides.edges_pass.Tie as tie
 
-abbrev Inv-loop : tie.InvT-loop
-Inv-loop table sources targets count cost j₀ j = (j ≤ count) × EdgesPass table sources targets j cost
+rank-bound-requires : tie.Need-rank-bound-requires
+rank-bound-requires c κs = search needs
 
-abbrev μ-loop : tie.MeasureT-loop
-μ-loop table sources targets count cost j₀ j = count - j
+in-range-requires : tie.Need-in-range-requires
+in-range-requires c κs = search needs
 
-loop-holds : tie.Need-loop-holds Inv-loop μ-loop
-loop-holds c = (omega arith, λ i l. absurd (omega arith))
-
-mul-index : tie.Need-mul-index Inv-loop μ-loop
-mul-index c = search needs
-
-element-copy-out-index : tie.Need-element-copy-out-index Inv-loop μ-loop
-element-copy-out-index c = search needs
-
-index-requires : tie.Need-index-requires Inv-loop μ-loop
-index-requires c κs = search needs
-
-mul-index-2 : tie.Need-mul-index-2 Inv-loop μ-loop
-mul-index-2 c = search needs
-
-element-copy-out-index-2 : tie.Need-element-copy-out-index-2 Inv-loop μ-loop
-element-copy-out-index-2 c = search needs
-
-index-requires-2 : tie.Need-index-requires-2 Inv-loop μ-loop
-index-requires-2 c κs = search needs
-
-returns : tie.Need-returns Inv-loop μ-loop
+returns : tie.Need-returns
 returns c = λ e. absurd (true-false e refl)
 
-returns-2 : tie.Need-returns-2 Inv-loop μ-loop
+in-range-requires-2 : tie.Need-in-range-requires-2
+in-range-requires-2 c κs = search needs
+
+returns-2 : tie.Need-returns-2
 returns-2 c = λ e. absurd (true-false e refl)
 
-mul-entry-passes : tie.Need-mul-entry-passes Inv-loop μ-loop
-mul-entry-passes c = search needs
+entries-pass-requires : tie.Need-entries-pass-requires
+entries-pass-requires c κs =
+    let s = c .before .before .before .before .before .before in
+    let bound = c .before .before .before .before .rank-bound .ensures in
+    let first = c .before .before .before .in-range .ensures (not-false _ (c .before .before .if1 .left)) in
+    let second = c .before .in-range2 .ensures (not-false _ (c .if2 .left)) in
+    (s .pre, (λ j l. omega (arith, rw (zero-add j) at (first j l), bound), λ j l. omega (arith, second j l, bound)))
 
-shared-slice-read-entry-passes : tie.Need-shared-slice-read-entry-passes Inv-loop μ-loop
-shared-slice-read-entry-passes c = search needs
-
-mul-entry-passes-2 : tie.Need-mul-entry-passes-2 Inv-loop μ-loop
-mul-entry-passes-2 c = search needs
-
-shared-slice-read-entry-passes-2 : tie.Need-shared-slice-read-entry-passes-2 Inv-loop μ-loop
-shared-slice-read-entry-passes-2 c = search needs
-
-entry-passes-requires : tie.Need-entry-passes-requires Inv-loop μ-loop
-entry-passes-requires c κs = search needs
-
-returns-3 : tie.Need-returns-3 Inv-loop μ-loop
-returns-3 c = λ e. absurd (true-false e refl)
-
-add-j : tie.Need-add-j Inv-loop μ-loop
-add-j c = search needs
-
-loop-less : tie.Need-loop-less Inv-loop μ-loop
-loop-less c = search needs
-
-loop-again : tie.Need-loop-again Inv-loop μ-loop
-loop-again c =
-    let l = c .before .before .before .before .before .before .before .before .before .before .before .loop in
-    let i = c .before .before .before .before .before .before .before .before .index .ensures in
-    let k = c .before .before .before .before .before .before .index2 .ensures in
-    (omega arith, below-more _ _ (l .inv .1) (rw (sym i, sym k) (c .before .entry-passes .ensures (not-false _ (c .if3 .left)))))
-
-returns-4 : tie.Need-returns-4 Inv-loop μ-loop
-returns-4 c = λ e i l. c .before .loop .inv .1 i (omega arith)
+returns-3 : tie.Need-returns-3
+returns-3 c = search needs
 
 pub edges-pass-spec : {M : Type 1} → statement M
 edges-pass-spec =
     tie.close
     (tie.spec
-    Inv-loop
-    μ-loop
-    loop-holds
-    mul-index
-    element-copy-out-index
-    index-requires
-    mul-index-2
-    element-copy-out-index-2
-    index-requires-2
+    rank-bound-requires
+    in-range-requires
     returns
+    in-range-requires-2
     returns-2
-    mul-entry-passes
-    shared-slice-read-entry-passes
-    mul-entry-passes-2
-    shared-slice-read-entry-passes-2
-    entry-passes-requires
-    returns-3
-    add-j
-    loop-less
-    loop-again
-    returns-4)
+    entries-pass-requires
+    returns-3)

@@ -1,13 +1,8 @@
 -- `tables::by_sides::entry_passes` meets its contract.
-use mathlib.Core.Path.{_≡_, refl, sym, ap, ap₂, _∙_}
-use mathlib.Core.Bool.{true}
-use mathlib.Core.Logic.{⊎-elim}
-use Prim.Native.Nat.{ℕ, _+_, _-_, _≤_, _<_}
+use mathlib.Core.Path.{refl}
+use Prim.Native.Nat.{_+_}
 use native.Mathlib.Omega.{arith}
-use denote.Ref.{now}
-use lib.ListN.{getD}
-use borrow.Author.Count.{below-more}
-use borrow.Author.Tests.{leb-true, not-false}
+use borrow.Author.Tests.{leb-true}
 use Rattle.basics.proofs.Truth.{true-false}
 use borrow.Author.Needs.{needs}
 use Rattle.tables.proofs.by_sides.entry_passes.Statement.{statement}

@@ -1,20 +1,13 @@
 -- `tables::by_sides::goal_passes` meets its contract.
-use mathlib.Core.Path.{_≡_, refl, sym, ap, _∙_}
-use mathlib.Core.Bool.{true}
-use Prim.Native.Nat.{ℕ, _+_, _-_, _*_, _≤_, _<_}
+-- Labels add to the ranks by the goal's side, so its states are listed, and the entries at the ranks listed are 0.
+use mathlib.Core.Path.{refl}
 use native.Mathlib.Omega.{arith}
 use denote.Ref.{now}
-use lib.ListN.{length}
-use borrow.Author.Count.{below-more}
-use borrow.Author.Tests.{not-true, not-false}
+use borrow.Author.Needs.{needs}
 use Rattle.basics.proofs.Truth.{true-false}
 use Rattle.tables.proofs.SideTests.{goal-first, goal-second, goal-listed}
-use borrow.Author.Needs.{needs}
 use Rattle.tables.proofs.by_sides.goal_passes.Statement.{statement}
 use Rattle.tables.proofs.by_sides.goal_passes.Tie as tie
-
-positions-requires : tie.Need-positions-requires
-positions-requires c κs = search needs
 
 add-find-edges : tie.Need-add-find-edges
 add-find-edges c = search needs
@@ -27,20 +20,27 @@ labels-requires c κs = search needs
 
 find-edges-requires : tie.Need-find-edges-requires
 find-edges-requires c κs =
-    let s = c .before .before .before .before .before .before in
+    let s = c .before .before .before .before in
     let a = s .args in
-    let z = s .pre .0 .0 .relabelled .valid .sized .head .sizes in
-    let p = c .before .before .before .positions .ensures .0 in
-    let q = c .before .before .labels .ensures .0 in (
-      (omega (arith, p, z .n-high), omega (arith, s .pre .0 .2, z .g-high), omega (arith, s .pre .0 .2, z .g-high), omega (arith, q, z .l-high), s .pre .1 .0, s .pre .1 .1),
+    let ready = s .pre .0 in
+    let z = ready .relabelled .valid .sized .head .sizes in
+    let n = ready .compiled .counted .positions-told in
+    let k = c .before .labels .ensures .0 in (
       (
-        rw (p, q) (goal-first (now (a .block)) (now (a .words)) (now (a .moves)) (now (a .weights)) (s .pre .0 .0) (a .g) (s .pre .0 .2)),
-        rw (p, q) (goal-second (now (a .block)) (now (a .words)) (now (a .moves)) (now (a .weights)) (s .pre .0 .0) (a .g) (s .pre .0 .2)),
+        omega (arith, n, z .n-high),
+        omega (arith, s .pre .2, z .g-high),
+        omega (arith, s .pre .2, z .g-high),
+        omega (arith, k, z .l-high),
+        s .pre .3,
+      ),
+      (
+        rw k (goal-first (now (a .block)) (now (a .code)) (now (a .weights)) ready (a .g) (s .pre .2)),
+        rw k (goal-second (now (a .block)) (now (a .code)) (now (a .weights)) ready (a .g) (s .pre .2)),
       ),
     )
 
 returns : tie.Need-returns
-returns c = (λ e. absurd (true-false e refl), (c .before .find-edges .ensures .1 .1, c .before .find-edges .ensures .1 .2))
+returns c = (λ e. absurd (true-false e refl), c .before .find-edges .ensures .1 .1)
 
 zeros-requires : tie.Need-zeros-requires
 zeros-requires c κs = search needs
@@ -48,21 +48,20 @@ zeros-requires c κs = search needs
 returns-2 : tie.Need-returns-2
 returns-2 c =
     let f = c .before .before .before in
-    let s = f .before .before .before .before .before .before .before in
+    let s = f .before .before .before .before .before in
     let a = s .args in
-    let p = f .before .before .before .before .positions .ensures .0 in
-    let q = f .before .before .before .labels .ensures .0 in (
+    let k = f .before .before .labels .ensures .0 in (
       λ e.
-          goal-listed (now (a .block)) (now (a .words)) (now (a .moves)) (now (a .weights)) (s .pre .0 .0) (now (a .table)) (a .g) (s .pre .0 .2) (f .find-edges .last .1 .1 .1 .1 .1 .1 .1 .0) (f .find-edges .last .1 .1 .1 .1 .1 .1 .1 .1 .0) (f .find-edges .result)
-          (rw (p, q) at (f .find-edges .ensures .0 (omega (arith, c .before .before .if1 .left)))) (c .zeros .ensures e),
-      (f .find-edges .ensures .1 .1, f .find-edges .ensures .1 .2),
+          goal-listed (now (a .block)) (now (a .code)) (now (a .weights)) (s .pre .0) (now (a .table)) (a .g) (s .pre .2)
+          _ _ (f .find-edges .result)
+          (rw k at (f .find-edges .ensures .0 (omega (arith, c .before .before .if1 .left)))) (c .zeros .ensures e),
+      f .find-edges .ensures .1 .1,
     )
 
 pub goal-passes-spec : {M : Type 1} → statement M
 goal-passes-spec =
     tie.close
     (tie.spec
-    positions-requires
     add-find-edges
     add-find-edges-2
     labels-requires

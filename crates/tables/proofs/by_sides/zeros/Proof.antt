@@ -1,25 +1,23 @@
 -- `tables::by_sides::zeros` meets its contract.
 -- The loop's invariant: the entries at the ranks passed are 0.
-use mathlib.Core.Path.{_≡_, refl, sym, ap, ap₂, _∙_}
-use mathlib.Core.Bool.{true}
-use mathlib.Core.Logic.{⊎-elim}
-use Prim.Native.Nat.{ℕ, _+_, _-_, _≤_, _<_}
+use mathlib.Core.Path.{refl, sym, ap, _∙_}
+use Prim.Native.Nat.{ℕ, _-_, _≤_}
 use native.Mathlib.Omega.{arith}
 use denote.Ref.{now}
 use lib.ListN.{getD}
 use borrow.Author.Count.{below-more}
-use borrow.Author.Tests.{leb-true, not-false}
 use Rattle.basics.proofs.Truth.{true-false}
+use Rattle.edge_ranks.specs.Lists.{sourceAt}
 use Rattle.tables.specs.BySides.{Zeros}
 use borrow.Author.Needs.{needs}
 use Rattle.tables.proofs.by_sides.zeros.Statement.{statement}
 use Rattle.tables.proofs.by_sides.zeros.Tie as tie
 
 abbrev Inv-loop : tie.InvT-loop
-Inv-loop table sources count j₀ j = (j ≤ count) × Zeros table sources j
+Inv-loop table lists count j₀ j = (j ≤ count) × Zeros table (sourceAt lists) j
 
 abbrev μ-loop : tie.MeasureT-loop
-μ-loop table sources count j₀ j = count - j
+μ-loop table lists count j₀ j = count - j
 
 loop-holds : tie.Need-loop-holds Inv-loop μ-loop
 loop-holds c = (omega arith, λ i l. absurd (omega arith))

@@ -13,10 +13,11 @@ use Rattle.tables.proofs.edges.best.Statement.{statement}
 use Rattle.tables.proofs.edges.best.Tie as tie
 
 abbrev Inv-loop : tie.InvT-loop
-Inv-loop block words moves weights table u word rules least₀ r₀ least r = (rules ≡ layout.rules block) × (r ≤ rules) × BestBelow (graphOf block) table u r least
+Inv-loop block code weights table u word rules least₀ r₀ least r =
+    (rules ≡ layout.rules block) × (r ≤ rules) × BestBelow (graphOf block) table u r least
 
 abbrev μ-loop : tie.MeasureT-loop
-μ-loop block words moves weights table u word rules least₀ r₀ least r = rules - r
+μ-loop block code weights table u word rules least₀ r₀ least r = rules - r
 
 rules-requires : tie.Need-rules-requires Inv-loop μ-loop
 rules-requires c κs = search needs

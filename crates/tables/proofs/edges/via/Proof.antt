@@ -22,7 +22,7 @@ led :
 led c =
     let s = c .before .before .before .before .before .before .before .before in
     let a = s .args in
-    leads-to (now (a .block)) (now (a .words)) (now (a .moves)) (now (a .weights)) (s .pre .0 .0) (a .u) (a .word) (a .r) (s .pre .1 .1) (s .pre .1 .2)
+    leads-to (now (a .block)) (now (a .code)) (now (a .weights)) (s .pre .0 .0) (a .u) (a .word) (a .r) (s .pre .1 .1) (s .pre .1 .2)
     (c .before .before .positions .result) (c .before .step-word .result) (c .rank-word .result)
     (sym (c .before .before .before .before .before .applies-word .ensures) ∙ not-false _ (c .before .before .before .before .if1 .left))
     (c .before .before .positions .ensures .0) (c .before .step-word .ensures) (c .rank-word .ensures)
@@ -34,7 +34,7 @@ returns : tie.Need-returns
 returns c =
     let s = c .before .before .before .before in
     let a = s .args in
-    sym (no-cost (now (a .block)) (now (a .words)) (now (a .moves)) (now (a .weights)) (s .pre .0 .0) (a .u) (a .word) (a .r) (s .pre .1 .1) (s .pre .1 .2)
+    sym (no-cost (now (a .block)) (now (a .code)) (now (a .weights)) (s .pre .0 .0) (a .u) (a .word) (a .r) (s .pre .1 .1) (s .pre .1 .2)
     (now (a .table)) (sym (c .before .applies-word .ensures) ∙ not-true _ (c .if1 .taken)))
 
 positions-requires : tie.Need-positions-requires

@@ -28,7 +28,7 @@ entries c v = omega (arith, c .shared-slice-known2 .given v)
 costs : (c : tie.After-shared-slice-known2) → Cheap (graphOf (now (c .before .before .args .block)))
 costs c =
     let s = c .before .before in
-    cheap (now (s .args .block)) (now (s .args .words)) (now (s .args .moves)) (now (s .args .weights)) (s .pre .0 .0)
+    cheap (now (s .args .block)) (now (s .args .code)) (now (s .args .weights)) (s .pre .0 .0)
 
 -- the goal test
 goal-there :
@@ -39,8 +39,8 @@ goal-there c =
     let s = c .before .before .before .before .before .before in
     let a = s .args in
     sym
-    (c .meets-word .ensures ∙ ap₂ (meetsWord (now (a .words)) (now (a .moves))) (c .before .goals .ensures .0) (s .pre .1 .1)
-    ∙ word-goal (now (a .block)) (now (a .words)) (now (a .moves)) (now (a .weights)) (s .pre .0 .0) (a .u))
+    (c .meets-word .ensures ∙ ap₂ (meetsWord (now (a .code))) (c .before .goals .ensures .0) (s .pre .1 .1)
+    ∙ word-goal (now (a .block)) (now (a .code)) (now (a .weights)) (s .pre .0 .0) (a .u))
 
 -- where the ways of the first test meet, the entry of a goal is 0
 zero-there :

@@ -16,11 +16,11 @@ use Rattle.tables.proofs.lower_bound.passes_everywhere.Statement.{state
 use Rattle.tables.proofs.lower_bound.passes_everywhere.Tie as tie
 
 abbrev Inv-loop : tie.InvT-loop
-Inv-loop block words moves weights table states u₀ u =
+Inv-loop block code weights table states u₀ u =
     (states ≡ abstractStates block) × (u ≤ states) × ((w : ℕ) → w < u → passesAt (graphOf block) table w ≡ true)
 
 abbrev μ-loop : tie.MeasureT-loop
-μ-loop block words moves weights table states u₀ u = states - u
+μ-loop block code weights table states u₀ u = states - u
 
 abstract-states-requires : tie.Need-abstract-states-requires Inv-loop μ-loop
 abstract-states-requires c κs = search needs

@@ -1,6 +1,6 @@
 -- `tables::lower_bound::passes_relabelled` meets its contract.
-use mathlib.Core.Path.{_≡_, sym, _∙_}
-use native.Mathlib.Omega.{arith}
+-- What passes by sides passes the test; otherwise the test state by state says.
+use mathlib.Core.Path.{sym}
 use borrow.Author.Needs.{needs}
 use Rattle.tables.proofs.lower_bound.passes_relabelled.Statement.{statement}
 use Rattle.tables.proofs.lower_bound.passes_relabelled.Tie as tie
@@ -12,7 +12,7 @@ passes-by-sides-requires : tie.Need-passes-by-sides-requires
 passes-by-sides-requires c κs = search needs
 
 returns : tie.Need-returns
-returns c = sym (c .before .passes-by-sides .ensures (c .if1 .taken))
+returns c = sym (c .before .passes-by-sides .ensures .0 (c .if1 .taken))
 
 passes-everywhere-requires : tie.Need-passes-everywhere-requires
 passes-everywhere-requires c κs = search needs

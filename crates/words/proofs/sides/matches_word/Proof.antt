@@ -13,7 +13,7 @@ use Rattle.words.proofs.sides.matches_word.Tie as tie
 -- the test by the constants
 abbrev settled : tie.Start → Bool → Bool
 settled s constants =
-    constants && eqb (rewrittenWord (now (s .args .words)) (now (s .args .moves)) (s .args .x) (s .args .word)) (s .args .word)
+    constants && eqb (rewrittenWord (now (s .args .code)) (s .args .x) (s .args .word)) (s .args .word)
 
 constants-word-requires : tie.Need-constants-word-requires
 constants-word-requires c κs = search needs

@@ -13,10 +13,10 @@ use Rattle.words.proofs.sides.meets_word.Statement.{statement}
 use Rattle.words.proofs.sides.meets_word.Tie as tie
 
 abbrev Inv-loop : tie.InvT-loop
-Inv-loop words moves goals word g₀ g = (g ≤ goals) × ((k : ℕ) → k < g → matchesWord words moves (goalPlace k) word ≡ false)
+Inv-loop code goals word g₀ g = (g ≤ goals) × ((k : ℕ) → k < g → matchesWord code (goalPlace k) word ≡ false)
 
 abbrev μ-loop : tie.MeasureT-loop
-μ-loop words moves goals word g₀ g = goals - g
+μ-loop code goals word g₀ g = goals - g
 
 loop-holds : tie.Need-loop-holds Inv-loop μ-loop
 loop-holds c = (search needs, λ k l. absurd (omega arith))
@@ -30,7 +30,7 @@ matches-word-requires c κs = search needs
 returns : tie.Need-returns Inv-loop μ-loop
 returns c =
     let a = c .before .before .before .before .args in
-    let met : ℕ → Bool = λ g. matchesWord (now (a .words)) (now (a .moves)) (goalPlace g) (a .word) in
+    let met : ℕ → Bool = λ g. matchesWord (now (a .code)) (goalPlace g) (a .word) in
     sym (some-intro met (a .goals) (c .before .before .before .loop .g) (omega arith) (sym (c .before .matches-word .ensures) ∙ c .if1 .taken))
 
 add-g : tie.Need-add-g Inv-loop μ-loop
@@ -45,7 +45,7 @@ loop-again c = (search needs, below-more _ _ (c .before .before .before .loop .i
 returns-2 : tie.Need-returns-2 Inv-loop μ-loop
 returns-2 c =
     let a = c .before .before .args in
-    let met : ℕ → Bool = λ g. matchesWord (now (a .words)) (now (a .moves)) (goalPlace g) (a .word) in
+    let met : ℕ → Bool = λ g. matchesWord (now (a .code)) (goalPlace g) (a .word) in
     sym (some-passed met (a .goals) (c .before .loop .g) (omega arith) (c .before .loop .inv .1))
 
 pub meets-word-spec : {M : Type 1} → statement M

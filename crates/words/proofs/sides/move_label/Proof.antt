@@ -9,14 +9,8 @@ use borrow.Author.Needs.{needs}
 use Rattle.words.proofs.sides.move_label.Statement.{statement}
 use Rattle.words.proofs.sides.move_label.Tie as tie
 
-cast-digit : tie.Need-cast-digit
-cast-digit c = search needs
-
 digit-requires : tie.Need-digit-requires
 digit-requires c κs = search needs
-
-cast-result : tie.Need-cast-result
-cast-result c = search needs
 
 mul-result : tie.Need-mul-result
 mul-result c = search needs
@@ -31,5 +25,4 @@ returns c =
     shifted _ to (c .digit .ensures .1) (omega arith) ∙ ap (λ (d : ℕ). d * 16 ^ to) (c .digit .ensures .0)
 
 pub move-label-spec : {M : Type 1} → statement M
-move-label-spec =
-    tie.close (tie.spec cast-digit digit-requires cast-result mul-result shl-result returns)
+move-label-spec = tie.close (tie.spec digit-requires mul-result shl-result returns)

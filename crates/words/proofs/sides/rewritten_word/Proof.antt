@@ -1,108 +1,124 @@
 -- `words::sides::rewritten_word` meets its contract.
--- The loop's invariant: what is kept, the constants, and the first j moves.
+-- The loop's invariant: what is kept, the constants, and the first j moves; the digits of further moves are left.
 use mathlib.Core.Path.{_≡_, refl, sym, ap, ap₂, _∙_}
-use Prim.Native.Nat.{_≤_, _-_}
-use native.Mathlib.Numerals.{add-one}
+use Prim.Native.Nat.{ℕ, suc, _≤_, _/_, _%_, _-_, _^_}
+use native.Mathlib.Nat.{div-one, div-div-eq-div-mul, pow-suc}
 use native.Mathlib.Omega.{arith}
 use denote.Ref.{now}
-use lib.Bits.{bitOr}
-use Rattle.words.specs.Sides.{countAt, rewrittenTo, rewrittenWord}
+use mathlib.Core.List.{List}
+use lib.Bits.{bitAnd, bitOr}
+use Rattle.words.specs.Packing.{digit}
+use Rattle.words.specs.Sides.{valueAt, keepAt, countAt, fromAt, toAt, moved, joinMoves, rewrittenWord}
 use borrow.Author.Needs.{needs}
 use Rattle.words.proofs.sides.rewritten_word.Statement.{statement}
 use Rattle.words.proofs.sides.rewritten_word.Tie as tie
 
+-- what is kept, the constants and the first j moves are joined, and the digits of the others are left
+abbrev Joined : List ℕ → ℕ → ℕ → ℕ → ℕ → ℕ → ℕ → Type 0
+Joined code x word made from to j =
+    (made ≡ joinMoves (bitOr (bitAnd word (keepAt code x)) (valueAt code x)) word (fromAt code x) (toAt code x) j)
+    × (from ≡ fromAt code x / 16 ^ j) × (to ≡ toAt code x / 16 ^ j)
+
 abbrev Inv-loop : tie.InvT-loop
-Inv-loop words moves x word made₀ count at j₀ made j = (j ≤ countAt words x) × (made ≡ rewrittenTo words moves x word j)
+Inv-loop code x word at made₀ from₀ to₀ left₀ made from to left = (left ≤ countAt code x) × Joined code x word made from to (countAt code x - left)
 
 abbrev μ-loop : tie.MeasureT-loop
-μ-loop words moves x word made₀ count at j₀ made j = countAt words x - j
+μ-loop code x word at made₀ from₀ to₀ left₀ made from to left = left
 
-mul-made : tie.Need-mul-made Inv-loop μ-loop
-mul-made c = search needs
+-- the digits left, without the first one
+rest : (v j : ℕ) → v / 16 ^ j / 16 ≡ v / 16 ^ suc j
+rest v j = div-div-eq-div-mul v (16 ^ j) 16 ∙ ap (λ (x : ℕ). v / x) (sym (pow-suc 16 j))
 
-add-made : tie.Need-add-made Inv-loop μ-loop
-add-made c = search needs
-
-mul-made-2 : tie.Need-mul-made-2 Inv-loop μ-loop
-mul-made-2 c = search needs
-
-element-copy-out-made : tie.Need-element-copy-out-made Inv-loop μ-loop
-element-copy-out-made c = search needs
-
-mul-made-3 : tie.Need-mul-made-3 Inv-loop μ-loop
-mul-made-3 c = search needs
-
-add-made-2 : tie.Need-add-made-2 Inv-loop μ-loop
-add-made-2 c = search needs
-
-mul-made-4 : tie.Need-mul-made-4 Inv-loop μ-loop
-mul-made-4 c = search needs
-
-element-copy-out-made-2 : tie.Need-element-copy-out-made-2 Inv-loop μ-loop
-element-copy-out-made-2 c = search needs
-
-mul-count : tie.Need-mul-count Inv-loop μ-loop
-mul-count c = search needs
-
-add-count : tie.Need-add-count Inv-loop μ-loop
-add-count c = search needs
-
-mul-count-2 : tie.Need-mul-count-2 Inv-loop μ-loop
-mul-count-2 c = search needs
-
-element-copy-out-count : tie.Need-element-copy-out-count Inv-loop μ-loop
-element-copy-out-count c = search needs
+-- one move more
+joined-more :
+    (code : List ℕ) (x word made from to label j : ℕ) → Joined code x word made from to j → label ≡ moved word (from % 16) (to % 16)
+    → Joined code x word (bitOr made label) (from / 16) (to / 16) (suc j)
+unfolding joinMoves digit
+joined-more code x word made from to label j k e = (
+  ap₂ bitOr (k .0) (e ∙ ap₂ (λ (y z : ℕ). moved word (y % 16) (z % 16)) (k .1) (k .2)),
+  ap (λ (y : ℕ). y / 16) (k .1) ∙ rest (fromAt code x) j,
+  ap (λ (y : ℕ). y / 16) (k .2) ∙ rest (toAt code x) j,
+)
 
 mul-at : tie.Need-mul-at Inv-loop μ-loop
 mul-at c = search needs
 
+add-made : tie.Need-add-made Inv-loop μ-loop
+add-made c = search needs
+
+mul-made : tie.Need-mul-made Inv-loop μ-loop
+mul-made c = search needs
+
+element-copy-out-made : tie.Need-element-copy-out-made Inv-loop μ-loop
+element-copy-out-made c = search needs
+
+add-made-2 : tie.Need-add-made-2 Inv-loop μ-loop
+add-made-2 c = search needs
+
+mul-made-2 : tie.Need-mul-made-2 Inv-loop μ-loop
+mul-made-2 c = search needs
+
+element-copy-out-made-2 : tie.Need-element-copy-out-made-2 Inv-loop μ-loop
+element-copy-out-made-2 c = search needs
+
+add-from : tie.Need-add-from Inv-loop μ-loop
+add-from c = search needs
+
+mul-from : tie.Need-mul-from Inv-loop μ-loop
+mul-from c = search needs
+
+element-copy-out-from : tie.Need-element-copy-out-from Inv-loop μ-loop
+element-copy-out-from c = search needs
+
+add-to : tie.Need-add-to Inv-loop μ-loop
+add-to c = search needs
+
+mul-to : tie.Need-mul-to Inv-loop μ-loop
+mul-to c = search needs
+
+element-copy-out-to : tie.Need-element-copy-out-to Inv-loop μ-loop
+element-copy-out-to c = search needs
+
+add-left : tie.Need-add-left Inv-loop μ-loop
+add-left c = search needs
+
+mul-left : tie.Need-mul-left Inv-loop μ-loop
+mul-left c = search needs
+
+element-copy-out-left : tie.Need-element-copy-out-left Inv-loop μ-loop
+element-copy-out-left c = search needs
+
 loop-holds : tie.Need-loop-holds Inv-loop μ-loop
-unfolding rewrittenTo
-loop-holds c = (search needs, refl)
-
-mul-move-label : tie.Need-mul-move-label Inv-loop μ-loop
-mul-move-label c = search needs
-
-add-move-label : tie.Need-add-move-label Inv-loop μ-loop
-add-move-label c = search needs
-
-element-copy-out-move-label : tie.Need-element-copy-out-move-label Inv-loop μ-loop
-element-copy-out-move-label c = search needs
-
-mul-move-label-2 : tie.Need-mul-move-label-2 Inv-loop μ-loop
-mul-move-label-2 c = search needs
-
-add-move-label-2 : tie.Need-add-move-label-2 Inv-loop μ-loop
-add-move-label-2 c = search needs
-
-add-move-label-3 : tie.Need-add-move-label-3 Inv-loop μ-loop
-add-move-label-3 c = search needs
-
-element-copy-out-move-label-2 : tie.Need-element-copy-out-move-label-2 Inv-loop μ-loop
-element-copy-out-move-label-2 c = search needs
+unfolding joinMoves
+loop-holds c =
+    let a = c .before .before .before .before .before .args in
+    let none : countAt (now (a .code)) (a .x) - countAt (now (a .code)) (a .x) ≡ 0 = omega arith in
+    (search needs, rw none (refl, sym (div-one _), sym (div-one _)))
 
 move-label-requires : tie.Need-move-label-requires Inv-loop μ-loop
 move-label-requires c κs = search needs
 
-add-j : tie.Need-add-j Inv-loop μ-loop
-add-j c = search needs
+sub-left : tie.Need-sub-left Inv-loop μ-loop
+sub-left c = search needs
 
 loop-less : tie.Need-loop-less Inv-loop μ-loop
 loop-less c = search needs
 
 loop-again : tie.Need-loop-again Inv-loop μ-loop
-unfolding rewrittenTo
 loop-again c =
     let a = c .before .before .before .before .before .before .before .before .args in
-    let j = c .before .before .before .before .loop .j in
-    (search needs, ap₂ bitOr (c .before .before .before .before .loop .inv .1) (c .move-label .ensures) ∙ ap (rewrittenTo (now (a .words)) (now (a .moves)) (a .x) (a .word)) (sym (add-one j)))
+    let l = c .before .before .loop in
+    let all = countAt (now (a .code)) (a .x) in
+    let next : suc (all - l .left) ≡ all - (l .left - 1) = omega (arith, l .inv .0, c .before .loop-test .taken) in
+    (search needs, rw next at (joined-more (now (a .code)) (a .x) (a .word) (l .made) (l .from) (l .to) _ (all - l .left) (l .inv .1) (c .move-label .ensures)))
 
 returns : tie.Need-returns Inv-loop μ-loop
 unfolding rewrittenWord
 returns c =
-    let a = c .before .before .before .before .before .args in
-    let e : c .before .loop .j ≡ countAt (now (a .words)) (a .x) = omega arith in
-    c .before .loop .inv .1 ∙ ap (rewrittenTo (now (a .words)) (now (a .moves)) (a .x) (a .word)) e
+    let a = c .before .before .before .before .before .before .before .args in
+    let l = c .before .loop in
+    let all : countAt (now (a .code)) (a .x) - l .left ≡ countAt (now (a .code)) (a .x) = omega (arith, l .inv .0, c .loop-test .left) in
+    (rw all at (l .inv .1)) .0
 
 pub rewritten-word-spec : {M : Type 1} → statement M
 rewritten-word-spec =
@@ -110,29 +126,25 @@ rewritten-word-spec =
     (tie.spec
     Inv-loop
     μ-loop
-    mul-made
-    add-made
-    mul-made-2
-    element-copy-out-made
-    mul-made-3
-    add-made-2
-    mul-made-4
-    element-copy-out-made-2
-    mul-count
-    add-count
-    mul-count-2
-    element-copy-out-count
     mul-at
+    add-made
+    mul-made
+    element-copy-out-made
+    add-made-2
+    mul-made-2
+    element-copy-out-made-2
+    add-from
+    mul-from
+    element-copy-out-from
+    add-to
+    mul-to
+    element-copy-out-to
+    add-left
+    mul-left
+    element-copy-out-left
     loop-holds
-    mul-move-label
-    add-move-label
-    element-copy-out-move-label
-    mul-move-label-2
-    add-move-label-2
-    add-move-label-3
-    element-copy-out-move-label-2
     move-label-requires
-    add-j
+    sub-left
     loop-less
     loop-again
     returns)
