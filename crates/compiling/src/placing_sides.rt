@@ -15,10 +15,15 @@ use blocks::terms::decode;
 use words::code::COSTS;
 use words::code::Code;
 use words::code::FIRST_GOAL;
+use words::code::FROM;
 use words::code::GOALS;
+use words::code::KEEP;
+use words::code::MOVES;
 use words::code::POSITIONS;
 use words::code::RULES;
 use words::code::SIDE;
+use words::code::TO;
+use words::code::VALUE;
 
 // A side on the way, its first positions compiled: the masks, the value, how many moves it has, and the positions
 // that these read and write, as the digits of two words.
@@ -112,11 +117,11 @@ fn place_side(bytes: &[u8], left: usize, side: usize, n: usize, code: &mut Code,
     let made = make_side(bytes, left, side, n);
     let at = SIDE * x;
     code[at] = made.mask;
-    code[at + 1] = made.value;
-    code[at + 2] = made.keep;
-    code[at + 3] = made.count as u64;
-    code[at + 4] = made.from;
-    code[at + 5] = made.to;
+    code[at + VALUE] = made.value;
+    code[at + KEEP] = made.keep;
+    code[at + MOVES] = made.count as u64;
+    code[at + FROM] = made.from;
+    code[at + TO] = made.to;
 }
 
 // Compiles the two sides of rule r, which begin at `left` and at `right`.

@@ -14,7 +14,7 @@ use Rattle.basics.specs.Sets.{member}
 use Rattle.basics.proofs.Bounded.{all-ext}
 use Rattle.basics.proofs.Parts.{outside-none, outside-set}
 use Rattle.basics.proofs.SetMaking.{passing-same}
-use Rattle.words.specs.Code.{codeLength, setsPlace, countsPlace}
+use Rattle.words.specs.Code.{codeLength, setsPlace, plainPlace, countsPlace}
 use Rattle.words.specs.Packing.{digit}
 use Rattle.words.specs.Sides.{leftPlace}
 use Rattle.words.proofs.KeptCode.{mask-kept, value-kept, keep-kept, count-kept}
@@ -52,15 +52,15 @@ set-kept code rules i x m j v few a b d h =
 
 pub sets-made :
     {code : List ℕ} (rules n s : ℕ) → length code ≡ codeLength → rules ≤ 64 → n ≤ 16 → Indexed code rules n
-    → PlainRules code rules n s → Sets (set code 1136 s) rules n
+    → PlainRules code rules n s → Sets (set code plainPlace s) rules n
 sets-made {code} rules n s long few low k p =
     record {
       indexed =
           record {
-            told = λ i x l m. set-kept code rules i x (setsPlace + (16 * i + x)) 1136 s few (omega arith) (omega arith) (λ e. omega arith) (k .told i x l m);
+            told = λ i x l m. set-kept code rules i x (setsPlace + (16 * i + x)) plainPlace s few (omega arith) (omega arith) (λ e. omega arith) (k .told i x l m);
           };
       plain =
-          rw (getD-set-same code 1136 s 0 (omega arith))
+          rw (getD-set-same code plainPlace s 0 (omega arith))
           (plain-set rules n
-          (plain-kept (outside-set 1136 s (omega arith) (omega arith) (outside-none setsPlace countsPlace code)) rules few n s p));
+          (plain-kept (outside-set plainPlace s (omega arith) (omega arith) (outside-none setsPlace countsPlace code)) rules few n s p));
     }

@@ -18,9 +18,13 @@ ruleCount code = getD code 1138 0
 abbrev pub goalCount : List ℕ → ℕ
 goalCount code = getD code 1139 0
 
--- where the sets of rules begin, and where what stands behind them does: their part can be written anew
+-- where the sets of rules begin, where the set of plain rules stands, and where what stands behind them does: their
+-- part can be written anew
 abbrev pub setsPlace : ℕ
 setsPlace = 880
+
+abbrev pub plainPlace : ℕ
+plainPlace = 1136
 
 abbrev pub countsPlace : ℕ
 countsPlace = 1137

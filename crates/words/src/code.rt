@@ -9,6 +9,18 @@ ghost use Rattle.words.specs.Code as counted;
 // How many elements a side has.
 pub const SIDE: usize = 6;
 
+// Where they stand behind the first, which is the mask of the constants: their value, the mask of what is kept, the
+// number of moves, and the positions that moves read and write.
+pub const VALUE: usize = 1;
+
+pub const KEEP: usize = 2;
+
+pub const MOVES: usize = 3;
+
+pub const FROM: usize = 4;
+
+pub const TO: usize = 5;
+
 // The place of the first goal, behind two for each of 64 rules.
 pub const FIRST_GOAL: usize = 128;
 
@@ -37,13 +49,6 @@ pub fn position_count(code: &Code) -> usize
     ensures { λ r. ⌜ r ≡ counted.positionCount (now (code .entry)) ⌝ }
 {
     code[POSITIONS] as usize
-}
-
-// How many rules there are.
-pub fn rule_count(code: &Code) -> usize
-    ensures { λ r. ⌜ r ≡ counted.ruleCount (now (code .entry)) ⌝ }
-{
-    code[RULES] as usize
 }
 
 // How many goals there are.

@@ -6,7 +6,12 @@ ghost use Rattle.words.specs.Sides.{leftPlace, moved, rewrittenWord, con
 use super::code::COSTS;
 use super::code::Code;
 use super::code::FIRST_GOAL;
+use super::code::FROM;
+use super::code::KEEP;
+use super::code::MOVES;
 use super::code::SIDE;
+use super::code::TO;
+use super::code::VALUE;
 use super::packing::digit;
 
 // The label at the position that the lowest digit of `from` tells, at the position that the lowest digit of `to` tells.
@@ -22,10 +27,10 @@ pub fn rewritten_word(code: &Code, x: usize, word: u64) -> u64
     ensures { λ r. ⌜ r ≡ rewrittenWord (now (code .entry)) x word ⌝ }
 {
     let at = SIDE * x;
-    let mut made = (word & code[at + 2]) | code[at + 1];
-    let mut from = code[at + 4];
-    let mut to = code[at + 5];
-    let mut left = code[at + 3];
+    let mut made = (word & code[at + KEEP]) | code[at + VALUE];
+    let mut from = code[at + FROM];
+    let mut to = code[at + TO];
+    let mut left = code[at + MOVES];
     while left > 0 {
         made = made | move_label(word, from, to);
         from = from / 16;
@@ -40,7 +45,7 @@ fn constants_word(code: &Code, x: usize, word: u64) -> bool
     requires { ⌜ x < 136 ⌝ }
     ensures { λ r. ⌜ r ≡ constantsWord (now (code .entry)) x word ⌝ }
 {
-    word & code[SIDE * x] == code[SIDE * x + 1]
+    word & code[SIDE * x] == code[SIDE * x + VALUE]
 }
 
 // Whether a word matches the side at place x. Most fail on a constant, so these come first.
@@ -52,14 +57,6 @@ fn matches_word(code: &Code, x: usize, word: u64) -> bool
         return rewritten_word(code, x, word) == word;
     }
     false
-}
-
-// Whether a word has the constants on the left of rule r: where it has not, the rule does not apply.
-pub fn may_apply(code: &Code, r: usize, word: u64) -> bool
-    requires { ⌜ r < 64 ⌝ }
-    ensures { λ answer. ⌜ answer ≡ constantsWord (now (code .entry)) (leftPlace r) word ⌝ }
-{
-    constants_word(code, 2 * r, word)
 }
 
 // Whether rule r applies to a word.
