@@ -52,7 +52,8 @@ pub fn place_singles(block: &[u8], singles: &mut Singles)
 // Writes the weights of the pairs that n labels make: those at positions 2 * j and 2 * j + 1 stand in byte j of a word,
 // the first as its low digit.
 fn place_pairs(singles: &Singles, n: usize, weights: &mut Weights)
-    requires { ⌜ (n ≤ 16) × ((k : ℕ) → getD (now singles) k 0 ≤ 16384) × (length (now weights) ≡ 2048) ⌝ }
+    requires { ⌜ (n ≤ 16) × ((k : ℕ) → getD (now singles) k 0 ≤ 16384) ×
+        (length (now weights) ≡ 2048) ⌝ }
     ensures { λ _. ⌜ PairsPlaced n (now (singles .entry)) (now (weights .exit)) ⌝ }
 {
     let end = 256 * ((n + 1) / 2);

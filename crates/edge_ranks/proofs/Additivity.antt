@@ -1,4 +1,5 @@
--- Labels add to ranks (`additive-first`, `additive-second`): of a compiled block, and sides that stand compiled in the arrays. The code that finds edges asks for these.
+-- Labels add to ranks (`additive-first`, `additive-second`): of a compiled block, and sides that stand compiled in the
+-- arrays. The code that finds edges asks for these.
 use mathlib.Core.Path.{_≡_, sym, ap, _∙_}
 use mathlib.Core.Logic.{inl, inr, ⊎-elim}
 use mathlib.Core.Bool.{true}

@@ -55,7 +55,9 @@ Labels n k w = (w < 16 ^ n) × ((i : ℕ) → i < n → digit w i < k)
 
 -- the label at a position adds as much to f as it adds alone
 abbrev pub Additive : ℕ → ℕ → (ℕ → ℕ) → Type 0
-Additive n k f = (w p : ℕ) → Labels n k w → p < n → f (from p w) + f 0 ≡ f (from (suc p) w) + f (digit w p * 16 ^ p)
+Additive n k f =
+    (w p : ℕ) → Labels n k w → p < n
+    → f (from p w) + f 0 ≡ f (from (suc p) w) + f (digit w p * 16 ^ p)
 
 -- the lists have all words of n labels below k, without the labels before position p
 abbrev pub Listed : (ℕ → ℕ) → (ℕ → ℕ) → ℕ → ℕ → ℕ → (ℕ → ℕ) → (ℕ → ℕ) → ℕ → Type 0

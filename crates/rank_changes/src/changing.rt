@@ -52,7 +52,8 @@ fn place_change(block: &[u8], singles: &Singles, changes: &mut Changes, r: usize
 
 // Writes the changes of all rules.
 pub fn place_rule_changes(block: &[u8], singles: &Singles, changes: &mut Changes)
-    requires { ⌜ Valid (now block) × Singles (now block) (now singles) × (length (now changes) ≡ changesLength) ⌝ }
+    requires { ⌜ Valid (now block) × Singles (now block) (now singles) ×
+        (length (now changes) ≡ changesLength) ⌝ }
     ensures { λ _. ⌜ ChangesPlaced (now (block .entry)) (now (changes .entry)) (now (changes .exit)) ⌝ }
 {
     let count = layout::rules(block);

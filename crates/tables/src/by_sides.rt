@@ -32,7 +32,8 @@ fn index(rank: u16) -> usize
 // Whether an entry passes before another by a rule of this cost.
 fn entry_passes(before: u32, after: u32, cost: u64) -> bool
     requires { ⌜ cost ≤ 255 ⌝ }
-    ensures { λ r. ⌜ (r ≡ true → (after ≡ mark → ⊥) → (before ≡ mark → ⊥) × (before ≤ cost + after)) ⌝ }
+    ensures { λ r. ⌜ (r ≡ true → (after ≡ mark → ⊥) →
+        (before ≡ mark → ⊥) × (before ≤ cost + after)) ⌝ }
 {
     if after == MARK {
         return true;
@@ -57,7 +58,8 @@ fn rank_bound(entries: usize) -> u16
 // the compiled code can compare several at a time.
 fn in_range(lists: &Lists, list: usize, count: usize, bound: u16) -> bool
     requires { ⌜ list + count ≤ listsLength ⌝ }
-    ensures { λ r. ⌜ (r ≡ true → (j : ℕ) → j < count → getD (now (lists .entry)) (list + j) 0 < bound) ⌝ }
+    ensures { λ r. ⌜ (r ≡ true → (j : ℕ) → j < count →
+        getD (now (lists .entry)) (list + j) 0 < bound) ⌝ }
 {
     let mut below = true;
     let mut j: usize = 0;
@@ -73,7 +75,8 @@ fn in_range(lists: &Lists, list: usize, count: usize, bound: u16) -> bool
 // Whether all edges pass, from the states of the first ranks to those of the second, which all have entries.
 fn entries_pass(table: &[u32], lists: &Lists, count: usize, cost: u64) -> bool
     requires { ⌜ (count ≤ 16384) × (cost ≤ 255) ⌝ }
-    requires { ⌜ InTable (now table) (sourceAt (now lists)) count × InTable (now table) (targetAt (now lists)) count ⌝ }
+    requires { ⌜ InTable (now table) (sourceAt (now lists)) count ×
+        InTable (now table) (targetAt (now lists)) count ⌝ }
     ensures { λ r. ⌜ (r ≡ true → EdgesPass (now (table .entry)) (sourceAt (now (lists .entry)))
         (targetAt (now (lists .entry))) count cost) ⌝ }
 {

@@ -39,7 +39,8 @@ fn via(
     word: u64,
     r: usize,
 ) -> u64
-    requires { ⌜ Ready (now block) (now code) (now weights) × (abstractStates (now block) ≤ length (now table)) ⌝ }
+    requires { ⌜ Ready (now block) (now code) (now weights) ×
+        (abstractStates (now block) ≤ length (now table)) ⌝ }
     requires { ⌜ (u < abstractStates (now block)) × (word ≡ wordOf (now block) u) × (r < rules (now block)) ⌝ }
     ensures { λ x. ⌜ x ≡ via (graphOf (now (block .entry))) (now (table .entry)) u r ⌝ }
 {
@@ -56,7 +57,8 @@ fn via(
 
 // The least cost by one rule from the state of rank u.
 pub fn best(block: &[u8], code: &Code, weights: &Weights, table: &[u32], u: usize, word: u64) -> u64
-    requires { ⌜ Ready (now block) (now code) (now weights) × (abstractStates (now block) ≤ length (now table)) ⌝ }
+    requires { ⌜ Ready (now block) (now code) (now weights) ×
+        (abstractStates (now block) ≤ length (now table)) ⌝ }
     requires { ⌜ (u < abstractStates (now block)) × (word ≡ wordOf (now block) u) ⌝ }
     ensures { λ x. ⌜ Best (graphOf (now (block .entry))) (now (table .entry)) u x ⌝ }
 {

@@ -33,7 +33,8 @@ fn passes_at(
     u: usize,
     word: u64,
 ) -> bool
-    requires { ⌜ Ready (now block) (now code) (now weights) × (abstractStates (now block) ≤ length (now table)) ⌝ }
+    requires { ⌜ Ready (now block) (now code) (now weights) ×
+        (abstractStates (now block) ≤ length (now table)) ⌝ }
     requires { ⌜ (u < abstractStates (now block)) × (word ≡ wordOf (now block) u) ⌝ }
     ensures { λ x. ⌜ x ≡ test.passesAt (graphOf (now (block .entry))) (now (table .entry)) u ⌝ }
 {
@@ -55,7 +56,8 @@ fn passes_at(
 
 // Whether the table passes at every abstract state of a compiled block.
 fn passes_everywhere(block: &[u8], code: &Code, weights: &Weights, table: &[u32]) -> bool
-    requires { ⌜ Ready (now block) (now code) (now weights) × (abstractStates (now block) ≤ length (now table)) ⌝ }
+    requires { ⌜ Ready (now block) (now code) (now weights) ×
+        (abstractStates (now block) ≤ length (now table)) ⌝ }
     ensures { λ x. ⌜ x ≡ test.passes (graphOf (now (block .entry))) (now (table .entry)) ⌝ }
 {
     let states = layout::abstract_states(block);

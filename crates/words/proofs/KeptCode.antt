@@ -1,16 +1,15 @@
--- Code in which only sets of rules are written anew: sides and costs stand in front of the sets, so what sides make of words (`rewritten-kept`), what they test (`constants-kept`,
--- `matches-kept`) and what rules cost (`cost-kept`) is kept, and the code says the same of its block (`compiled-kept`). The code that makes the sets rests on these.
-use mathlib.Core.Bool.{_&&_}
-use mathlib.Core.Path.{_≡_, sym, ap, ap₂, _∙_}
+-- Code in which only sets of rules are written anew: sides and costs stand in front of the sets, so what sides make of
+-- words (`rewritten-kept`) and what rules cost (`cost-kept`) is kept, and the code says the same of its block
+-- (`compiled-kept`). The code that makes the sets rests on these.
+use mathlib.Core.Path.{_≡_, sym, ap, _∙_}
 use mathlib.Core.List.{List}
 use Prim.Native.Nat.{ℕ, _+_, _*_, _%_, _<_}
 use native.Mathlib.Omega.{arith}
 use lib.Bits.{bitAnd}
-use lib.Dec.{eqb}
 use Rattle.basics.specs.Parts.{Outside}
 use Rattle.words.specs.Packing.{unpack}
 use Rattle.words.specs.Code.{setsPlace, countsPlace}
-use Rattle.words.specs.Sides.{leftPlace, rightPlace, goalPlace, maskAt, valueAt, keepAt, countAt, fromAt, toAt, rewrittenWord, constantsWord, matchesWord, costWord}
+use Rattle.words.specs.Sides.{leftPlace, rightPlace, goalPlace, maskAt, valueAt, keepAt, countAt, fromAt, toAt, rewrittenWord, costWord}
 use Rattle.words.specs.Compiled.{Sided, RuleAt, Compiled}
 
 module _ {old new : List ℕ} (o : Outside setsPlace countsPlace old new) where
@@ -36,13 +35,6 @@ module _ {old new : List ℕ} (o : Outside setsPlace countsPlace old new) where
     pub rewritten-kept : (w : ℕ) → rewrittenWord new x w ≡ rewrittenWord old x w
     unfolding rewrittenWord
     rewritten-kept w = rw (keep-kept, value-kept, from-kept, to-kept, count-kept)
-
-    pub constants-kept : (w : ℕ) → constantsWord new x w ≡ constantsWord old x w
-    constants-kept w = ap₂ (λ (m v : ℕ). eqb (bitAnd w m) v) mask-kept value-kept
-
-    pub matches-kept : (w : ℕ) → matchesWord new x w ≡ matchesWord old x w
-    unfolding matchesWord
-    matches-kept w = ap₂ _&&_ (constants-kept w) (ap (λ (v : ℕ). eqb v w) (rewritten-kept w))
 
     sided-kept : {n : ℕ} {left side : ℕ → ℕ} → Sided n left side old x → Sided n left side new x
     sided-kept {n} s =

@@ -19,7 +19,9 @@ use Rattle.words.specs.Ranking.{weightOf}
 pub record Sided (n : ℕ) (left side : ℕ → ℕ) (code : List ℕ) (x : ℕ) : Type 0 where
   pub makes : (w : ℕ) → w < 16 ^ n → unpack n (rewrittenWord code x w) ≡ rewritten n left side (unpack n w)
   pub small : (w : ℕ) → w < 16 ^ n → rewrittenWord code x w < 16 ^ n
-  pub mask : (w : ℕ) → w < 16 ^ n → rewritten n left side (unpack n w) ≡ unpack n w → bitAnd w (maskAt code x) ≡ valueAt code x
+  pub mask :
+      (w : ℕ) → w < 16 ^ n → rewritten n left side (unpack n w) ≡ unpack n w
+      → bitAnd w (maskAt code x) ≡ valueAt code x
 
 -- a rule: both its sides, and its cost
 pub record RuleAt (b code : List ℕ) (r : ℕ) : Type 0 where

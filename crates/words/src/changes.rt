@@ -30,7 +30,8 @@ fn added(changes: &Changes, part: usize, word: u64) -> usize
 
 // The rank after rule r of a word that has this rank.
 pub fn next_rank(changes: &Changes, r: usize, rank: usize, word: u64) -> usize
-    requires { ⌜ (r < 64) × (0 < partCount (now changes) r) × (partCount (now changes) r ≤ 16) × (rank ≤ 65535) ⌝ }
+    requires { ⌜ (r < 64) × (0 < partCount (now changes) r) × (partCount (now changes) r ≤ 16) ×
+        (rank ≤ 65535) ⌝ }
     ensures { λ k. ⌜ (k ≡ nextRank (now (changes .entry)) r rank word) × (k < 16384) ⌝ }
 {
     let at = FIRST_CHANGE + CHANGE * r;

@@ -1,4 +1,5 @@
 -- `edge_ranks::rank_by` meets its contract.
+-- The rank of what a side makes of a word, modulo 16,384, so that it fits 16 bits.
 use mathlib.Core.Path.{ap, ap₂, _∙_}
 use Prim.Native.Nat.{ℕ, _%_}
 use denote.Ref.{now}

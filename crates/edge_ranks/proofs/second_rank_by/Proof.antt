@@ -1,4 +1,5 @@
 -- `edge_ranks::second_rank_by` meets its contract.
+-- What the first side makes of the word is what the second side is applied to.
 use mathlib.Core.Path.{ap, _∙_}
 use Prim.Native.Nat.{ℕ, _%_}
 use denote.Ref.{now}

@@ -1,4 +1,5 @@
 -- `edge_ranks::single` meets its contract.
+-- A label that is shifted to its position counts 16 to the power of that position.
 use borrow.Author.Needs.{needs}
 use Rattle.words.proofs.WordDigits.{shifted}
 use Rattle.edge_ranks.proofs.single.Statement.{statement}

@@ -1,4 +1,5 @@
 -- `filling::rank_words::unit` meets its contract.
+-- 1 shifted to its position.
 use mathlib.Core.Path.{_∙_}
 use Prim.Native.Nat.{_^_}
 use native.Mathlib.Nat.{one-mul}

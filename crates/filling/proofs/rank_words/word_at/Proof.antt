@@ -1,4 +1,5 @@
 -- `filling::rank_words::word_at` meets its contract.
+-- Rank 0 has its word by the definition, every other rank from the one before it.
 use mathlib.Core.Path.{_≡_, ap, _∙_}
 use Prim.Native.Nat.{_+_, _-_}
 use native.Mathlib.Omega.{arith}

@@ -1,4 +1,5 @@
 -- `search::run::carry` meets its contract.
+-- The two writes are the tally that is carried (`carried-tally`).
 use native.Mathlib.Omega.{arith}
 use denote.Ref.{now}
 use Rattle.search.proofs.RunLaws.{carried-tally}

@@ -1,4 +1,5 @@
 -- `search::run::put` meets its contract.
+-- The four writes are the list with one rule more.
 use denote.Ref.{now}
 use Rattle.search.proofs.RunLaws.{put-one}
 use borrow.Author.Needs.{needs}

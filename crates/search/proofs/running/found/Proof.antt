@@ -1,4 +1,5 @@
 -- `search::running::found` meets its contract.
+-- All three numbers are read as they stand, since they fit their types.
 use mathlib.Core.Path.{ap}
 use denote.Ref.{now}
 use Rattle.tallies.specs.declared.Tally.{Tally}

@@ -1,4 +1,5 @@
 -- `tables::by_sides::entry_passes` meets its contract.
+-- Where the answer is yes and the second entry is not the mark, neither is the first, and the comparison holds.
 use mathlib.Core.Path.{refl}
 use Prim.Native.Nat.{_+_}
 use native.Mathlib.Omega.{arith}

@@ -1,4 +1,5 @@
 -- `words::changes::added` meets its contract.
+-- The shift that a part begins with leads to the label of its position.
 use Rattle.words.specs.Changes.{partAdds}
 use borrow.Author.Needs.{needs}
 use Rattle.words.proofs.changes.added.Statement.{statement}
