@@ -323,5 +323,7 @@ def code(name, exercise):
 
 if __name__ == '__main__':
     if len(sys.argv) != 2 or not sys.argv[1].isidentifier():
-        sys.exit('usage: generate.py NAME, with the lines of an exercise on standard input')
+        sys.stderr.write('usage: bench/generate.py NAME < LINES, where LINES are those of an exercise and NAME is a'
+                         ' word for its code, as target/bench/print_exercises prints them\n')
+        sys.exit(2)
     sys.stdout.write(code(sys.argv[1], read_exercise(sys.stdin.read())))

@@ -9,7 +9,8 @@
 /* Fill, test and search are handed only what is accepted: a refusal has no answer to be compared with. */
 static void must_accept(const char *call, uint32_t refusal) {
   if (refusal == MIKJUQAN_ACCEPTED) return;
-  fprintf(stderr, "bench: the library's %s refuses its input with %u\n", call, refusal);
+  fprintf(stderr, "bench: the library's %s refuses its input with %u: %s\n", call, refusal,
+          mikjuqan_refusal_text(refusal));
   exit(1);
 }
 
@@ -34,10 +35,11 @@ static bool test(const uint8_t *block, size_t length, const uint32_t *table) {
 static struct answer find(const uint8_t *block, size_t length, const struct query *query, const uint32_t *table,
                           uint8_t *plan) {
   struct exercise e = open_block(block);
-  mikjuqan_plan found = mikjuqan_find_plan(block, length, query->start, e.positions, query->steps, query->cost,
-                                           query->visits, table, count_entries(&e), plan, query->steps);
-  must_accept("search", found.refusal);
-  return (struct answer){found.status, (uint32_t)found.steps, found.cost, found.visits};
+  mikjuqan_limits limits = {.steps = query->steps, .cost = query->cost, .visits = query->visits};
+  mikjuqan_search told = mikjuqan_find_plan(block, length, query->start, e.positions, limits, table, count_entries(&e),
+                                            plan, query->steps);
+  must_accept("search", told.refusal);
+  return (struct answer){told.status, (uint32_t)told.plan.steps, told.plan.cost, told.plan.visits};
 }
 
 const struct engine library_engine = {"ours", read_text, mikjuqan_check_block, fill, test, find};

@@ -3,12 +3,12 @@
  * Link libmikjuqan.a (README.md says how to build it). Nothing else is needed: the library allocates nothing, keeps
  * nothing between calls, calls nothing of the C library but memcpy and memset, and may be called from several threads.
  *
- * Every call takes whatever it is handed and refuses what is wrong with a number (MIKJUQAN_REFUSED_.. below). A refused
- * call writes nowhere, and every other member of its answer is 0. An accepted call writes at the front of its buffer; what
- * stands behind that keeps its contents.
+ * Every call takes whatever it is handed and refuses what is wrong with a number (MIKJUQAN_REFUSED_.. below). A
+ * refused call writes nowhere, and every other member of its answer is 0. An accepted call writes at the front of its
+ * buffer; what stands behind that keeps its contents.
  *
- * A buffer is a pointer and the number of its elements: bytes, or 32-bit entries for a table. The pointer is never NULL,
- * also where the length is 0. A buffer that is written overlaps no other buffer of the same call.
+ * A buffer is a pointer and the number of its elements: bytes, or 32-bit entries for a table. The pointer may be NULL
+ * where the length is 0, in every call. A buffer that is written overlaps no other buffer of the same call.
  */
 #ifndef MIKJUQAN_H
 #define MIKJUQAN_H
@@ -20,10 +20,13 @@
 extern "C" {
 #endif
 
+/* The version of this interface. */
+#define MIKJUQAN_VERSION "0.2.0"
+
 /* ---- sizes: buffers of these lengths are long enough for every exercise ---- */
 
 #define MIKJUQAN_POSITIONS 16        /* labels of a state */
-#define MIKJUQAN_BLOCK_LENGTH 2261   /* bytes of a block, also of a relabelled one and of one that is read from text */
+#define MIKJUQAN_BLOCK_LENGTH 2261   /* bytes of a block, also of a relabelled one and of one read from text */
 #define MIKJUQAN_TABLE_LENGTH 16384  /* entries of a table */
 #define MIKJUQAN_PLAN_LENGTH 64      /* bytes of a plan, and the largest step limit */
 #define MIKJUQAN_LIST_LENGTH 4096    /* the longest list that is replayed */
@@ -32,26 +35,48 @@ extern "C" {
 #define MIKJUQAN_NO_PATH UINT32_C(4294967295)
 
 /* ---- refusals ----
- * The lowest number wins, except in mikjuqan_read_exercise, whose order is 1, 2 (head line), 3, 2 (others), 11, 5, 6, 7. */
+ * The lowest number wins, except in mikjuqan_read_exercise, whose order is 1, 2 (head line), 3, 2 (others), 11, 5, 6,
+ * 7. Each comment begins with the number, in decimal and as the two digits that the program `par` prints. */
 
 enum {
   MIKJUQAN_ACCEPTED = 0,
-  MIKJUQAN_REFUSED_CHARACTER = 1,    /* text: another character than 0 to 9, A to F and line feed; a line with an odd
-                                        number of digits; a last line that does not end */
-  MIKJUQAN_REFUSED_LINE = 2,         /* text: the head line is not ten digits; a line is missing, extra or of another
-                                        length than the head asks */
-  MIKJUQAN_REFUSED_HEAD = 3,         /* fewer than five bytes, or a number of the head out of its limits */
-  MIKJUQAN_REFUSED_LENGTH = 4,       /* the block is not as long as its head asks */
-  MIKJUQAN_REFUSED_MAP = 5,          /* a map byte is not below K */
-  MIKJUQAN_REFUSED_TERM = 6,         /* a byte of a rule or a goal is no term, or a constant is not below L */
-  MIKJUQAN_REFUSED_UNBOUND = 7,      /* a variable on the right of a rule does not stand on its left */
-  MIKJUQAN_REFUSED_STATE = 8,        /* a state has another number of labels than n, or a label not below L */
-  MIKJUQAN_REFUSED_RULE = 9,         /* a rule number is not below R, also behind a rule that is stuck */
-  MIKJUQAN_REFUSED_LIMIT = 10,       /* the step limit is over 64, or a list of rules over 4,096 */
-  MIKJUQAN_REFUSED_BUFFER = 11,      /* the buffer is shorter than what may be written */
-  MIKJUQAN_REFUSED_TABLE_SHORT = 12, /* the table has fewer entries than there are abstract states */
-  MIKJUQAN_REFUSED_TABLE_FAILS = 13  /* the table fails the lower-bound test */
+  MIKJUQAN_REFUSED_CHARACTER = 1,    /* 1 = 01: text with another character than 0 to 9, A to F and line feed, a line
+                                        with an odd number of digits, or a last line that does not end */
+  MIKJUQAN_REFUSED_LINE = 2,         /* 2 = 02: text whose head line is not ten digits, or with a line that is
+                                        missing, extra or of another length than the head asks */
+  MIKJUQAN_REFUSED_HEAD = 3,         /* 3 = 03: fewer than five bytes, or a number of the head out of its limits */
+  MIKJUQAN_REFUSED_LENGTH = 4,       /* 4 = 04: the block is not as long as its head asks */
+  MIKJUQAN_REFUSED_MAP = 5,          /* 5 = 05: a map byte is not below K */
+  MIKJUQAN_REFUSED_TERM = 6,         /* 6 = 06: a byte of a rule or a goal is no term, or a constant not below L */
+  MIKJUQAN_REFUSED_UNBOUND = 7,      /* 7 = 07: a variable on the right of a rule does not stand on its left */
+  MIKJUQAN_REFUSED_STATE = 8,        /* 8 = 08: a state has another number of labels than n, or one not below L */
+  MIKJUQAN_REFUSED_RULE = 9,         /* 9 = 09: a rule number is not below R, also behind a rule that is stuck */
+  MIKJUQAN_REFUSED_LIMIT = 10,       /* 10 = 0A: the step limit is over 64, or a list of rules over 4,096 */
+  MIKJUQAN_REFUSED_BUFFER = 11,      /* 11 = 0B: the buffer is shorter than what may be written */
+  MIKJUQAN_REFUSED_TABLE_SHORT = 12, /* 12 = 0C: the table has fewer entries than there are abstract states */
+  MIKJUQAN_REFUSED_TABLE_FAILS = 13  /* 13 = 0D: the table fails the lower-bound test */
 };
+
+/* What a number in `refusal` says, as a sentence without its full stop. The text lasts as long as the program. */
+static inline const char *mikjuqan_refusal_text(uint32_t refusal) {
+  switch (refusal) {
+    case MIKJUQAN_ACCEPTED: return "the call is accepted";
+    case MIKJUQAN_REFUSED_CHARACTER: return "the text holds a wrong character, an odd line or an unended one";
+    case MIKJUQAN_REFUSED_LINE: return "a line is missing, extra or of wrong length";
+    case MIKJUQAN_REFUSED_HEAD: return "the head is short or out of limits";
+    case MIKJUQAN_REFUSED_LENGTH: return "the block is not as long as its head asks";
+    case MIKJUQAN_REFUSED_MAP: return "a map byte is no abstract label";
+    case MIKJUQAN_REFUSED_TERM: return "a byte is no term, or a constant is no label";
+    case MIKJUQAN_REFUSED_UNBOUND: return "a right variable does not stand on the left";
+    case MIKJUQAN_REFUSED_STATE: return "a state has a wrong length or a byte that is no label";
+    case MIKJUQAN_REFUSED_RULE: return "there is no such rule";
+    case MIKJUQAN_REFUSED_LIMIT: return "the step limit is over 64, or the list is over 4,096";
+    case MIKJUQAN_REFUSED_BUFFER: return "the buffer is too short";
+    case MIKJUQAN_REFUSED_TABLE_SHORT: return "the table is too short";
+    case MIKJUQAN_REFUSED_TABLE_FAILS: return "the table fails the lower-bound test";
+    default: return "no refusal has this number";
+  }
+}
 
 /* ---- answers: `refusal` is 0, or the number of the refusal; all else is then 0 ---- */
 
@@ -73,32 +98,43 @@ typedef struct {
   uint32_t entry;
 } mikjuqan_entry;
 
-/* How a replay ended: done (`stuck` and `index` are 0), or stuck (1) at an index; and the cost up to there. */
+/* Where a replay ends: how many rules were applied, and what they cost. Where it is stuck, `steps` is the index of the
+ * rule that does not apply. */
 typedef struct {
-  uint32_t refusal;
-  uint32_t stuck;
-  size_t index;
+  size_t steps;
   uint32_t cost;
 } mikjuqan_run_end;
 
-enum { MIKJUQAN_FOUND = 0, MIKJUQAN_NO_PLAN = 1, MIKJUQAN_SPENT = 2 };
-
-/* What a search answers: the status, and the plan's steps and cost, which are 0 where there is none; and the visits made. */
+/* How a replay ends: done (`stuck` is 0, and `end.steps` the length of the list), or stuck (1). */
 typedef struct {
   uint32_t refusal;
-  uint32_t status;
+  uint32_t stuck;
+  mikjuqan_run_end end;
+} mikjuqan_replay;
+
+/* A plan that was found: how many rules it has, what they cost, and the visits that were made to find it. */
+typedef struct {
   size_t steps;
   uint32_t cost;
   uint32_t visits;
 } mikjuqan_plan;
 
+enum { MIKJUQAN_FOUND = 0, MIKJUQAN_NO_PLAN = 1, MIKJUQAN_SPENT = 2 };
+
+/* What a search answers. Without a plan its steps and cost are 0; its visits are told in each case. */
+typedef struct {
+  uint32_t refusal;
+  uint32_t status;
+  mikjuqan_plan plan;
+} mikjuqan_search;
+
 /* ---- the exercise ----
- * A block begins with five bytes, its head: n, L, K, R, G. A state has n positions and there are L labels, at least one of
- * each and no more than 16. There are K abstract labels, at least one and no more than L, and so few that a table of
- * MIKJUQAN_TABLE_LENGTH entries holds all abstract states, of which there are K to the power n. The number of rules, R, is
- * at most 64, and may be 0; that of goals, G, is at most 8, and at least 1. Behind the head stand the map (a byte for each
- * label), the rules (a cost, then n terms of the left side and n of the right) and the goals (n terms each).
- * A term is 0x00 to 0x0F for a label, 0x10 to 0x1F for a variable, 0xFF for a dash. A state is n labels. */
+ * A block begins with five bytes, its head: n, L, K, R, G. A state has n positions and there are L labels, at least
+ * one of each and no more than 16. There are K abstract labels, at least one and no more than L, and so few that a
+ * table of MIKJUQAN_TABLE_LENGTH entries holds all abstract states, of which there are K to the power n. The number of
+ * rules, R, is at most 64, and may be 0; that of goals, G, is at most 8, and at least 1. Behind the head stand the map
+ * (a byte for each label), the rules (a cost, then n terms of the left side and n of the right) and the goals (n terms
+ * each). A term is 0x00 to 0x0F for a label, 0x10 to 0x1F for a variable, 0xFF for a dash. A state is n labels. */
 
 /* Reads an exercise from its lines of hexadecimal digits and writes the block. Refused with 1, 2, 3, 11, 5, 6, 7. */
 mikjuqan_length mikjuqan_read_exercise(const uint8_t *text, size_t text_length, uint8_t *out, size_t out_length);
@@ -116,24 +152,28 @@ mikjuqan_decision mikjuqan_apply_rule(const uint8_t *block, size_t block_length,
                                       size_t state_length, uint8_t *out, size_t out_length);
 
 /* Yes where the state meets a goal. Refused with 3 to 7, 8. */
-mikjuqan_decision mikjuqan_test_goals(const uint8_t *block, size_t block_length, const uint8_t *state, size_t state_length);
+mikjuqan_decision mikjuqan_test_goals(const uint8_t *block, size_t block_length, const uint8_t *state,
+                                      size_t state_length);
 
-/* Yes where some state is taken to `state` by the rule, and the first one in rank order is written. Refused with 3 to 7,
- * 8, 9, 11. */
-mikjuqan_decision mikjuqan_first_predecessor(const uint8_t *block, size_t block_length, size_t rule, const uint8_t *state,
-                                             size_t state_length, uint8_t *out, size_t out_length);
+/* Yes where some state is taken to `state` by the rule, and the first one in rank order is written. Refused with 3 to
+ * 7, 8, 9, 11. */
+mikjuqan_decision mikjuqan_first_predecessor(const uint8_t *block, size_t block_length, size_t rule,
+                                             const uint8_t *state, size_t state_length, uint8_t *out,
+                                             size_t out_length);
 
-/* The same for the next one after `earlier`, which may be any state. Refused with 3 to 7, 8 (for both states), 9, 11. */
-mikjuqan_decision mikjuqan_next_predecessor(const uint8_t *block, size_t block_length, size_t rule, const uint8_t *state,
-                                            size_t state_length, const uint8_t *earlier, size_t earlier_length,
-                                            uint8_t *out, size_t out_length);
+/* The same for the next one after `earlier`, which may be any state. Refused with 3 to 7, 8 (both states), 9, 11. */
+mikjuqan_decision mikjuqan_next_predecessor(const uint8_t *block, size_t block_length, size_t rule,
+                                            const uint8_t *state, size_t state_length, const uint8_t *earlier,
+                                            size_t earlier_length, uint8_t *out, size_t out_length);
 
 /* Yes where the rule is reversible by form. Refused with 3 to 7, 9. */
 mikjuqan_decision mikjuqan_test_reversible(const uint8_t *block, size_t block_length, size_t rule);
 
-/* Replays a list of rule numbers, one a byte, and writes the state where it ends. Refused with 3 to 7, 8, 9, 10, 11. */
-mikjuqan_run_end mikjuqan_replay_run(const uint8_t *block, size_t block_length, const uint8_t *start, size_t start_length,
-                                     const uint8_t *list, size_t list_length, uint8_t *out, size_t out_length);
+/* Replays a list of rule numbers, one a byte, and writes the state where it ends, which is the start where the list
+ * has length 0. Refused with 3 to 7, 8, 9, 10, 11. */
+mikjuqan_replay mikjuqan_replay_run(const uint8_t *block, size_t block_length, const uint8_t *start,
+                                    size_t start_length, const uint8_t *list, size_t list_length, uint8_t *out,
+                                    size_t out_length);
 
 /* ---- tables: K to the power n entries, one for each rank; those behind do not count and are not written ---- */
 
@@ -150,12 +190,20 @@ mikjuqan_entry mikjuqan_look_up_estimate(const uint8_t *block, size_t block_leng
 
 /* ---- the search ---- */
 
-/* Finds a cheapest plan from a start, of at most `steps` rules and within the cost limit, with at most so many visits, by
- * any table that passes the test. A plan that is found is written, one rule number a byte; `plan` has room for `steps`
- * bytes, also where the plan is shorter. Refused with 3 to 7, 8, 10, 11, 12, 13. Needs at most 256 KiB of stack. */
-mikjuqan_plan mikjuqan_find_plan(const uint8_t *block, size_t block_length, const uint8_t *start, size_t start_length,
-                                 size_t steps, uint32_t cost, uint32_t visits, const uint32_t *table, size_t table_length,
-                                 uint8_t *plan, size_t plan_length);
+/* The limits of a search: the most rules of a plan, which are at most MIKJUQAN_PLAN_LENGTH, the highest cost of a
+ * plan, and the most visits. */
+typedef struct {
+  size_t steps;
+  uint32_t cost;
+  uint32_t visits;
+} mikjuqan_limits;
+
+/* Finds a cheapest plan from a start within the limits, by any table that passes the test. A plan that is found is
+ * written, one rule number a byte; `plan` has room for `limits.steps` bytes, also where the plan is shorter. Refused
+ * with 3 to 7, 8, 10, 11, 12, 13. Needs at most 256 KiB of stack. */
+mikjuqan_search mikjuqan_find_plan(const uint8_t *block, size_t block_length, const uint8_t *start,
+                                   size_t start_length, mikjuqan_limits limits, const uint32_t *table,
+                                   size_t table_length, uint8_t *plan, size_t plan_length);
 
 #ifdef __cplusplus
 }

@@ -1,6 +1,6 @@
 #!/usr/bin/env python3
-"""Inputs of `par` at the limits of its memory, and some that it refuses: inputs.py NAME prints tests/inputs/NAME.txt, and
-inputs.py NAME answers what `par` must print for it, by reference.py.
+"""Inputs of `par` at the limits of its memory, and some that it refuses: inputs.py NAME prints tests/inputs/NAME.txt,
+and inputs.py NAME answers what `par` must print for it, by reference.py.
 """
 import samples
 import worked
@@ -39,4 +39,4 @@ INPUTS = {
 }
 
 if __name__ == '__main__':
-    samples.main(INPUTS)
+    samples.main('tests/inputs.py', INPUTS)

@@ -1,7 +1,8 @@
-"""An independent reading of the language: blocks, states, matching, applying, goals, relabelling, stepping back, reversible rules, replay,
-tables, search, exercises as text, and what the program `par` prints.
+"""An independent reading of the language: blocks, states, matching, applying, goals, relabelling, stepping back,
+reversible rules, replay, tables, search, exercises as text, and what the program `par` prints.
 
-It shares nothing with the crates, nor with the model in Rust. The worked exercises (worked.py) and the samples (samples.py) are made from it.
+It shares nothing with the crates, nor with the model in Rust. The worked exercises (worked.py) and the samples
+(samples.py) are made from it.
 """
 import functools
 import heapq
@@ -102,7 +103,8 @@ class Exercise:
         return [made[term[0]](term, old) for term, old in zip(right, state)]
 
     def leading_to(self, rule, state):
-        """The states that the rule takes to the given one: groups of positions, each with the labels that they may share."""
+        """The states that the rule takes to the given one: groups of positions, each with the labels that they may
+        share."""
         _, left, right = self.rules[rule]
         allowed = {}
         for i, term in enumerate(left):
@@ -123,8 +125,8 @@ class Exercise:
     def step_back(self, rule, state, earlier):
         """The next state after the earlier one (None: from 'first') that the rule takes to the given one, or None.
 
-        Groups stand in the order of their first positions, so the k-th of these states has the digits of k as labels; the first above the
-        earlier one is found by halving.
+        Groups stand in the order of their first positions, so the k-th of these states has the digits of k as labels;
+        the first above the earlier one is found by halving.
         """
         groups = self.leading_to(rule, state)
 
@@ -150,7 +152,9 @@ class Exercise:
         _, left, right = self.rules[rule]
         sides = list(zip(left, right))
         kept = set(right) | {old for old, new in sides if new[0] == 'dash'}
-        return all(new[0] == 'dash' or old[0] == 'label' or (old[0] == 'variable' and old in kept) for old, new in sides)
+        return all(
+            new[0] == 'dash' or old[0] == 'label' or (old[0] == 'variable' and old in kept) for old, new in sides
+        )
 
     def meets(self, state):
         return any(self.match(goal, state) is not None for goal in self.goals)
@@ -177,7 +181,8 @@ class Exercise:
 
 
 class Abstraction:
-    """The relabelled exercise: its states in the order of their ranks, the ranks of those that meet a goal, and each step (u, cost, v) of its rules."""
+    """The relabelled exercise: its states in the order of their ranks, the ranks of those that meet a goal, and each
+    step (u, cost, v) of its rules."""
 
     def __init__(self, exercise):
         self.map = exercise.map
@@ -202,7 +207,8 @@ class Abstraction:
         return found
 
     def least_costs(self):
-        """The least cost of a list of rules from each state to a goal: states are settled from the goals backwards, the nearest first."""
+        """The least cost of a list of rules from each state to a goal: states are settled from the goals backwards,
+        the nearest first."""
         before = [[] for _ in self.states]
         for u, cost, v in self.steps:
             before[v].append((cost, u))
@@ -232,7 +238,8 @@ class Rounds:
     """The rounds of a search, taken literally. The allowance is None for rounds with no allowance."""
 
     def __init__(self, exercise, start, steps, allowance, estimate):
-        self.exercise, self.start, self.steps, self.allowance, self.estimate = exercise, start, steps, allowance, estimate
+        self.exercise, self.start, self.estimate = exercise, start, estimate
+        self.steps, self.allowance = steps, allowance
         self.visits, self.threshold, self.overshoot = 0, None, None
 
     def visit(self, rules, path, cost):
@@ -270,10 +277,11 @@ class Rounds:
 
 
 class Listing:
-    """All open lists within a number of steps, by rule numbers, a prefix before its extensions. There are no rounds here.
+    """All open lists within a number of steps, by rule numbers, a prefix before its extensions. There are no rounds
+    here.
 
-    Each has the place of the list that it extends by one rule, its last state, its cost, and whether that state meets a goal. The plan is
-    the first of the cheapest lists that reach a goal, with its cost, or None: no table is asked.
+    Each has the place of the list that it extends by one rule, its last state, its cost, and whether that state meets
+    a goal. The plan is the first of the cheapest lists that reach a goal, with its cost, or None: no table is asked.
     """
 
     def __init__(self, exercise, start, steps):
@@ -292,8 +300,9 @@ class Listing:
     def visits(self, estimate, limit):
         """How many visits rounds with no allowance make.
 
-        The peak of a list is the largest figure of it and its prefixes. A round visits the lists whose peaks are at most the threshold, and the
-        thresholds are the peaks in rising order: the first list on the way to another whose figure is above the threshold has that as its peak.
+        The peak of a list is the largest figure of it and its prefixes. A round visits the lists whose peaks are at
+        most the threshold, and the thresholds are the peaks in rising order: the first list on the way to another
+        whose figure is above the threshold has that as its peak.
         """
         peaks = []
         for parent, state, cost, _ in self.lists:
@@ -502,7 +511,8 @@ def read_exercise(text, out):
 
 
 def exercise_lines(lines):
-    """How many lines `par` takes for the exercise: all that the head asks for, or the head line alone where it fails."""
+    """How many lines `par` takes for the exercise: all that the head asks for, or the head line alone where it
+    fails."""
     try:
         return len(read_frames(lines[:1])[1])
     except Refused:

@@ -1,11 +1,13 @@
 #!/usr/bin/env python3
-"""The sample exercises: samples.py NAME prints samples/NAME.txt, and samples.py NAME answers what `par` must print for it, by reference.py.
+"""The sample exercises: samples.py NAME prints samples/NAME.txt, and samples.py NAME answers what `par` must print for
+it, by reference.py.
 
 NAME is e, tiles, pancake or slots.
 """
 import sys
 
 import reference
+import usage
 import worked
 
 # The first variable, and the dash.
@@ -28,14 +30,16 @@ def exchange(n, source, target, cost):
 
 def e():
     """Input E of document 01, with its queries."""
-    swaps = [exchange(3, a, b, cost) for a, b, cost in [(0, 1, 1), (1, 0, 1), (1, 2, 1), (2, 1, 1), (0, 2, 3), (2, 0, 3)]]
+    moves = [(0, 1, 1), (1, 0, 1), (1, 2, 1), (2, 1, 1), (0, 2, 3), (2, 0, 3)]
+    swaps = [exchange(3, *move) for move in moves]
     limits = [(8, 100, 100), (8, 100, 9), (8, 4, 100), (2, 100, 100), (65, 100, 100)]
     queries = [([1, 2, 0], *limit) for limit in limits] + [([2, 1, 0], 8, 100, 100)]
     return text([3, 3, 2, 6, 1], [0, 1, 1], swaps, [[2, 1, 0]], queries)
 
 
 def tiles():
-    """Eight tiles that slide on three by three places. The table tells odd tiles from even ones; the empty place counts as an even tile."""
+    """Eight tiles that slide on three by three places. The table tells odd tiles from even ones; the empty place
+    counts as an even tile."""
     pairs = [(i, j) for i in range(9) for j in range(9) if i // 3 == j // 3 and abs(i - j) == 1 or abs(i - j) == 3]
     rules = [exchange(9, a, b, 1) for a, b in pairs]
     starts = ['102345678', '324061785', '165304728', '130624857', '108632754']
@@ -54,7 +58,8 @@ def pancake():
 
 
 def slots():
-    """Seven slots in a row and four kinds of load, with a step to the next slot at cost 1 and over one slot at cost 3; two orders are accepted."""
+    """Seven slots in a row and four kinds of load, with a step to the next slot at cost 1 and over one slot at cost 3;
+    two orders are accepted."""
     n = 7
     steps = [(i, i + reach, cost) for reach, cost in ((1, 1), (2, 3)) for i in range(n - reach)]
     rules = [exchange(n, a, b, cost) for i, j, cost in steps for a, b in ((i, j), (j, i))]
@@ -67,13 +72,12 @@ def slots():
 SAMPLES = {'e': e, 'tiles': tiles, 'pancake': pancake, 'slots': slots}
 
 
-def main(makers):
+def main(script, makers):
     """Prints an input by its name, or with 'answers' what `par` must print for it."""
-    made = makers[sys.argv[1]]()
-    if sys.argv[2:] == ['answers']:
-        made = reference.par(made)
-    sys.stdout.buffer.write(made)
+    name, words = usage.named(f'{script} NAME [answers]', makers, [[], ['answers']])
+    made = makers[name]()
+    sys.stdout.buffer.write(reference.par(made) if words else made)
 
 
 if __name__ == '__main__':
-    main(SAMPLES)
+    main('tests/samples.py', SAMPLES)

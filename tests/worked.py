@@ -1,20 +1,22 @@
 #!/usr/bin/env python3
-"""Worked exercises, as lines that each hold a call, what it is handed and what must come of it by the reading of reference.py.
+"""Worked exercises, as lines that each hold a call, what it is handed and what must come of it by the reading of
+reference.py.
 
 worked.py NAME prints them; its output is kept as tests/vectors/NAME.txt. A line is
 
     CALL ARGUMENT .. = ANSWER [BUFFER]
 
-where BUFFER is what the buffer, the last argument, holds afterwards. Bytes are pairs of hexadecimal digits, parts of them joined by '+',
-PAIR*COUNT for a run; entries of a table are decimal numbers joined by ',', ENTRY*COUNT for a run; '-' stands for none. Lines with '#'
-say what follows. worked.py fill_order_input prints what the program fill_order reads, worked.py fill_order what it must print.
+where BUFFER is what the buffer, the last argument, holds afterwards. Bytes are pairs of hexadecimal digits, parts of
+them joined by '+', PAIR*COUNT for a run; entries of a table are decimal numbers joined by ',', ENTRY*COUNT for a run;
+'-' stands for none. Lines with '#' say what follows. worked.py fill_order_input prints what the program fill_order
+reads, worked.py fill_order what it must print.
 """
 import functools
 import itertools
-import sys
 from random import Random
 
 import reference
+import usage
 
 
 def runs(values):
@@ -44,7 +46,8 @@ def shown(answer):
     if isinstance(answer, int):
         return f'refused {answer}' if answer else 'accepted'
     if isinstance(answer, str):
-        return {'done': 'yes', 'does not apply': 'no', 'found': 'yes', 'none further': 'no', 'filled': 'accepted'}[answer]
+        words = {'done': 'yes', 'does not apply': 'no', 'found': 'yes', 'none further': 'no', 'filled': 'accepted'}
+        return words[answer]
     word, *numbers = answer
     return ' '.join([word.replace(' ', '-'), *map(str, numbers)])
 
@@ -204,7 +207,8 @@ def rules():
 def block_of(n, labels, rules, goals=None, mapped=None):
     """A block. A rule is a cost and two sides, a goal one: labels as hexadecimal digits, variables as letters, dashes.
 
-    There is one abstract label, or as many as labels where the map is given; the goal is one of dashes where none is given.
+    There is one abstract label, or as many as labels where the map is given; the goal is one of dashes where none is
+    given.
     """
 
     def terms(side):
@@ -218,7 +222,8 @@ def block_of(n, labels, rules, goals=None, mapped=None):
 
 
 def counter(bits, cost, goal, direction=1):
-    """Counts up at a cost a step: 0 1 .. 1 at the end become 1 0 .. 0. Where the direction is -1 the last position comes first."""
+    """Counts up at a cost a step: 0 1 .. 1 at the end become 1 0 .. 0. Where the direction is -1 the last position
+    comes first."""
     rules = []
     for ones in range(bits):
         kept = '-' * (bits - 1 - ones)
@@ -462,7 +467,8 @@ def listing(block, start, steps):
 
 
 def find_plan(block, start, steps, limit, allowance, table, plan):
-    """The search by its rounds, told, and compared with the listing of all open lists, which has no rounds, and whose plan has no table."""
+    """The search by its rounds, told, and compared with the listing of all open lists, which has no rounds, and whose
+    plan has no table."""
     value, out = reference.find_plan(block, start, steps, limit, allowance, table, plan)
     if isinstance(value, tuple):
         status, _, cost, visits = value
@@ -476,8 +482,8 @@ def find_plan(block, start, steps, limit, allowance, table, plan):
             assert unbounded == visits <= allowance
             assert (status == 'found') == (every.plan is not None and every.plan[1] <= limit)
             assert (out, cost) == (cheapest[0] + plan[len(cheapest[0]) :], cheapest[1])
-    arguments = [packed_bytes(block), packed_bytes(start), steps, limit, allowance, packed_entries(table), packed_bytes(plan)]
-    line('find_plan', arguments, value, packed_bytes(out))
+    query = [packed_bytes(block), packed_bytes(start), steps, limit, allowance]
+    line('find_plan', [*query, packed_entries(table), packed_bytes(plan)], value, packed_bytes(out))
 
 
 def search(block, start, steps, limit, allowance, table, room=12):
@@ -497,7 +503,8 @@ def searches_of_e():
     for steps in (66, 2**32 + 8, 2**64 - 1):
         search_e(steps, 100, 100)
     title('V from 0 to 11; on zeros from 0 to 20; for B = 4 from 0 to 7; for D = 2 from 0 to 12')
-    for steps, limit, contents, most in [(8, 100, E_TABLE, 11), (8, 100, [0] * 8, 20), (8, 4, E_TABLE, 7), (2, 100, E_TABLE, 12)]:
+    cases = [(8, 100, E_TABLE, 11), (8, 100, [0] * 8, 20), (8, 4, E_TABLE, 7), (2, 100, E_TABLE, 12)]
+    for steps, limit, contents, most in cases:
         for allowance in range(most + 1):
             search_e(steps, limit, allowance, contents)
     title('B from 0 to 7; on zeros')
@@ -530,7 +537,8 @@ def searches_of_one_position():
     title('two rules to one state, and no way to the goal')
     search_twice(block_of(1, 4, [(1, '0', '1'), (1, '0', '1'), (1, '1', '2')], ['3'], list(range(4))), 0)
     title('three steps and one at the same cost')
-    search_twice(block_of(1, 4, [(0, '0', '1'), (0, '1', '2'), (2, '2', '3'), (2, '0', '3')], ['3'], list(range(4))), 0)
+    edges = [(0, '0', '1'), (0, '1', '2'), (2, '2', '3'), (2, '0', '3')]
+    search_twice(block_of(1, 4, edges, ['3'], list(range(4))), 0)
     title('cycles at no cost, with and without a way to the goal')
     for start in (0, 1, 4):
         search_twice(cycles(), start)
@@ -546,8 +554,8 @@ def search_with_large_figures(first):
 
 def searches_with_large_figures():
     title(
-        'figures of 4294967294, 4294967295 and 4294967550: B = 4294967293, 4294967294, 4294967295, then with D = 1 and 0,'
-        ' then with V = 3, 2, 1'
+        'figures of 4294967294, 4294967295 and 4294967550: B = 4294967293, 4294967294, 4294967295, then with D = 1'
+        ' and 0, then with V = 3, 2, 1'
     )
     search_with_large_figures(reference.MARK - 1)
     title('the same where the first estimate is 0')
@@ -591,7 +599,8 @@ def faulty_searches():
         faults = subset(k, ['variable', 'state', 'limit', 'buffer', 'table', 'test'])
         start = [1, 2, 3 if 'state' in faults else 0]
         failing = longer[:5] + [2 if 'test' in faults else 1] + longer[6:]
-        steps, room, length = 65 if 'limit' in faults else 8, 7 if 'buffer' in faults else 8, 7 if 'table' in faults else 8
+        steps = 65 if 'limit' in faults else 8
+        room, length = (7 if fault in faults else 8 for fault in ('buffer', 'table'))
         search(faulty(faults), start, steps, 100, 100, failing[:length], room)
 
 
@@ -630,7 +639,8 @@ def text_of(block):
 def faulty_text(k):
     """Input E's text and the buffer's length, with a set of faults."""
     names = ['character', 'head line', 'head', 'line', 'buffer', 'map', 'term', 'variable']
-    changes = {'character': (113, b'a'), 'head': (9, b'9'), 'map': (12, b'2'), 'term': (109, b'3'), 'variable': (26, b'11')}
+    changes = {'character': (113, b'a'), 'head': (9, b'9'), 'map': (12, b'2'), 'term': (109, b'3')}
+    changes['variable'] = 26, b'11'
     faults, text = subset(k, names), E_TEXT
     for fault in faults & changes.keys():
         place, by = changes[fault]
@@ -652,8 +662,8 @@ def faulty_texts():
     title("input E's text")
     reading(E_TEXT)
     title(
-        'a lower-case digit, a head line of eight digits, a head out of limits, a line missing, a buffer of 52 bytes, map byte 2, term 3,'
-        ' an unbound variable'
+        'a lower-case digit, a head line of eight digits, a head out of limits, a line missing, a buffer of 52 bytes,'
+        ' map byte 2, term 3, an unbound variable'
     )
     for fault in range(8):
         reading(*faulty_text(1 << fault))
@@ -664,15 +674,16 @@ def faulty_texts():
 
 def texts_with_other_characters():
     title(
-        "in the map's line a digit left out, a digit more; in the head line; a digit moved from the map's line to rule 0's,"
-        " from rule 0's to the map's"
+        "in the map's line a digit left out, a digit more; in the head line; a digit moved from the map's line to rule"
+        " 0's, from rule 0's to the map's"
     )
     readings((16, 17), (17, 17, b'0'), (9, 10), (10, 10, b'0'), (16, 18, b'\n1'), (17, 19, b'0\n'))
     title(
-        "a carriage return before the first line feed, before the last, for the last; a blank before, in, behind the map's line,"
-        ' for a digit; a zero byte for a digit, behind the text; lower case in the head line'
+        'a carriage return before the first line feed, before the last, for the last; a blank before, in, behind the'
+        " map's line, for a digit; a zero byte for a digit, behind the text; lower case in the head line"
     )
-    readings((10, 10, b'\r'), (114, 114, b'\r'), (114, 115, b'\r'), (11, 11, b' '), (13, 13, b' '), (17, 17, b' '), (13, 14, b' '))
+    readings((10, 10, b'\r'), (114, 114, b'\r'), (114, 115, b'\r'))
+    readings((11, 11, b' '), (13, 13, b' '), (17, 17, b' '), (13, 14, b' '))
     readings((13, 14, b'\0'), (115, 115, b'\0'), (1, 2, b'a'))
     for heading, place in [("each character as the first digit of rule 0's cost", 18), ('as the second', 19)]:
         title(heading)
@@ -682,18 +693,24 @@ def texts_with_other_characters():
 
 def texts_with_other_lines():
     title(
-        'the last line unended; no text; one line feed, two; an empty line behind the text, in front of it, within it; the head line alone'
+        'the last line unended; no text; one line feed, two; an empty line behind the text, in front of it, within it;'
+        ' the head line alone'
     )
-    for text in (E_TEXT[:-1], b'', b'\n', b'\n\n', E_TEXT + b'\n', b'\n' + E_TEXT, replaced(E_TEXT, 33, 33, b'\n'), E_TEXT[:11]):
+    within = replaced(E_TEXT, 33, 33, b'\n')
+    for text in (E_TEXT[:-1], b'', b'\n', b'\n\n', E_TEXT + b'\n', b'\n' + E_TEXT, within, E_TEXT[:11]):
         reading(text)
-    title("behind the text a goal's line, a query's, a goal's unended, a goal's with a lower-case digit, with an odd number")
+    title(
+        "behind the text a goal's line, a query's, a goal's unended, a goal's with a lower-case digit, with an odd"
+        ' number'
+    )
     for more in (b'020100\n', b'010200080000006400000064\n', b'020100', b'02010a\n', b'02010\n'):
         reading(E_TEXT + more)
     lines = reference.lines_of(E_TEXT)
     for i in range(9):
         before, own, behind = lines[:i], lines[i], lines[i + 1 :]
         title(f'line {i} left out, doubled, exchanged with the next, without its first pair, with a pair more')
-        for changed in (behind, [own, own, *behind], [*behind[:1], own, *behind[1:]], [own[2:], *behind], [b'00' + own, *behind]):
+        exchanged = [*behind[:1], own, *behind[1:]]
+        for changed in (behind, [own, own, *behind], exchanged, [own[2:], *behind], [b'00' + own, *behind]):
             reading(b''.join(before + changed))
     title('each line feed but the last moved to the front by two digits, by one, to the back by one, by two')
     for at in itertools.accumulate(map(len, lines[:8])):
@@ -751,7 +768,10 @@ def largest_texts():
     title("its last map byte, the last goal's last term, the last rule's last term changed: good and bad")
     for place, pair in [(41, b'01'), (4593, b'FF'), (4593, b'20'), (4329, b'0F'), (4329, b'10')]:
         read_largest(place, place + 2, pair)
-    title('line feeds up to 40,000 characters; the last a lower-case digit, a digit; the head out of limits; the head line unpaired')
+    title(
+        'line feeds up to 40,000 characters; the last a lower-case digit, a digit; the head out of limits; the head'
+        ' line unpaired'
+    )
     for place, by in [(39999, b'\n'), (39999, b'a'), (39999, b'0'), (9, b'9'), (9, b'\n')]:
         reading(replaced(E_TEXT.ljust(40000, b'\n'), place, place + 1, by))
 
@@ -767,7 +787,8 @@ def texts():
 
 
 def query_line(start, steps, limit, allowance):
-    return (bytes([*start, steps]) + limit.to_bytes(4, 'big') + allowance.to_bytes(4, 'big')).hex().upper().encode() + b'\n'
+    query = bytes([*start, steps]) + limit.to_bytes(4, 'big') + allowance.to_bytes(4, 'big')
+    return query.hex().upper().encode() + b'\n'
 
 
 # A query of input E that finds its plan, and input E with this query.
@@ -814,14 +835,15 @@ def sessions_with_other_lines():
     for lines in ([b'\n', first], [first, b'\n', first], [first, b'\n'], [b'\n'] * 3):
         queries(*lines)
     title(
-        'before a query one with lower case, a carriage return at its end, a blank in front, behind, a zero byte behind,'
-        ' a digit more, a digit less'
+        'before a query one with lower case, a carriage return at its end, a blank in front, behind, a zero byte'
+        ' behind, a digit more, a digit less'
     )
     ended = [first[:-2] + b'a', first[:-1] + b'\r', b' ' + first[:-1], first[:-1] + b' ', first[:-1] + b'\0']
     for query in ended + [first[:-1] + b'0', first[:-2]]:
         queries(query + b'\n', first)
     title(
-        "before a query one with a pair more, a pair less, a goal's line, the head line, two in one line, a label 3, labels 255"
+        "before a query one with a pair more, a pair less, a goal's line, the head line, two in one line, a label 3,"
+        ' labels 255'
     )
     ended = [first[:-1] + b'00', first[:-3], b'020100', b'0303020601', first[:-1] * 2]
     for query in ended + [query_line(start, 8, 100, 100)[:-1] for start in ([1, 2, 3], [255] * 3)]:
@@ -841,20 +863,24 @@ def faulty_queries():
 
 def sessions_with_other_exercises():
     title(
-        "no input; one line feed, two; the head line alone, unended, with only the map's line behind; all lines but the last;"
-        ' the last unended'
+        "no input; one line feed, two; the head line alone, unended, with only the map's line behind; all lines but"
+        ' the last; the last unended'
     )
     for data in (b'', b'\n', b'\n\n', E_TEXT[:11], E_TEXT[:10], E_TEXT[:18], E_TEXT[:108], E_TEXT[:114]):
         par(data)
     title("a carriage return in the head line, in the map's line, in the last of the exercise")
     sessions_replaced((10, 10, b'\r'), (17, 17, b'\r'), (114, 114, b'\r'))
     title(
-        "an empty line in front, within, behind the exercise; the map's line, a rule's, the goal's left out; the goal's doubled"
+        "an empty line in front, within, behind the exercise; the map's line, a rule's, the goal's left out; the"
+        " goal's doubled"
     )
     sessions_replaced((0, 0, b'\n'), (33, 33, b'\n'), (115, 115, b'\n'), (11, 18), (18, 33), (108, 115), (115, 108))
     title('one rule less, one more, one goal more, one label more by the head')
     sessions_replaced((7, 8, b'5'), (7, 8, b'7'), (9, 10, b'2'), (3, 4, b'4'))
-    title('lower case behind a head line of eight digits, of twelve, behind a head out of limits, in the line behind the exercise')
+    title(
+        'lower case behind a head line of eight digits, of twelve, behind a head out of limits, in the line behind the'
+        ' exercise'
+    )
     sessions_replaced((8, 14, b'\n10a'), (10, 14, b'00\n00a'), (9, 14, b'9\n00a'), (115, 115, b'0a\n'))
     title(
         'a lower-case digit, a head line of eight digits, a head out of limits, a line missing, map byte 2, term 3,'
@@ -879,7 +905,8 @@ def large_sessions():
     session(DEEP, *((start, *bound) for bound in bounds), ([0] * 6 + [1], 63, 16065, 64))
     title('no plan within 11 steps, after 81140 visits: V = 100000, 81140, 81139, 70000')
     flips = [(1, '-' * i + a + '-' * (3 - i), '-' * i + b + '-' * (3 - i)) for i in range(4) for a, b in ('01', '10')]
-    session(block_of(4, 3, flips, ['2222']), *(([0] * 4, 11, 100, allowance) for allowance in (100000, 81140, 81139, 70000)))
+    allowances = (100000, 81140, 81139, 70000)
+    session(block_of(4, 3, flips, ['2222']), *(([0] * 4, 11, 100, allowance) for allowance in allowances))
     title('a table of 16384 entries: from <0,0,0,0,0,0,0>; from <3,2,1,0,1,2,3>, with D = 13; from the goal')
     raised = [(label + 2, f'{label}------', f'{label + 1}------') for label in range(3)]
     ring = block_of(7, 4, [(1, 'ABCDEFG', 'BCDEFGA'), *raised], ['3333333'], [0, 1, 2, 3])
@@ -891,7 +918,8 @@ def large_sessions():
 
 def long_sessions():
     title(
-        'a query, an empty line and a long one, 32768, 32769, 32770, 40000 bytes in all; the long line unended, 32768 and 32769 bytes in all'
+        'a query, an empty line and a long one, 32768, 32769, 32770, 40000 bytes in all; the long line unended, 32768'
+        ' and 32769 bytes in all'
     )
     long = E_SESSION + b'\n'
     for length in (32768, 32769, 32770, 40000):
@@ -956,9 +984,11 @@ def fill_order_blocks():
     ones = '1' * 14
     blocks += [counter(14, 1, ones), counter(14, 1, ones, -1), counter(14, 255, ones), rings()]
     # seeds with which many states reach a goal, some of them from far
-    large = [(3, 14, 2, 64, 1), (3, 14, 2, 64, 8), (10, 7, 4, 30, 1), (4, 6, 5, 20, 2), (11, 4, 11, 16, 3), (9, 3, 16, 16, 8)]
-    large += [(1, 16, 1, 64, 8)]
-    return blocks + [random_block(Random(seed), n, labels, labels, rules, goals) for seed, n, labels, rules, goals in large]
+    large = [(3, 14, 2, 64, 1), (3, 14, 2, 64, 8), (10, 7, 4, 30, 1), (4, 6, 5, 20, 2), (11, 4, 11, 16, 3)]
+    large += [(9, 3, 16, 16, 8), (1, 16, 1, 64, 8)]
+    for seed, n, labels, rules, goals in large:
+        blocks.append(random_block(Random(seed), n, labels, labels, rules, goals))
+    return blocks
 
 
 def fill_order_input():
@@ -974,4 +1004,5 @@ def fill_order():
 
 if __name__ == '__main__':
     parts = [blocks, rules, predecessors, replays, tables, searches, texts, sessions, fill_order, fill_order_input]
-    {part.__name__: part for part in parts}[sys.argv[1]]()
+    by_name = {part.__name__: part for part in parts}
+    by_name[usage.named('tests/worked.py NAME', by_name)[0]]()

@@ -1,8 +1,10 @@
 //! `include/mikjuqan.h` in Rust, and each of its calls on slices.
 //!
-//! All unsafe code of the crate stands here. What makes it sound is always the same: a slice's pointer is not null and its
-//! length is right, the library reads and writes nothing outside of the buffers that it is lent, a slice that is written
-//! is borrowed alone, and nothing is kept when the call ends.
+//! All unsafe code of the crate stands here. What makes it sound is always the same: a slice's pointer is not null and
+//! its length is right, the library reads and writes nothing outside of the buffers that it is lent, a slice that is
+//! written is borrowed alone, and nothing is kept when the call ends.
+
+use crate::{Limits, Plan, RunEnd};
 
 #[repr(C)]
 pub struct Decision {
@@ -23,24 +25,21 @@ pub struct Entry {
 }
 
 #[repr(C)]
-pub struct RunEnd {
+pub struct Replay {
     pub refusal: u32,
     pub stuck: u32,
-    pub index: usize,
-    pub cost: u32,
+    pub end: RunEnd,
 }
 
 #[repr(C)]
-pub struct Plan {
+pub struct Search {
     pub refusal: u32,
     pub status: u32,
-    pub steps: usize,
-    pub cost: u32,
-    pub visits: u32,
+    pub plan: Plan,
 }
 
 mod c {
-    use super::{Decision, Entry, Length, Plan, RunEnd};
+    use super::{Decision, Entry, Length, Limits, Replay, Search};
 
     extern "C" {
         pub fn mikjuqan_read_exercise(text: *const u8, text_length: usize, out: *mut u8, out_length: usize) -> Length;
@@ -100,7 +99,7 @@ mod c {
             list_length: usize,
             out: *mut u8,
             out_length: usize,
-        ) -> RunEnd;
+        ) -> Replay;
 
         pub fn mikjuqan_fill_table(block: *const u8, block_length: usize, table: *mut u32, table_length: usize) -> u32;
 
@@ -125,14 +124,12 @@ mod c {
             block_length: usize,
             start: *const u8,
             start_length: usize,
-            steps: usize,
-            cost: u32,
-            visits: u32,
+            limits: Limits,
             table: *const u32,
             table_length: usize,
             plan: *mut u8,
             plan_length: usize,
-        ) -> Plan;
+        ) -> Search;
     }
 }
 
@@ -200,7 +197,7 @@ pub fn test_reversible(block: &[u8], rule: usize) -> Decision {
     unsafe { c::mikjuqan_test_reversible(block.as_ptr(), block.len(), rule) }
 }
 
-pub fn replay_run(block: &[u8], start: &[u8], list: &[u8], out: &mut [u8]) -> RunEnd {
+pub fn replay_run(block: &[u8], start: &[u8], list: &[u8], out: &mut [u8]) -> Replay {
     unsafe {
         c::mikjuqan_replay_run(
             block.as_ptr(),
@@ -236,24 +233,14 @@ pub fn look_up_estimate(block: &[u8], state: &[u8], table: &[u32]) -> Entry {
     }
 }
 
-pub fn find_plan(
-    block: &[u8],
-    start: &[u8],
-    steps: usize,
-    cost: u32,
-    visits: u32,
-    table: &[u32],
-    plan: &mut [u8],
-) -> Plan {
+pub fn find_plan(block: &[u8], start: &[u8], limits: Limits, table: &[u32], plan: &mut [u8]) -> Search {
     unsafe {
         c::mikjuqan_find_plan(
             block.as_ptr(),
             block.len(),
             start.as_ptr(),
             start.len(),
-            steps,
-            cost,
-            visits,
+            limits,
             table.as_ptr(),
             table.len(),
             plan.as_mut_ptr(),

@@ -3,11 +3,21 @@
 use core::error::Error;
 use core::fmt;
 
-/// Why a call was refused. Each case has a number; the lowest wins, except in [`read_exercise`](crate::read_exercise).
+/// Why a call was refused. Each case has a number; the lowest wins, except in
+/// [`read_exercise`](crate::read_exercise).
+///
+/// ```
+/// use mikjuqan::{Exercise, Refusal};
+///
+/// let refusal = Exercise::new(&[1, 2, 3]).check_block().unwrap_err();
+/// assert_eq!((refusal, refusal.number()), (Refusal::Head, 3));
+/// assert_eq!(refusal.to_string(), "refused with 3: the head is short or out of limits");
+/// ```
 #[derive(Clone, Copy, Debug, PartialEq, Eq, PartialOrd, Ord, Hash)]
+#[non_exhaustive]
 pub enum Refusal {
-    /// 1: a text holds another character than 0 to 9, A to F and line feed, a line with an odd number of digits, or a last
-    /// line that does not end.
+    /// 1: a text holds another character than 0 to 9, A to F and line feed, a line with an odd number of digits, or a
+    /// last line that does not end.
     Character = 1,
     /// 2: the head line is not ten digits, or a line is missing, extra or of another length than the head asks.
     Line = 2,
@@ -37,7 +47,7 @@ pub enum Refusal {
 
 impl Refusal {
     /// All refusals, in the order of their numbers.
-    pub const ALL: [Refusal; 13] = [
+    pub const ALL: &'static [Refusal] = &[
         Refusal::Character,
         Refusal::Line,
         Refusal::Head,
@@ -54,6 +64,14 @@ impl Refusal {
     ];
 
     /// The number of this refusal, 1 to 13.
+    ///
+    /// ```
+    /// use mikjuqan::Refusal;
+    ///
+    /// assert_eq!(Refusal::Character.number(), 1);
+    /// assert_eq!(Refusal::TableFails.number(), 13);
+    /// assert!(Refusal::ALL.iter().map(|refusal| refusal.number()).eq(1..=13));
+    /// ```
     pub fn number(self) -> u32 {
         self as u32
     }
@@ -71,7 +89,7 @@ impl fmt::Display for Refusal {
             Refusal::Unbound => "a right variable does not stand on the left",
             Refusal::State => "a state has a wrong length or a byte that is no label",
             Refusal::Rule => "there is no such rule",
-            Refusal::Limit => "the step limit or the list is too long",
+            Refusal::Limit => "the step limit is over 64, or the list is over 4,096",
             Refusal::Buffer => "the buffer is too short",
             Refusal::TableShort => "the table is too short",
             Refusal::TableFails => "the table fails the lower-bound test",

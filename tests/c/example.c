@@ -1,11 +1,16 @@
-/* Every call of the library on one exercise, as a program that uses it would make them.
+/* Every call of the library on one exercise, as a program that uses it would make them, and every buffer of every call
+ * once as NULL.
  *
- * Build it in the repository's directory: gcc -std=c11 tests/c/example.c target/staticlib/libmikjuqan.a
+ * Build it in the repository's directory, as C or as C++:
  *
- * Three slots hold the labels 0 (empty), 1 and 2. Rules 0 to 3 move a label to an empty neighbour at cost 1, rules 4 and 5
- * move one between the ends at cost 3. For the table labels 1 and 2 count as one. The goal is <2,1,0>.
+ *   gcc -std=c11 tests/c/example.c tests/c/texts.c target/staticlib/libmikjuqan.a
+ *   g++ -std=c++17 tests/c/example.c tests/c/texts.c target/staticlib/libmikjuqan.a
+ *
+ * Three slots hold the labels 0 (empty), 1 and 2. Rules 0 to 3 move a label to an empty neighbour at cost 1, rules 4
+ * and 5 move one between the ends at cost 3. For the table labels 1 and 2 count as one. The goal is <2,1,0>.
  */
 #include "../../include/mikjuqan.h"
+#include "findings.h"
 
 #include <stdio.h>
 #include <string.h>
@@ -25,11 +30,11 @@ enum { POSITIONS = 3, RULES = 6, ENTRIES = 8, STEPS = 8 };
 
 static const uint8_t start[POSITIONS] = {1, 2, 0};
 static const uint8_t goal[POSITIONS] = {2, 1, 0};
+static const uint8_t list[] = {2, 0, 5, 5};
 
 static int failures = 0;
 
-/* Prints a finding, and counts it if it is not as it should be. */
-static void expect(int holds, const char *finding) {
+void expect(int holds, const char *finding) {
   printf("%s %s\n", holds ? "yes:" : "NO: ", finding);
   if (!holds) {
     failures++;
@@ -38,6 +43,15 @@ static void expect(int holds, const char *finding) {
 
 static int same(const uint8_t *state, uint8_t first, uint8_t second, uint8_t third) {
   return state[0] == first && state[1] == second && state[2] == third;
+}
+
+/* Limits by the names of their members. */
+static mikjuqan_limits within(size_t steps, uint32_t cost, uint32_t visits) {
+  mikjuqan_limits limits;
+  limits.steps = steps;
+  limits.cost = cost;
+  limits.visits = visits;
+  return limits;
 }
 
 /* ---- the exercise ---- */
@@ -109,19 +123,22 @@ static void step_back(const uint8_t *block, size_t block_length) {
   expect(reversible.refusal == MIKJUQAN_REFUSED_RULE && !reversible.yes, "rule 255 is refused with 9");
 }
 
-static void replay(const uint8_t *block, size_t block_length) {
-  static const uint8_t list[] = {2, 0, 5, 5};
-  uint8_t out[POSITIONS] = {9, 9, 9};
-  mikjuqan_run_end run = mikjuqan_replay_run(block, block_length, start, POSITIONS, list, 3, out, POSITIONS);
-  expect(run.refusal == MIKJUQAN_ACCEPTED && !run.stuck && run.cost == 5 && same(out, 2, 1, 0),
-         "rules 2, 0, 5 lead to <2,1,0> at cost 5");
-  run = mikjuqan_replay_run(block, block_length, start, POSITIONS, list, 4, out, POSITIONS);
-  expect(run.refusal == MIKJUQAN_ACCEPTED && run.stuck && run.index == 3 && run.cost == 5,
-         "with rule 5 once more they are stuck at index 3");
+static int ends(mikjuqan_replay run, uint32_t stuck, size_t steps, uint32_t cost) {
+  return run.refusal == MIKJUQAN_ACCEPTED && run.stuck == stuck && run.end.steps == steps && run.end.cost == cost;
+}
 
-  static const uint8_t zeros[MIKJUQAN_LIST_LENGTH + 1];
+static void replay(const uint8_t *block, size_t block_length) {
+  uint8_t out[POSITIONS] = {9, 9, 9};
+  mikjuqan_replay run = mikjuqan_replay_run(block, block_length, start, POSITIONS, list, 3, out, POSITIONS);
+  expect(ends(run, 0, 3, 5) && same(out, 2, 1, 0), "rules 2, 0, 5 lead to <2,1,0> in 3 steps at cost 5");
+  run = mikjuqan_replay_run(block, block_length, start, POSITIONS, list, 4, out, POSITIONS);
+  expect(ends(run, 1, 3, 5) && same(out, 2, 1, 0), "with rule 5 once more they are stuck there, at index 3");
+  run = mikjuqan_replay_run(block, block_length, start, POSITIONS, list + 1, 3, out, POSITIONS);
+  expect(ends(run, 1, 0, 0) && same(out, 1, 2, 0), "without rule 2 they are stuck at index 0");
+
+  static const uint8_t zeros[MIKJUQAN_LIST_LENGTH + 1] = {0};
   run = mikjuqan_replay_run(block, block_length, start, POSITIONS, zeros, sizeof zeros, out, POSITIONS);
-  expect(run.refusal == MIKJUQAN_REFUSED_LIMIT && !run.stuck && run.index == 0 && run.cost == 0,
+  expect(run.refusal == MIKJUQAN_REFUSED_LIMIT && !run.stuck && run.end.steps == 0 && run.end.cost == 0,
          "a list of 4,097 rules is refused with 10");
 }
 
@@ -152,26 +169,132 @@ static void fill_and_look_up(const uint8_t *block, size_t block_length, uint32_t
   expect(estimate.refusal == MIKJUQAN_REFUSED_HEAD && estimate.entry == 0, "a block of four bytes is refused with 3");
 }
 
+/* Whether a search is refused with a number, and tells nothing else. */
+static int is_refused(mikjuqan_search told, uint32_t refusal) {
+  return told.refusal == refusal && told.status == 0 && told.plan.steps == 0 && told.plan.cost == 0 &&
+         told.plan.visits == 0;
+}
+
+static int answers(mikjuqan_search told, uint32_t status, size_t steps, uint32_t cost, uint32_t visits) {
+  return told.refusal == MIKJUQAN_ACCEPTED && told.status == status && told.plan.steps == steps &&
+         told.plan.cost == cost && told.plan.visits == visits;
+}
+
 static void search(const uint8_t *block, size_t block_length, uint32_t *table) {
   uint8_t plan[STEPS] = {255, 255, 255, 255, 255, 255, 255, 255};
-  mikjuqan_plan found =
-      mikjuqan_find_plan(block, block_length, start, POSITIONS, STEPS, 100, 100, table, ENTRIES, plan, STEPS);
-  expect(found.refusal == MIKJUQAN_ACCEPTED && found.status == MIKJUQAN_FOUND, "there is a plan");
-  expect(found.steps == 3 && found.cost == 5 && found.visits == 10, "of 3 steps at cost 5, found with 10 visits");
+  mikjuqan_limits limits = within(STEPS, 100, 100);
+  mikjuqan_search told =
+      mikjuqan_find_plan(block, block_length, start, POSITIONS, limits, table, ENTRIES, plan, STEPS);
+  expect(answers(told, MIKJUQAN_FOUND, 3, 5, 10), "there is a plan of 3 steps at cost 5, found with 10 visits");
   expect(same(plan, 2, 0, 5) && plan[3] == 255, "its rules are 2, 0, 5, and nothing is written behind them");
 
-  found = mikjuqan_find_plan(block, block_length, start, POSITIONS, STEPS, 4, 100, table, ENTRIES, plan, STEPS);
-  expect(found.refusal == MIKJUQAN_ACCEPTED && found.status == MIKJUQAN_NO_PLAN && found.steps == 0 &&
-             found.cost == 0 && found.visits == 6,
-         "there is none at cost 4, which takes 6 visits to know");
-  found = mikjuqan_find_plan(block, block_length, start, POSITIONS, STEPS, 100, 9, table, ENTRIES, plan, STEPS);
-  expect(found.refusal == MIKJUQAN_ACCEPTED && found.status == MIKJUQAN_SPENT && found.visits == 9,
-         "with 9 visits the search is spent");
+  mikjuqan_limits lower_cost = within(STEPS, 4, 100);
+  told = mikjuqan_find_plan(block, block_length, start, POSITIONS, lower_cost, table, ENTRIES, plan, STEPS);
+  expect(answers(told, MIKJUQAN_NO_PLAN, 0, 0, 6), "there is none at cost 4, which takes 6 visits to know");
+  mikjuqan_limits fewer_visits = within(STEPS, 100, 9);
+  told = mikjuqan_find_plan(block, block_length, start, POSITIONS, fewer_visits, table, ENTRIES, plan, STEPS);
+  expect(answers(told, MIKJUQAN_SPENT, 0, 0, 9), "with 9 visits the search is spent");
+  mikjuqan_limits more_steps = within(MIKJUQAN_PLAN_LENGTH + 1, 100, 100);
+  told = mikjuqan_find_plan(block, block_length, start, POSITIONS, more_steps, table, ENTRIES, plan, STEPS);
+  expect(is_refused(told, MIKJUQAN_REFUSED_LIMIT), "a step limit of 65 is refused with 10");
 
   table[6] = 1; /* the goal's own entry */
-  found = mikjuqan_find_plan(block, block_length, start, POSITIONS, STEPS, 100, 100, table, ENTRIES, plan, STEPS);
-  expect(found.refusal == MIKJUQAN_REFUSED_TABLE_FAILS && found.status == 0 && found.visits == 0,
-         "a table with 1 for the goal is refused with 13");
+  told = mikjuqan_find_plan(block, block_length, start, POSITIONS, limits, table, ENTRIES, plan, STEPS);
+  expect(is_refused(told, MIKJUQAN_REFUSED_TABLE_FAILS), "a table with 1 for the goal is refused with 13");
+  table[6] = 0;
+}
+
+/* ---- NULL, with length 0 ---- */
+
+static void null_text(void) {
+  uint8_t out[MIKJUQAN_BLOCK_LENGTH];
+  mikjuqan_length read = mikjuqan_read_exercise(NULL, 0, out, sizeof out);
+  expect(read.refusal == MIKJUQAN_REFUSED_LINE && read.length == 0, "NULL as text: read_exercise is refused with 2");
+  read = mikjuqan_read_exercise((const uint8_t *)text, strlen(text), NULL, 0);
+  expect(read.refusal == MIKJUQAN_REFUSED_BUFFER && read.length == 0, "NULL to read into is refused with 11");
+}
+
+static void null_block(const uint32_t *table) {
+  uint8_t out[STEPS];
+  uint32_t filled[ENTRIES];
+  mikjuqan_limits limits = within(STEPS, 100, 100);
+  const uint32_t refused = MIKJUQAN_REFUSED_HEAD;
+  expect(mikjuqan_check_block(NULL, 0) == refused, "NULL as block: check_block is refused with 3");
+  expect(mikjuqan_relabel_block(NULL, 0, out, STEPS).refusal == refused, "so is relabel_block");
+  expect(mikjuqan_test_reversible(NULL, 0, 0).refusal == refused, "and test_reversible");
+  expect(mikjuqan_test_goals(NULL, 0, goal, POSITIONS).refusal == refused, "and test_goals");
+  expect(mikjuqan_apply_rule(NULL, 0, 2, start, POSITIONS, out, STEPS).refusal == refused, "and apply_rule");
+  expect(mikjuqan_first_predecessor(NULL, 0, 2, start, POSITIONS, out, STEPS).refusal == refused,
+         "and first_predecessor");
+  expect(mikjuqan_next_predecessor(NULL, 0, 2, start, POSITIONS, goal, POSITIONS, out, STEPS).refusal == refused,
+         "and next_predecessor");
+  expect(mikjuqan_replay_run(NULL, 0, start, POSITIONS, list, 3, out, STEPS).refusal == refused, "and replay_run");
+  expect(mikjuqan_fill_table(NULL, 0, filled, ENTRIES) == refused, "and fill_table");
+  expect(mikjuqan_test_table(NULL, 0, table, ENTRIES).refusal == refused, "and test_table");
+  expect(mikjuqan_look_up_estimate(NULL, 0, start, POSITIONS, table, ENTRIES).refusal == refused,
+         "and look_up_estimate");
+  expect(is_refused(mikjuqan_find_plan(NULL, 0, start, POSITIONS, limits, table, ENTRIES, out, STEPS), refused),
+         "and find_plan");
+}
+
+static void null_state(const uint8_t *block, size_t length, const uint32_t *table) {
+  uint8_t out[STEPS];
+  mikjuqan_limits limits = within(STEPS, 100, 100);
+  const uint32_t refused = MIKJUQAN_REFUSED_STATE;
+  expect(mikjuqan_test_goals(block, length, NULL, 0).refusal == refused,
+         "NULL as state: test_goals is refused with 8");
+  expect(mikjuqan_apply_rule(block, length, 2, NULL, 0, out, STEPS).refusal == refused, "so is apply_rule");
+  expect(mikjuqan_first_predecessor(block, length, 2, NULL, 0, out, STEPS).refusal == refused,
+         "and first_predecessor");
+  expect(mikjuqan_next_predecessor(block, length, 2, NULL, 0, goal, POSITIONS, out, STEPS).refusal == refused,
+         "and next_predecessor");
+  expect(mikjuqan_next_predecessor(block, length, 2, start, POSITIONS, NULL, 0, out, STEPS).refusal == refused,
+         "also for the earlier state");
+  expect(mikjuqan_replay_run(block, length, NULL, 0, list, 3, out, STEPS).refusal == refused, "and replay_run");
+  expect(mikjuqan_look_up_estimate(block, length, NULL, 0, table, ENTRIES).refusal == refused,
+         "and look_up_estimate");
+  expect(is_refused(mikjuqan_find_plan(block, length, NULL, 0, limits, table, ENTRIES, out, STEPS), refused),
+         "and find_plan");
+}
+
+static void null_table(const uint8_t *block, size_t length) {
+  uint8_t plan[STEPS];
+  mikjuqan_limits limits = within(STEPS, 100, 100);
+  const uint32_t refused = MIKJUQAN_REFUSED_TABLE_SHORT;
+  expect(mikjuqan_fill_table(block, length, NULL, 0) == refused, "NULL as table: fill_table is refused with 12");
+  expect(mikjuqan_test_table(block, length, NULL, 0).refusal == refused, "so is test_table");
+  expect(mikjuqan_look_up_estimate(block, length, start, POSITIONS, NULL, 0).refusal == refused,
+         "and look_up_estimate");
+  expect(is_refused(mikjuqan_find_plan(block, length, start, POSITIONS, limits, NULL, 0, plan, STEPS), refused),
+         "and find_plan");
+}
+
+static void null_out(const uint8_t *block, size_t length, const uint32_t *table) {
+  mikjuqan_limits limits = within(STEPS, 100, 100);
+  const uint32_t refused = MIKJUQAN_REFUSED_BUFFER;
+  expect(mikjuqan_relabel_block(block, length, NULL, 0).refusal == refused,
+         "NULL to write to: relabel_block is refused with 11");
+  expect(mikjuqan_apply_rule(block, length, 2, start, POSITIONS, NULL, 0).refusal == refused, "so is apply_rule");
+  expect(mikjuqan_first_predecessor(block, length, 2, start, POSITIONS, NULL, 0).refusal == refused,
+         "and first_predecessor");
+  expect(mikjuqan_next_predecessor(block, length, 2, start, POSITIONS, goal, POSITIONS, NULL, 0).refusal == refused,
+         "and next_predecessor");
+  expect(mikjuqan_replay_run(block, length, start, POSITIONS, list, 3, NULL, 0).refusal == refused, "and replay_run");
+  expect(is_refused(mikjuqan_find_plan(block, length, start, POSITIONS, limits, table, ENTRIES, NULL, 0), refused),
+         "and find_plan");
+}
+
+/* NULL is right where nothing is needed: a list of no rules, and room for a plan of no steps. */
+static void null_accepted(const uint8_t *block, size_t length, const uint32_t *table) {
+  uint8_t out[POSITIONS] = {9, 9, 9};
+  mikjuqan_replay run = mikjuqan_replay_run(block, length, start, POSITIONS, NULL, 0, out, POSITIONS);
+  expect(ends(run, 0, 0, 0) && same(out, 1, 2, 0), "NULL as list: the replay is done at the start");
+
+  mikjuqan_limits no_steps = within(0, 100, 100);
+  mikjuqan_search told = mikjuqan_find_plan(block, length, goal, POSITIONS, no_steps, table, ENTRIES, NULL, 0);
+  expect(answers(told, MIKJUQAN_FOUND, 0, 0, 1), "NULL for a plan of no steps: it is found from <2,1,0>");
+  told = mikjuqan_find_plan(block, length, start, POSITIONS, no_steps, table, ENTRIES, NULL, 0);
+  expect(answers(told, MIKJUQAN_NO_PLAN, 0, 0, 1), "and there is none from <1,2,0>");
 }
 
 int main(void) {
@@ -184,6 +307,13 @@ int main(void) {
   replay(block, length);
   fill_and_look_up(block, length, table);
   search(block, length, table);
+  null_text();
+  null_block(table);
+  null_state(block, length, table);
+  null_table(block, length);
+  null_out(block, length, table);
+  null_accepted(block, length, table);
+  check_texts();
   printf("%d not as expected\n", failures);
   return failures != 0;
 }

@@ -3,9 +3,10 @@
 //! Every function gives back the answer, and what the written buffer holds afterwards.
 
 use crate::lent::Lent;
+use crate::model::answers::{Replay, Search};
 use crate::model::calls;
 use crate::random::Random;
-use mikjuqan::{Limits, Refusal, Replay, Search};
+use mikjuqan::{Exercise, Limits, Refusal};
 
 pub fn read_exercise(random: &mut Random, text: &[u8], room: usize) -> (Result<usize, Refusal>, Vec<u8>) {
     let text = Lent::new("text", random, text);
@@ -22,7 +23,7 @@ pub fn read_exercise(random: &mut Random, text: &[u8], room: usize) -> (Result<u
 pub fn check_block(random: &mut Random, block: &[u8]) -> Result<(), Refusal> {
     let block = Lent::new("block", random, block);
     let expected = calls::check_block(&block);
-    let answer = mikjuqan::check_block(&block);
+    let answer = Exercise::new(&block).check_block();
     assert_eq!(answer, expected);
     block.assert_kept();
     answer
@@ -33,7 +34,7 @@ pub fn relabel_block(random: &mut Random, block: &[u8], room: usize) -> (Result<
     let mut out = Lent::with_length("out", random, room);
     let mut expected_out = out.to_vec();
     let expected = calls::relabel_block(&block, &mut expected_out);
-    let answer = mikjuqan::relabel_block(&block, &mut out);
+    let answer = Exercise::new(&block).relabel_block(&mut out);
     assert_eq!(answer, expected);
     block.assert_kept();
     out.assert_holds(&expected_out);
@@ -52,7 +53,7 @@ pub fn apply_rule(
     let mut out = Lent::with_length("out", random, room);
     let mut expected_out = out.to_vec();
     let expected = calls::apply_rule(&block, rule, &state, &mut expected_out);
-    let answer = mikjuqan::apply_rule(&block, rule, &state, &mut out);
+    let answer = Exercise::new(&block).apply_rule(rule, &state, &mut out);
     assert_eq!(answer, expected, "rule {rule}");
     block.assert_kept();
     state.assert_kept();
@@ -64,7 +65,7 @@ pub fn test_goals(random: &mut Random, block: &[u8], state: &[u8]) -> Result<boo
     let block = Lent::new("block", random, block);
     let state = Lent::new("state", random, state);
     let expected = calls::test_goals(&block, &state);
-    let answer = mikjuqan::test_goals(&block, &state);
+    let answer = Exercise::new(&block).test_goals(&state);
     assert_eq!(answer, expected);
     block.assert_kept();
     state.assert_kept();
@@ -83,7 +84,7 @@ pub fn first_predecessor(
     let mut out = Lent::with_length("out", random, room);
     let mut expected_out = out.to_vec();
     let expected = calls::first_predecessor(&block, rule, &state, &mut expected_out);
-    let answer = mikjuqan::first_predecessor(&block, rule, &state, &mut out);
+    let answer = Exercise::new(&block).first_predecessor(rule, &state, &mut out);
     assert_eq!(answer, expected, "rule {rule}");
     block.assert_kept();
     state.assert_kept();
@@ -105,7 +106,7 @@ pub fn next_predecessor(
     let mut out = Lent::with_length("out", random, room);
     let mut expected_out = out.to_vec();
     let expected = calls::next_predecessor(&block, rule, &state, &earlier, &mut expected_out);
-    let answer = mikjuqan::next_predecessor(&block, rule, &state, &earlier, &mut out);
+    let answer = Exercise::new(&block).next_predecessor(rule, &state, &earlier, &mut out);
     assert_eq!(answer, expected, "rule {rule}");
     block.assert_kept();
     state.assert_kept();
@@ -117,7 +118,7 @@ pub fn next_predecessor(
 pub fn test_reversible(random: &mut Random, block: &[u8], rule: usize) -> Result<bool, Refusal> {
     let block = Lent::new("block", random, block);
     let expected = calls::test_reversible(&block, rule);
-    let answer = mikjuqan::test_reversible(&block, rule);
+    let answer = Exercise::new(&block).test_reversible(rule);
     assert_eq!(answer, expected, "rule {rule}");
     block.assert_kept();
     answer
@@ -136,7 +137,7 @@ pub fn replay_run(
     let mut out = Lent::with_length("out", random, room);
     let mut expected_out = out.to_vec();
     let expected = calls::replay_run(&block, &start, &list, &mut expected_out);
-    let answer = mikjuqan::replay_run(&block, &start, &list, &mut out);
+    let answer = Exercise::new(&block).replay_run(&start, &list, &mut out).map(Replay::from);
     assert_eq!(answer, expected);
     block.assert_kept();
     start.assert_kept();
@@ -150,7 +151,7 @@ pub fn fill_table(random: &mut Random, block: &[u8], room: usize) -> (Result<(),
     let mut table = Lent::with_length("table", random, room);
     let mut expected_table = table.to_vec();
     let expected = calls::fill_table(&block, &mut expected_table);
-    let answer = mikjuqan::fill_table(&block, &mut table);
+    let answer = Exercise::new(&block).fill_table(&mut table);
     assert_eq!(answer, expected);
     block.assert_kept();
     table.assert_holds(&expected_table);
@@ -161,7 +162,7 @@ pub fn test_table(random: &mut Random, block: &[u8], table: &[u32]) -> Result<bo
     let block = Lent::new("block", random, block);
     let table = Lent::new("table", random, table);
     let expected = calls::test_table(&block, &table);
-    let answer = mikjuqan::test_table(&block, &table);
+    let answer = Exercise::new(&block).test_table(&table);
     assert_eq!(answer, expected);
     block.assert_kept();
     table.assert_kept();
@@ -178,7 +179,7 @@ pub fn look_up_estimate(
     let state = Lent::new("state", random, state);
     let table = Lent::new("table", random, table);
     let expected = calls::look_up_estimate(&block, &state, &table);
-    let answer = mikjuqan::look_up_estimate(&block, &state, &table);
+    let answer = Exercise::new(&block).look_up_estimate(&state, &table);
     assert_eq!(answer, expected);
     block.assert_kept();
     state.assert_kept();
@@ -200,7 +201,7 @@ pub fn find_plan(
     let mut plan = Lent::with_length("plan", random, room);
     let mut expected_plan = plan.to_vec();
     let expected = calls::find_plan(&block, &start, limits, &table, &mut expected_plan);
-    let answer = mikjuqan::find_plan(&block, &start, limits, &table, &mut plan);
+    let answer = Exercise::new(&block).find_plan(&start, limits, &table, &mut plan).map(Search::from);
     assert_eq!(answer, expected, "{limits:?}");
     block.assert_kept();
     start.assert_kept();

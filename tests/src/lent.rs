@@ -7,8 +7,8 @@ use std::ops::{Deref, DerefMut, Range};
 /// The least number of elements on each side of a buffer that stands in the midst of others.
 const GUARD: usize = 8;
 
-/// A buffer in memory of its own, in the midst of random elements. Sometimes it ends or begins where the memory does, so
-/// that even reading beyond it is noticed.
+/// A buffer in memory of its own, in the midst of random elements. Sometimes it ends or begins where the memory does,
+/// so that even reading beyond it is noticed.
 pub struct Lent<T: Element> {
     name: &'static str,
     pages: Pages<T>,

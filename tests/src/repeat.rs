@@ -1,7 +1,8 @@
 //! Many random cases of one call, and a count of what was met, so that no test becomes empty unnoticed.
 
+use crate::model::answers::{Replay, Search};
 use crate::random::Random;
-use mikjuqan::{Refusal, Replay, Search};
+use mikjuqan::Refusal;
 use std::collections::BTreeMap;
 use std::env;
 use std::panic::{catch_unwind, resume_unwind, AssertUnwindSafe};

@@ -2,10 +2,11 @@
 //! implementation of the specification, `tests/reference.py`. `tests/worked.py` says how a line is written.
 
 use crate::lent::Lent;
+use crate::model::answers::{Replay, Search};
 use crate::program;
 use crate::random::Random;
 use crate::samples::repository;
-use mikjuqan::{Limits, Refusal, Replay, Search};
+use mikjuqan::{Exercise, Limits, Refusal};
 use std::fs;
 
 /// The lines of a file, without its comments.
@@ -57,8 +58,12 @@ fn unpack<T: Copy>(packed: &str, between: char, part: impl Fn(&str) -> Vec<T>) -
     parts.flat_map(repeated).collect()
 }
 
-/// The answer of a call in the words of a line, with the buffer that the line expects; other contents are an error here.
+/// The answer of a call in the words of a line, with the buffer that the line expects; other contents are an error
+/// here.
 fn run(name: &str, a: &Arguments, expected: &str) -> String {
+    // What is handed over first is the block, but in two cases.
+    let block = a.bytes(0);
+    let exercise = Exercise::new(&block);
     let written = |place: usize, call: &dyn Fn(&mut [u8]) -> String| {
         let after = Arguments(vec![last_word(expected)]);
         let mut out = Lent::new("out", &mut Random::new(1), &a.bytes(place));
@@ -67,34 +72,41 @@ fn run(name: &str, a: &Arguments, expected: &str) -> String {
         format!("{answer} {}", last_word(expected))
     };
     match name {
-        "check_block" => words(mikjuqan::check_block(&a.bytes(0))),
-        "test_goals" => words(mikjuqan::test_goals(&a.bytes(0), &a.bytes(1))),
-        "test_reversible" => words(mikjuqan::test_reversible(&a.bytes(0), a.number(1))),
-        "test_table" => words(mikjuqan::test_table(&a.bytes(0), &a.entries(1))),
-        "look_up_estimate" => words(mikjuqan::look_up_estimate(&a.bytes(0), &a.bytes(1), &a.entries(2))),
         "read_exercise" => written(1, &|out| words(mikjuqan::read_exercise(&a.bytes(0), out))),
-        "relabel_block" => written(1, &|out| words(mikjuqan::relabel_block(&a.bytes(0), out))),
-        "apply_rule" => written(3, &|out| words(mikjuqan::apply_rule(&a.bytes(0), a.number(1), &a.bytes(2), out))),
-        "first_predecessor" => {
-            written(3, &|out| words(mikjuqan::first_predecessor(&a.bytes(0), a.number(1), &a.bytes(2), out)))
+        "par" => session(a, expected),
+        "check_block" => words(exercise.check_block()),
+        "test_goals" => words(exercise.test_goals(&a.bytes(1))),
+        "test_reversible" => words(exercise.test_reversible(a.number(1))),
+        "test_table" => words(exercise.test_table(&a.entries(1))),
+        "look_up_estimate" => words(exercise.look_up_estimate(&a.bytes(1), &a.entries(2))),
+        "relabel_block" => written(1, &|out| words(exercise.relabel_block(out))),
+        "apply_rule" => written(3, &|out| words(exercise.apply_rule(a.number(1), &a.bytes(2), out))),
+        "first_predecessor" => written(3, &|out| words(exercise.first_predecessor(a.number(1), &a.bytes(2), out))),
+        "next_predecessor" => {
+            written(4, &|out| words(exercise.next_predecessor(a.number(1), &a.bytes(2), &a.bytes(3), out)))
         }
-        "next_predecessor" => written(4, &|out| {
-            words(mikjuqan::next_predecessor(&a.bytes(0), a.number(1), &a.bytes(2), &a.bytes(3), out))
-        }),
-        "replay_run" => written(3, &|out| words(mikjuqan::replay_run(&a.bytes(0), &a.bytes(1), &a.bytes(2), out))),
+        "replay_run" => written(3, &|out| words(replay(exercise, &a.bytes(1), &a.bytes(2), out))),
         "find_plan" => written(6, &|plan| {
             let limits = Limits { steps: a.number(2), cost: a.number(3), visits: a.number(4) };
-            words(mikjuqan::find_plan(&a.bytes(0), &a.bytes(1), limits, &a.entries(5), plan))
+            words(exercise.find_plan(&a.bytes(1), limits, &a.entries(5), plan).map(Search::from))
         }),
-        "fill_table" => fill(a, expected),
-        "par" => session(a, expected),
+        "fill_table" => fill(exercise, a, expected),
         _ => panic!("there is no call {name}"),
     }
 }
 
-fn fill(a: &Arguments, expected: &str) -> String {
+/// How a replay ends. A line says of one that is done no more than its cost: its steps must be the whole list.
+fn replay(exercise: Exercise, start: &[u8], list: &[u8], out: &mut [u8]) -> Result<Replay, Refusal> {
+    let end = exercise.replay_run(start, list, out).map(Replay::from);
+    if let Ok(Replay::Done { steps, .. }) = end {
+        assert_eq!(steps, list.len(), "a replay that is done");
+    }
+    end
+}
+
+fn fill(exercise: Exercise, a: &Arguments, expected: &str) -> String {
     let mut table = Lent::new("table", &mut Random::new(1), &a.entries(1));
-    let answer = words(mikjuqan::fill_table(&a.bytes(0), &mut table));
+    let answer = words(exercise.fill_table(&mut table));
     table.assert_holds(&Arguments(vec![last_word(expected)]).entries(0));
     format!("{answer} {}", last_word(expected))
 }
@@ -147,8 +159,8 @@ impl Words for Option<u32> {
 impl Words for Replay {
     fn words(&self) -> String {
         match self {
-            Replay::Done { cost } => format!("done {cost}"),
-            Replay::Stuck { index, cost } => format!("stuck {index} {cost}"),
+            Replay::Done { cost, .. } => format!("done {cost}"),
+            Replay::Stuck { steps, cost } => format!("stuck {steps} {cost}"),
         }
     }
 }

@@ -62,7 +62,8 @@ fn subjects() -> Vec<Subject> {
     subjects
 }
 
-/// Those of the lengths from 0 to a few beyond the needed one at which a call is accepted, and the refusals at the others.
+/// Those of the lengths from 0 to a few beyond the needed one at which a call is accepted, and the refusals at the
+/// others.
 struct Tried {
     accepted: Vec<usize>,
     refusals: Vec<Refusal>,

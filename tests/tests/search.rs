@@ -1,9 +1,10 @@
 //! What is promised of every plan, looked at without a table: by looking at all lists of rules within the step limit.
 
-use mikjuqan::{Limits, Search};
+use mikjuqan::Limits;
 use outside::draw::tables::draw_passing;
 use outside::draw::Drawn;
 use outside::model;
+use outside::model::answers::Search;
 use outside::model::block::check;
 use outside::model::exercise::Exercise;
 use outside::model::exhaustive::{first_cheapest, least_cost, Plan};
@@ -19,12 +20,13 @@ const ANY: u32 = u32::MAX;
 /// What the library answers, and the plan.
 fn find(exercise: &Exercise, start: &[u8], limits: Limits, table: &[u32]) -> (Search, Vec<u8>) {
     let mut plan = vec![0; limits.steps];
-    let answer = mikjuqan::find_plan(&exercise.encode(), start, limits, table, &mut plan).expect("nothing is wrong");
-    let steps = if let Search::Found { steps, .. } = answer { steps } else { 0 };
-    (answer, plan[..steps].to_vec())
+    let answer = mikjuqan::Exercise::new(&exercise.encode()).find_plan(start, limits, table, &mut plan);
+    let answer = answer.map(Search::from).expect("nothing is wrong");
+    (answer, plan[..answer.steps()].to_vec())
 }
 
-/// An exercise with a start and a step limit, small enough for all open lists to be looked at, and the plan to be named.
+/// An exercise with a start and a step limit, small enough for all open lists to be looked at, and the plan to be
+/// named.
 fn draw_small(random: &mut Random) -> (Exercise, Vec<u8>, usize, Option<Plan>) {
     loop {
         let (drawn, start) = Drawn::with_start(random, 64);

@@ -1,6 +1,7 @@
 //! The most stack that calls and the program use.
 
-use mikjuqan::{Limits, BLOCK_LENGTH, LIST_LENGTH, PLAN_LENGTH, TABLE_LENGTH};
+use mikjuqan::{Exercise, Limits, BLOCK_LENGTH, LIST_LENGTH, PLAN_LENGTH, TABLE_LENGTH};
+use outside::model::answers::Search;
 use outside::model::text::encode_line;
 use outside::model::{calls, session};
 use outside::program;
@@ -91,8 +92,9 @@ fn find_plan() {
         let mut plan = [0; PLAN_LENGTH];
         let expected = calls::find_plan(&block, &DEEP_START, limits, &[0], &mut plan);
         let mut answer = None;
-        let used = used_by(|| answer = Some(mikjuqan::find_plan(&block, &DEEP_START, limits, &[0], &mut plan)));
-        assert_eq!(answer, Some(expected));
+        let exercise = Exercise::new(&block);
+        let used = used_by(|| answer = Some(exercise.find_plan(&DEEP_START, limits, &[0], &mut plan)));
+        assert_eq!(answer.map(|told| told.map(Search::from)), Some(expected));
         println!("stack: find_plan with side extensions {side:?}: {} KiB, {expected:?}", used.div_ceil(KIB));
         used
     };
@@ -103,7 +105,7 @@ fn find_plan() {
 fn fill_table() {
     let used = large_blocks().into_iter().map(|block| {
         let mut table = vec![0; TABLE_LENGTH];
-        used_by(move || mikjuqan::fill_table(&block, &mut table).expect("the exercise is accepted"))
+        used_by(move || Exercise::new(&block).fill_table(&mut table).expect("the exercise is accepted"))
     });
     report("fill_table", used.max().expect("there are blocks"), 235);
 }
@@ -112,8 +114,8 @@ fn fill_table() {
 fn test_table() {
     let used = large_blocks().into_iter().map(|block| {
         let mut table = vec![0; TABLE_LENGTH];
-        mikjuqan::fill_table(&block, &mut table).expect("the exercise is accepted");
-        used_by(move || assert_eq!(mikjuqan::test_table(&block, &table), Ok(true)))
+        Exercise::new(&block).fill_table(&mut table).expect("the exercise is accepted");
+        used_by(move || assert_eq!(Exercise::new(&block).test_table(&table), Ok(true)))
     });
     report("test_table", used.max().expect("there are blocks"), 96);
 }
@@ -130,21 +132,22 @@ fn read_exercise() {
 #[test]
 fn other_calls() {
     let block = deep_frames(Side::Visited).concat();
+    let exercise = Exercise::new(&block);
     let (state, last) = (DEEP_START, 63);
     let large = large_blocks().remove(0);
     let table = vec![0; TABLE_LENGTH];
     let list = [last as u8; LIST_LENGTH];
     let (mut long, mut out) = ([0; BLOCK_LENGTH], [0; 16]);
     let used = [
-        used_by(|| assert!(mikjuqan::check_block(&block).is_ok())),
-        used_by(|| assert!(mikjuqan::relabel_block(&block, &mut long).is_ok())),
-        used_by(|| assert_eq!(mikjuqan::apply_rule(&block, last, &state, &mut out), Ok(true))),
-        used_by(|| assert_eq!(mikjuqan::test_goals(&block, &state), Ok(false))),
-        used_by(|| assert_eq!(mikjuqan::first_predecessor(&block, last, &state, &mut out), Ok(true))),
-        used_by(|| assert_eq!(mikjuqan::next_predecessor(&block, last, &state, &[0; 16], &mut out), Ok(true))),
-        used_by(|| assert_eq!(mikjuqan::test_reversible(&block, last), Ok(true))),
-        used_by(|| assert!(mikjuqan::replay_run(&block, &state, &list, &mut out).is_ok())),
-        used_by(|| assert_eq!(mikjuqan::look_up_estimate(&large, &[1; 14], &table), Ok(Some(0)))),
+        used_by(|| assert!(exercise.check_block().is_ok())),
+        used_by(|| assert!(exercise.relabel_block(&mut long).is_ok())),
+        used_by(|| assert_eq!(exercise.apply_rule(last, &state, &mut out), Ok(true))),
+        used_by(|| assert_eq!(exercise.test_goals(&state), Ok(false))),
+        used_by(|| assert_eq!(exercise.first_predecessor(last, &state, &mut out), Ok(true))),
+        used_by(|| assert_eq!(exercise.next_predecessor(last, &state, &[0; 16], &mut out), Ok(true))),
+        used_by(|| assert_eq!(exercise.test_reversible(last), Ok(true))),
+        used_by(|| assert!(exercise.replay_run(&state, &list, &mut out).is_ok())),
+        used_by(|| assert_eq!(Exercise::new(&large).look_up_estimate(&[1; 14], &table), Ok(Some(0)))),
     ];
     report("the largest of the other calls", used.into_iter().max().expect("there are calls"), 64);
 }

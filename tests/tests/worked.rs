@@ -1,7 +1,8 @@
 //! The worked values of the specification, each through the library and through the model.
 
-use mikjuqan::{Limits, Refusal, Replay, Search, NO_PATH};
+use mikjuqan::{Limits, Refusal, NO_PATH};
 use outside::compare;
+use outside::model::answers::{Replay, Search};
 use outside::model::session;
 use outside::program;
 use outside::random::Random;
@@ -21,8 +22,7 @@ const C: u8 = 0x12;
 /// What a search of input E answers, and its plan.
 fn find_in_e(start: &[u8], limits: Limits, table: &[u32]) -> (Result<Search, Refusal>, Vec<u8>) {
     let (answer, plan) = compare::find_plan(&mut Random::new(1), &e_block(), start, limits, table, limits.steps);
-    let steps = if let Ok(Search::Found { steps, .. }) = answer { steps } else { 0 };
-    (answer, plan[..steps].to_vec())
+    (answer, plan[..answer.map_or(0, Search::steps)].to_vec())
 }
 
 /// A block of one rule and a goal that every state meets, with one abstract label.
@@ -70,7 +70,7 @@ fn plan_of_e() {
     let found = Ok(Search::Found { steps: 3, cost: 5, visits: 10 });
     assert_eq!(find_in_e(&E_START, E_LIMITS, &E_TABLE), (found, vec![2, 0, 5]));
     let later = compare::replay_run(&mut Random::new(5), &e_block(), &E_START, &[4, 1, 3], 3);
-    assert_eq!(later, (Ok(Replay::Done { cost: 5 }), E_GOAL.to_vec()));
+    assert_eq!(later, (Ok(Replay::Done { steps: 3, cost: 5 }), E_GOAL.to_vec()));
 }
 
 #[test]
@@ -110,7 +110,7 @@ fn start_at_the_goal_of_e() {
 }
 
 #[test]
-fn first_rule_of_000() {
+fn example_rule_forwards_and_back() {
     let random = &mut Random::new(6);
     let block = block_of_rule(8, &[A, A, 1, DASH, B, C], &[2, DASH, DASH, DASH, C, B]);
     let (old, new) = ([4, 4, 1, 7, 5, 6], [2, 4, 1, 7, 6, 5]);
@@ -120,7 +120,7 @@ fn first_rule_of_000() {
 }
 
 #[test]
-fn reversible_rules_of_000() {
+fn reversible_rules_by_form() {
     let random = &mut Random::new(7);
     let reversible = block_of_rule(6, &[A, A, DASH, DASH], &[DASH, 2, DASH, DASH]);
     assert_eq!(compare::test_reversible(random, &reversible, 0), Ok(true));
@@ -152,9 +152,10 @@ fn relabelling_twice_changes_nothing_more() {
 #[test]
 fn numbers_of_refusals() {
     let names = "Character Line Head Length Map Term Unbound State Rule Limit Buffer TableShort TableFails";
-    for ((number, name), refusal) in (1..).zip(names.split(' ')).zip(Refusal::ALL) {
-        assert_eq!((refusal.number(), format!("{refusal:?}").as_str()), (number, name));
-    }
+    let numbers: Vec<u32> = Refusal::ALL.iter().map(|refusal| refusal.number()).collect();
+    assert_eq!(numbers, (1..=13).collect::<Vec<u32>>());
+    let shown: Vec<String> = Refusal::ALL.iter().map(|refusal| format!("{refusal:?}")).collect();
+    assert_eq!(shown.join(" "), names);
 }
 
 #[test]

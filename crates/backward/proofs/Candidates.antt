@@ -1,6 +1,7 @@
--- A candidate keeps to its choices and no state before it does, from the earlier state on; whether the rule takes it to s settles the answer (`candidate-settles`).
--- The least labels throughout make one for 'first' (`completed-candidate`), the earlier state raised at its last possible position the next one (`raised-candidate`);
--- where no position can be raised there is none further (`no-candidate`). The code rests on them as it finds a rule: `first-settles`, `next-settles`, `next-none`.
+-- A candidate keeps to its choices and no state before it does, from the earlier state on; whether the rule takes it
+-- to s settles the answer (`candidate-settles`). The least labels make one for 'first' (`completed-candidate`), the
+-- earlier state raised at its last possible position the next (`raised-candidate`); where no position can be raised
+-- there is none further (`no-candidate`). As the code finds a rule: `first-settles`, `next-settles`, `next-none`.
 use mathlib.Core.Path.{_≡_, refl, sym, ap, ap₂, _∙_, subst}
 use mathlib.Core.Bool.{Bool, true, false, cond}
 use mathlib.Core.List.{List}
@@ -19,13 +20,15 @@ use Rattle.psvn.specs.Ranks.{stateRank}
 use Rattle.psvn.proofs.RankLaws.{before-state-rank, state-rank-before}
 use Rattle.backward.specs.Choices.{choice, choicesAt, leastOf, raisableAt, Completed, Raised}
 use Rattle.backward.specs.declared.choices.Choice.{Choice}
-use Rattle.backward.specs.Predecessors.{Earlier, from-first, after, fromRank, found, none-further, stepBack, settled}
+use Rattle.backward.specs.Predecessors.{Earlier, from-first, after, fromRank, found, none-further, stepBack}
+use Rattle.backward.specs.Predecessors.{settled}
 use Rattle.backward.proofs.Leading.{leads-by}
 use Rattle.backward.proofs.ChoiceCases.{choice-local}
 use Rattle.backward.proofs.Choosing.{Keeps, Near}
 use Rattle.backward.proofs.Keeping.{Proper, valid-proper, leads-keeps, keeps-leads, choice-below}
 use Rattle.backward.proofs.NextState.{next-found, none-found}
-use Rattle.backward.proofs.Succession.{completed-keeps, completed-below, completed-least, none-after, raised-above, raised-keeps, raised-below, raised-least}
+use Rattle.backward.proofs.Succession.{completed-keeps, completed-below, completed-least, none-after}
+use Rattle.backward.proofs.Succession.{raised-above, raised-keeps, raised-below, raised-least}
 
 module _ (b : List ℕ) (va : Valid b) (r : ℕ) (lr : r < rules b) (s : List ℕ) (so : stateOk b s ≡ true) where
   -- the choices of a predecessor of s
@@ -40,7 +43,8 @@ module _ (b : List ℕ) (va : Valid b) (r : ℕ) (lr : r < rules b) (s : List �
     pub keeps : Keeps (positions b) choices u
     pub above : fromRank b earlier ≤ stateRank b u
     pub least :
-        (v : List ℕ) → stateOk b v ≡ true → Keeps (positions b) choices v → fromRank b earlier ≤ stateRank b v → stateRank b u ≤ stateRank b v
+        (v : List ℕ) → stateOk b v ≡ true → Keeps (positions b) choices v → fromRank b earlier ≤ stateRank b v
+        → stateRank b u ≤ stateRank b v
 
   pub candidate-settles :
       (earlier : Earlier) (u : List ℕ) → Candidate earlier u → stepBack b r s earlier ≡ settled b r s u
@@ -62,7 +66,11 @@ module _ (b : List ℕ) (va : Valid b) (r : ℕ) (lr : r < rules b) (s : List �
       go false e =
           rw e
           (none-found b (va .sized .head) r s earlier (λ v ok h a.
-          true-false (leads-by b r u s ∙ keeps-leads (positions b) (leftOf b r) (rightOf b r) s v (sym (leads-by b r v s) ∙ h) u (c .keeps) (labelCount b) proper) e))
+          true-false
+          (leads-by b r u s
+          ∙ keeps-leads (positions b) (leftOf b r) (rightOf b r) s v (sym (leads-by b r v s) ∙ h) u (c .keeps)
+          (labelCount b) proper)
+          e))
 
   near : Near choices
   near = choice-local (positions b) (leftOf b r) (rightOf b r) s
@@ -104,10 +112,14 @@ module _ (b : List ℕ) (va : Valid b) (r : ℕ) (lr : r < rules b) (s : List �
         record {
           state = uo;
           keeps = raised-keeps n (labelCount b) choices near small e u i be h t;
-          above = omega (arith, before-state-rank b e u eo uo (raised-above n (labelCount b) choices near small e u i be h t));
+          above = omega (
+            arith,
+            before-state-rank b e u eo uo (raised-above n (labelCount b) choices near small e u i be h t),
+          );
           least = λ v vo kv a.
               not-before u v uo vo
-              (raised-least n (labelCount b) choices near small e u i be h t v kv (state-label b v vo) (state-rank-before b e v eo vo a));
+              (raised-least n (labelCount b) choices near small e u i be h t v kv (state-label b v vo)
+              (state-rank-before b e v eo vo a));
         }
 
     pub no-candidate :
@@ -115,9 +127,12 @@ module _ (b : List ℕ) (va : Valid b) (r : ℕ) (lr : r < rules b) (s : List �
     no-candidate h =
         let n = positions b in
         none-found b (va .sized .head) r s (after e) (λ v vo k a.
-        none-after n (labelCount b) choices near small e v (leads-keeps n (leftOf b r) (rightOf b r) s v (sym (leads-by b r v s) ∙ k)) (state-label b v vo) (state-rank-before b e v eo vo a) h)
+        none-after n (labelCount b) choices near small e v
+        (leads-keeps n (leftOf b r) (rightOf b r) s v (sym (leads-by b r v s) ∙ k)) (state-label b v vo)
+        (state-rank-before b e v eo vo a) h)
 
-  -- as the code finds the rule: its sides begin at `left` and `right`, and it counts positions by the length of the state
+  -- as the code finds the rule: its sides begin at `left` and
+  -- `right`, and it counts positions by the length of the state
   module _ (left right : ℕ) (el : left ≡ leftAt b r) (er : right ≡ rightAt b r) where
     abbrev found-choices : List ℕ → ℕ → Choice
     found-choices = choicesAt b left right s
@@ -131,21 +146,30 @@ module _ (b : List ℕ) (va : Valid b) (r : ℕ) (lr : r < rules b) (s : List �
         ∙ ap (λ (right : ℕ). choice (positions b) (leftOf b r) (sideAt b right) s) er
 
     pub first-settles :
-        (e u : List ℕ) → length u ≡ length s → Completed found-choices (length s) 0 e u → stepBack b r s from-first ≡ settled b r s u
+        (e u : List ℕ) → length u ≡ length s → Completed found-choices (length s) 0 e u
+        → stepBack b r s from-first ≡ settled b r s u
     first-settles e u lu f =
         candidate-settles from-first u
-        (completed-candidate e u (lu ∙ long) (subst (λ (n : ℕ). Completed choices n 0 e u) long (subst (λ (w : List ℕ → ℕ → Choice). Completed w (length s) 0 e u) same-choices f)))
+        (completed-candidate e u (lu ∙ long)
+        (subst (λ (n : ℕ). Completed choices n 0 e u) long
+        (subst (λ (w : List ℕ → ℕ → Choice). Completed w (length s) 0 e u) same-choices f)))
 
     module _ (e : List ℕ) (eo : stateOk b e ≡ true) where
       pub next-settles :
-          (u : List ℕ) (i : ℕ) → length u ≡ length s → last (length s) (raisableAt (labelCount b) found-choices e) ≡ suc i
+          (u : List ℕ) (i : ℕ) → length u ≡ length s
+          → last (length s) (raisableAt (labelCount b) found-choices e) ≡ suc i
           → Raised found-choices (length s) i e u → stepBack b r s (after e) ≡ settled b r s u
       next-settles u i lu h t =
           candidate-settles (after e) u
           (raised-candidate e eo u i (lu ∙ long)
-          (sym (ap₂ (λ (w : List ℕ → ℕ → Choice) (n : ℕ). last n (raisableAt (labelCount b) w e)) same-choices long) ∙ h)
-          (subst (λ (n : ℕ). Raised choices n i e u) long (subst (λ (w : List ℕ → ℕ → Choice). Raised w (length s) i e u) same-choices t)))
+          (sym (ap₂ (λ (w : List ℕ → ℕ → Choice) (n : ℕ). last n (raisableAt (labelCount b) w e)) same-choices long)
+          ∙ h)
+          (subst (λ (n : ℕ). Raised choices n i e u) long
+          (subst (λ (w : List ℕ → ℕ → Choice). Raised w (length s) i e u) same-choices t)))
 
-      pub next-none : last (length s) (raisableAt (labelCount b) found-choices e) ≡ 0 → stepBack b r s (after e) ≡ none-further
+      pub next-none :
+          last (length s) (raisableAt (labelCount b) found-choices e) ≡ 0 → stepBack b r s (after e) ≡ none-further
       next-none h =
-          no-candidate e eo (sym (ap₂ (λ (w : List ℕ → ℕ → Choice) (n : ℕ). last n (raisableAt (labelCount b) w e)) same-choices long) ∙ h)
+          no-candidate e eo
+          (sym (ap₂ (λ (w : List ℕ → ℕ → Choice) (n : ℕ). last n (raisableAt (labelCount b) w e)) same-choices long)
+          ∙ h)

@@ -1,5 +1,7 @@
--- The cases of a position (`Case`, `case`), and what `choice` is in each: `choice-dash`, `choice-label`, `choice-shown`, `choice-again`, `choice-new`, `choice-other`. It reads of the
--- state begun only what stands before the position (`choice-local`). `Keeping` and `OneToOne` go by these cases, the code of choices by `choice-kept`, `choice-term` and `variable-*`.
+-- The cases of a position (`Case`, `case`), and what `choice` is in each: `choice-dash`, `choice-label`,
+-- `choice-shown`, `choice-again`, `choice-new`, `choice-other`. It reads of the state begun only what stands before the
+-- position (`choice-local`). `Keeping` and `OneToOne` go by these cases, the code of choices by `choice-kept`,
+-- `choice-term` and `variable-*`.
 use mathlib.Core.Path.{_≡_, refl, sym, ap, _∙_}
 use mathlib.Core.Bool.{Bool, true, false, cond}
 use mathlib.Core.List.{List}
@@ -11,14 +13,15 @@ use borrow.Author.Tests.{eqb-true, eqb-false, ltb-true, ltb-false, lt-ltb, le-lt
 use Rattle.basics.specs.Bounded.{some, first}
 use Rattle.basics.proofs.Bounded.{first-holds, first-none}
 use Rattle.blocks.specs.Terms.{termOf, isDash}
-use Rattle.blocks.proofs.TermCases.{View, label, variable, dash, refused, view, is-label, is-variable, is-dash, is-refused, dash-byte}
+use Rattle.blocks.proofs.TermCases.{View, label, variable, dash, refused, view, is-label, is-variable, is-dash}
+use Rattle.blocks.proofs.TermCases.{is-refused, dash-byte}
 use Rattle.backward.specs.Reversible.{shows}
 use Rattle.backward.specs.Choices.{only, variableChoice, termChoice, choice}
 use Rattle.backward.specs.declared.choices.Choice.the-variants.{Any}
 use Rattle.backward.proofs.Choosing.{Near}
 
--- position i: its right term is a dash; or its left term is a constant, a variable that the new state shows, one that it does not show but that stands further left already,
--- one that is met here first, or no such term
+-- position i: its right term is a dash; or its left term is a constant, a variable that the new state shows, one that
+-- it does not show but that stands further left already, one that is met here first, or no such term
 pub data Case (n : ℕ) (left right : ℕ → ℕ) (i : ℕ) : Type 0 where
   kept : right i ≡ 255 → Case n left right i
   constant : (right i ≡ 255 → ⊥) → left i < 16 → Case n left right i
@@ -34,7 +37,9 @@ pub data Case (n : ℕ) (left right : ℕ → ℕ) (i : ℕ) : Type 0 where
 
 module _ (n : ℕ) (left right : ℕ → ℕ) (i : ℕ) where
   pub case : Case n left right i
-  case = go (eqb (right i) 255) refl (view (left i)) (some n (shows left right (left i))) refl (ltb (first n (λ j. eqb (left j) (left i))) i) refl
+  case =
+      go (eqb (right i) 255) refl (view (left i)) (some n (shows left right (left i))) refl
+      (ltb (first n (λ j. eqb (left j) (left i))) i) refl
     where
       go :
           (a : Bool) → eqb (right i) 255 ≡ a → View (left i) → (d : Bool) → some n (shows left right (left i)) ≡ d
@@ -53,7 +58,8 @@ module _ (n : ℕ) (left right : ℕ → ℕ) (s u : List ℕ) (i : ℕ) where
   unfolding choice
   choice-kept e = ap (λ (t : Bool). cond t (only (getD s i 0)) (termChoice n left right s u i (termOf (left i)))) e
 
-  pub choice-term : isDash (termOf (right i)) ≡ false → choice n left right s u i ≡ termChoice n left right s u i (termOf (left i))
+  pub choice-term :
+      isDash (termOf (right i)) ≡ false → choice n left right s u i ≡ termChoice n left right s u i (termOf (left i))
   unfolding choice
   choice-term e = ap (λ (t : Bool). cond t (only (getD s i 0)) (termChoice n left right s u i (termOf (left i)))) e
 
@@ -89,7 +95,8 @@ module _ (n : ℕ) (left right : ℕ → ℕ) (s u : List ℕ) (i : ℕ) where
       choice-variable = no-dash ∙ ap (termChoice n left right s u i) (is-variable (left i) a b)
 
       pub choice-shown :
-          some n (shows left right (left i)) ≡ true → choice n left right s u i ≡ only (getD s (first n (shows left right (left i))) 0)
+          some n (shows left right (left i)) ≡ true
+          → choice n left right s u i ≡ only (getD s (first n (shows left right (left i))) 0)
       choice-shown d =
           choice-variable ∙ variable-shown (left i) _ refl (first-holds (shows left right (left i)) n d .0)
 
@@ -98,7 +105,8 @@ module _ (n : ℕ) (left right : ℕ → ℕ) (s u : List ℕ) (i : ℕ) where
         nowhere = omega (arith, first-none (shows left right (left i)) n d)
 
         pub choice-again :
-            first n (λ j. eqb (left j) (left i)) < i → choice n left right s u i ≡ only (getD u (first n (λ j. eqb (left j) (left i))) 0)
+            first n (λ j. eqb (left j) (left i)) < i
+            → choice n left right s u i ≡ only (getD u (first n (λ j. eqb (left j) (left i))) 0)
         choice-again l = choice-variable ∙ variable-again (left i) _ refl nowhere _ refl l
 
         pub choice-new : i ≤ first n (λ j. eqb (left j) (left i)) → choice n left right s u i ≡ Any

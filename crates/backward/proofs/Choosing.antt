@@ -1,5 +1,5 @@
--- What is said of choices position by position, whatever they are: a list keeps to them (`Keeps`), and each goes by the labels before its position alone (`Near`).
--- What `Keeping`, `Succession` and `Completing` show is stated with these.
+-- What is said of choices position by position, whatever they are: a list keeps to them (`Keeps`), and each goes by the
+-- labels before its position alone (`Near`). What `Keeping`, `Succession` and `Completing` show is stated with these.
 use mathlib.Core.Path.{_≡_}
 use mathlib.Core.Bool.{true}
 use mathlib.Core.List.{List}

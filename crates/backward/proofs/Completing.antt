@@ -42,7 +42,8 @@ module _
 -- position i passed in search of the last one that can be raised
 module _ (count : ℕ → ℕ) (choices : List ℕ → ℕ → Choice) (e : List ℕ) (i : ℕ) where
   pub rises-last :
-      keptTo choices e i ≡ true → risesOf (count i) (choices e i) (getD e i 0) ≡ true → i + 1 ≡ last (i + 1) (raisableAt count choices e)
+      keptTo choices e i ≡ true → risesOf (count i) (choices e i) (getD e i 0) ≡ true
+      → i + 1 ≡ last (i + 1) (raisableAt count choices e)
   rises-last a r = rw (add-one i, a, r)
 
   pub stays-last :
@@ -51,11 +52,14 @@ module _ (count : ℕ → ℕ) (choices : List ℕ → ℕ → Choice) (e : List
   stays-last best r h =
       h ∙ go (keptTo choices e i) refl ∙ ap (λ (m : ℕ). last m (raisableAt count choices e)) (sym (add-one i))
     where
-      go : (t : Bool) → keptTo choices e i ≡ t → last i (raisableAt count choices e) ≡ last (suc i) (raisableAt count choices e)
+      go :
+          (t : Bool) → keptTo choices e i ≡ t
+          → last i (raisableAt count choices e) ≡ last (suc i) (raisableAt count choices e)
       go true a = rw (a, r)
       go false a = rw a
 
-  pub keeps-more : keptTo choices e i ≡ true → keepsOf (choices e i) (getD e i 0) ≡ true → keptTo choices e (i + 1) ≡ true
+  pub keeps-more :
+      keptTo choices e i ≡ true → keepsOf (choices e i) (getD e i 0) ≡ true → keptTo choices e (i + 1) ≡ true
   keeps-more a k = rw (add-one i) (and-intro (keptTo choices e i) (keepsOf (choices e i) (getD e i 0)) a k)
 
   -- behind a label that may not stand where it does, none can be raised
@@ -66,7 +70,8 @@ module _ (count : ℕ → ℕ) (choices : List ℕ → ℕ → Choice) (e : List
       let q : (i + 1) + (n - (i + 1)) ≡ n = omega arith in
       sym (subst (λ (m : ℕ). last m (raisableAt count choices e) ≡ last (i + 1) (raisableAt count choices e)) q
       (last-past (raisableAt count choices e) (i + 1) (n - (i + 1)) (λ j a b.
-      ap (λ (t : Bool). t && risesOf (count j) (choices e j) (getD e j 0)) (all-false (λ k. keepsOf (choices e k) (getD e k 0)) j i (omega arith) k))))
+      ap (λ (t : Bool). t && risesOf (count j) (choices e j) (getD e j 0))
+      (all-false (λ k. keepsOf (choices e k) (getD e k 0)) j i (omega arith) k))))
 
 -- the front of e written over d, the raised label set behind it, and the least labels on from there
 module _
@@ -79,7 +84,8 @@ module _
         before = λ k l.
             f .before k (omega arith) ∙ getD-set-other front i k x 0 (λ z. omega arith)
             ∙ ap (λ (t : List ℕ). getD t k 0) made
-            ∙ List·getD-append (take i e) (drop (length (take i e)) d) 0 k (omega (arith, length-take-le i e (omega arith)))
+            ∙ List·getD-append (take i e) (drop (length (take i e)) d) 0 k
+            (omega (arith, length-take-le i e (omega arith)))
             ∙ getD-take i e k 0 l;
         here = f .before i (omega arith) ∙ getD-set-same front i x 0 lf ∙ r;
         after = λ k a l. f .after k (omega arith) l;

@@ -1,6 +1,7 @@
--- Stepping back again and again (`call`): every state that the rule takes to s is found (`call-complete`), none but those (`call-sound`), in rising rank order (`call-rising`), each by
--- one call only (`call-once`); after 'none further' nothing more is found (`call-ends`), and as many calls as there are states are enough (`calls-enough`).
--- With the rank order of RankLaws this is what the document asks of predecessors.
+-- Stepping back again and again (`call`): every state that the rule takes to s is found (`call-complete`), none but
+-- those (`call-sound`), in rising rank order (`call-rising`), each by one call only (`call-once`); after 'none further'
+-- nothing more is found (`call-ends`), and as many calls as there are states are enough (`calls-enough`). With the rank
+-- order of RankLaws this is what the document asks of predecessors.
 use mathlib.Core.Path.{_≡_, refl, sym, ap, _∙_}
 use mathlib.Core.Logic.{_⊎_, inl, inr, ⊎-elim}
 use mathlib.Core.Bool.{true}
@@ -13,13 +14,15 @@ use Rattle.blocks.specs.Validity.{Headed}
 use Rattle.psvn.specs.Rules.{leads}
 use Rattle.psvn.specs.Ranks.{stateRank, stateCount}
 use Rattle.psvn.proofs.RankLaws.{state-rank-below, same-state-rank}
-use Rattle.backward.specs.Predecessors.{Earlier, from-first, after, fromRank, Predecessor, found, none-further, stepBack, afterCall, call}
+use Rattle.backward.specs.Predecessors.{Earlier, from-first, after, fromRank, NextState, found, none-further}
+use Rattle.backward.specs.Predecessors.{stepBack, afterCall, call}
 use Rattle.backward.proofs.NextState.{Next, found-none, answer, found-next}
 
 module _ (b : List ℕ) (h : Headed b) (r : ℕ) (s : List ℕ) where
   -- one call more, by the answer of the first
   call-found :
-      (earlier : Earlier) (k : ℕ) (w : List ℕ) → stepBack b r s earlier ≡ found w → call b r s earlier (suc k) ≡ call b r s (after w) k
+      (earlier : Earlier) (k : ℕ) (w : List ℕ) → stepBack b r s earlier ≡ found w
+      → call b r s earlier (suc k) ≡ call b r s (after w) k
   call-found earlier k w e = ap (afterCall (λ u. call b r s (after u) k)) e
 
   call-none :
@@ -31,11 +34,13 @@ module _ (b : List ℕ) (h : Headed b) (r : ℕ) (s : List ℕ) where
       (earlier : Earlier) (k : ℕ) (u : List ℕ) → call b r s earlier (suc k) ≡ found u
       → (w : List ℕ) × (stepBack b r s earlier ≡ found w) × (call b r s (after w) k ≡ found u)
   first-found earlier k u e =
-      ⊎-elim (λ n. (n .0, n .1, sym (call-found earlier k (n .0) (n .1)) ∙ e)) (λ n. absurd (found-none e (call-none earlier k (n .0))))
+      ⊎-elim (λ n. (n .0, n .1, sym (call-found earlier k (n .0) (n .1)) ∙ e))
+      (λ n. absurd (found-none e (call-none earlier k (n .0))))
       (answer b h r s earlier)
 
   pub call-sound :
-      (earlier : Earlier) (k : ℕ) (u : List ℕ) → call b r s earlier k ≡ found u → (stateOk b u ≡ true) × (leads b r u s ≡ true)
+      (earlier : Earlier) (k : ℕ) (u : List ℕ) → call b r s earlier k ≡ found u
+      → (stateOk b u ≡ true) × (leads b r u s ≡ true)
   call-sound earlier zero u e = let n = found-next b h r s earlier u e in (n .state, n .leads-there)
   call-sound earlier (suc k) u e = let m = first-found earlier k u e in call-sound (after (m .0)) k u (m .2)
 
@@ -50,7 +55,8 @@ module _ (b : List ℕ) (h : Headed b) (r : ℕ) (s : List ℕ) where
       omega arith
 
   pub call-rising :
-      (earlier : Earlier) (j k : ℕ) (u v : List ℕ) → call b r s earlier j ≡ found u → call b r s earlier k ≡ found v → j < k
+      (earlier : Earlier) (j k : ℕ) (u v : List ℕ) → call b r s earlier j ≡ found u → call b r s earlier k ≡ found v
+      → j < k
       → stateRank b u < stateRank b v
   call-rising earlier j zero u v e f l = absurd (not-suc-le-zero l)
   call-rising earlier zero (suc k) u v e f l =
@@ -61,7 +67,8 @@ module _ (b : List ℕ) (h : Headed b) (r : ℕ) (s : List ℕ) where
       call-rising (after (m .0)) j k u v (m .2) (sym (call-found earlier k (m .0) (m .1)) ∙ f) (le-of-suc-le-suc l)
 
   pub call-once :
-      (earlier : Earlier) (j k : ℕ) (u : List ℕ) → call b r s earlier j ≡ found u → call b r s earlier k ≡ found u → j ≡ k
+      (earlier : Earlier) (j k : ℕ) (u : List ℕ) → call b r s earlier j ≡ found u → call b r s earlier k ≡ found u
+      → j ≡ k
   call-once earlier j k u e f =
       let a : ¬ (j < k) = λ l. (let x = call-rising earlier j k u u e f l in omega arith) in
       let c : ¬ (k < j) = λ l. (let x = call-rising earlier k j u u f e l in omega arith) in
@@ -71,15 +78,18 @@ module _ (b : List ℕ) (h : Headed b) (r : ℕ) (s : List ℕ) where
     -- some call finds u: the first one does, or it finds a state of lower rank, from which on the further ones find u
     reached-by :
         (earlier : Earlier) → fromRank b earlier ≤ stateRank b u
-        → ((w : List ℕ) → fromRank b earlier ≤ stateRank b w → stateRank b w < stateRank b u → (k : ℕ) × (call b r s (after w) k ≡ found u))
+        → ((w : List ℕ) → fromRank b earlier ≤ stateRank b w → stateRank b w < stateRank b u
+        → (k : ℕ) × (call b r s (after w) k ≡ found u))
         → (k : ℕ) × (call b r s earlier k ≡ found u)
     reached-by earlier a further =
-        ⊎-elim (λ n. go (n .0) (n .1) (n .2) (eq-or-lt-of-le (n .2 .least u ok there a))) (λ n. absurd (n .1 u ok there a))
+        ⊎-elim (λ n. go (n .0) (n .1) (n .2) (eq-or-lt-of-le (n .2 .least u ok there a)))
+        (λ n. absurd (n .1 u ok there a))
         (answer b h r s earlier)
       where
         go :
             (w : List ℕ) → stepBack b r s earlier ≡ found w → Next b h r s earlier w
-            → (stateRank b w ≡ stateRank b u) ⊎ (stateRank b w < stateRank b u) → (k : ℕ) × (call b r s earlier k ≡ found u)
+            → (stateRank b w ≡ stateRank b u) ⊎ (stateRank b w < stateRank b u)
+            → (k : ℕ) × (call b r s earlier k ≡ found u)
         go w e n (inl q) = (0, e ∙ ap found (same-state-rank b w u (n .state) ok q))
         go w e n (inr l) =
             let m = further w (n .above) l in
@@ -111,7 +121,9 @@ module _ (b : List ℕ) (h : Headed b) (r : ℕ) (s : List ℕ) where
   pub calls-enough : call b r s from-first (stateCount b) ≡ none-further
   calls-enough = go (call b r s from-first (stateCount b)) refl
     where
-      go : (p : Predecessor) → call b r s from-first (stateCount b) ≡ p → call b r s from-first (stateCount b) ≡ none-further
+      go :
+          (p : NextState) → call b r s from-first (stateCount b) ≡ p
+          → call b r s from-first (stateCount b) ≡ none-further
       go none-further e = e
       go (found u) e =
           let a = call-above from-first (stateCount b) u e in

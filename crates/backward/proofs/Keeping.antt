@@ -1,5 +1,6 @@
--- Each state that a rule takes to s keeps to its choices (`leads-keeps`); where there is such a state, each state that keeps to its choices is one (`keeps-leads`); and a choice allows
--- labels below the counts only (`choice-below`). So the next predecessor is the next state that keeps to its choices, if that is one at all.
+-- Each state that a rule takes to s keeps to its choices (`leads-keeps`); where there is such a state, each state that
+-- keeps to its choices is one (`keeps-leads`); and a choice allows labels below the counts only (`choice-below`). So
+-- the next predecessor is the next state that keeps to its choices, if that is one at all.
 use mathlib.Core.Path.{_≡_, refl, sym, ap, _∙_}
 use mathlib.Core.Logic.{_⊎_, inl, inr, ⊎-elim}
 use mathlib.Core.Bool.{Bool, true, false, _&&_}
@@ -15,7 +16,8 @@ use Rattle.basics.proofs.Bounded.{some-intro, some-false, first-holds, first-le
 use Rattle.blocks.specs.Terms.{termOf, termOk, isDash}
 use Rattle.blocks.specs.Layout.{positions, rules, labelCount, leftOf, rightOf}
 use Rattle.blocks.specs.Validity.{boundIn, Valid}
-use Rattle.blocks.proofs.TermCases.{View, label, variable, dash, refused, view, is-label, is-variable, is-refused, dash-byte}
+use Rattle.blocks.proofs.TermCases.{View, label, variable, dash, refused, view, is-label, is-variable, is-refused}
+use Rattle.blocks.proofs.TermCases.{dash-byte}
 use Rattle.blocks.proofs.Accepted.{left-side, right-side, right-bound, side-term}
 use Rattle.blocks.proofs.StateLaws.{some-label}
 use Rattle.psvn.proofs.Matching.{Matched, matched}
@@ -26,7 +28,8 @@ use Rattle.backward.specs.declared.choices.Choice.{Choice}
 use Rattle.backward.specs.declared.choices.Choice.the-variants.{Any}
 use Rattle.backward.proofs.Choosing.{Keeps}
 use Rattle.backward.proofs.Leading.{leadsBy, leads-matches, made, making}
-use Rattle.backward.proofs.ChoiceCases.{Case, kept, constant, shown, again, new, other, case, choice-dash, choice-label, choice-shown, choice-again, choice-new, choice-other}
+use Rattle.backward.proofs.ChoiceCases.{Case, kept, constant, shown, again, new, other, case, choice-dash}
+use Rattle.backward.proofs.ChoiceCases.{choice-label, choice-shown, choice-again, choice-new, choice-other}
 
 keeps-only : {w : Choice} (y x : ℕ) → w ≡ only y → x ≡ y → keepsOf w x ≡ true
 keeps-only y x e h = rw e (eq-eqb x y h)
@@ -66,12 +69,15 @@ module _ (n : ℕ) (left : ℕ → ℕ) (i : ℕ) (l : i < n) where
 
   home-stands : (home < n) × (left home ≡ left i)
   home-stands =
-      let h = first-holds (λ j. eqb (left j) (left i)) n (some-intro (λ j. eqb (left j) (left i)) n i l (eq-eqb (left i) (left i) refl)) in
+      let h =
+      first-holds (λ j. eqb (left j) (left i)) n
+      (some-intro (λ j. eqb (left j) (left i)) n i l (eq-eqb (left i) (left i) refl)) in
       (h .0, eqb-true _ _ (h .1))
 
   home-first : home ≤ i
   home-first =
-      let a : ¬ (i < home) = λ k. true-false (eq-eqb (left i) (left i) refl) (first-least (λ j. eqb (left j) (left i)) n i k) in
+      let a : ¬ (i < home) =
+      λ k. true-false (eq-eqb (left i) (left i) refl) (first-least (λ j. eqb (left j) (left i)) n i k) in
       omega arith
 
 -- each state that the rule takes to s keeps to its choices
@@ -90,7 +96,8 @@ module _ (n : ℕ) (left right : ℕ → ℕ) (s u : List ℕ) (h : leadsBy n le
       ⊎-elim
       (λ e.
       fits .same i (home n left i l) l (g .0) a b (g .1)
-      ∙ ap (λ (v : ℕ). getD u (first n (λ j. eqb (left j) v)) 0) (sym e) ∙ sym (w .variable-at j (f .0) (omega arith) (omega arith)))
+      ∙ ap (λ (v : ℕ). getD u (first n (λ j. eqb (left j) v)) 0) (sym e)
+      ∙ sym (w .variable-at j (f .0) (omega arith) (omega arith)))
       (λ e. fits .same i j l (f .0) a b (e .0) ∙ sym (w .other-at j (f .0) (omega (arith, e .1))))
       (shows-cases left right (left i) j (f .1))
 
@@ -99,10 +106,12 @@ module _ (n : ℕ) (left right : ℕ → ℕ) (s u : List ℕ) (h : leadsBy n le
     where
       go : Case n left right i → keepsOf (choice n left right s u i) (getD u i 0) ≡ true
       go (kept e) =
-          keeps-only (getD s i 0) (getD u i 0) (choice-dash n left right s u i e) (sym (made n left right u s h .other-at i l (omega arith)))
+          keeps-only (getD s i 0) (getD u i 0) (choice-dash n left right s u i e)
+          (sym (made n left right u s h .other-at i l (omega arith)))
       go (constant a b) = keeps-only (left i) (getD u i 0) (choice-label n left right s u i a b) (fits .constant i l b)
       go (shown a b c d) =
-          keeps-only (getD s (first n (shows left right (left i))) 0) (getD u i 0) (choice-shown n left right s u i a b c d) (shown-label i l b c d)
+          keeps-only (getD s (first n (shows left right (left i))) 0) (getD u i 0)
+          (choice-shown n left right s u i a b c d) (shown-label i l b c d)
       go (again a b c d e) =
           let g = home-stands n left i l in
           keeps-only (getD u (home n left i l) 0) (getD u i 0) (choice-again n left right s u i a b c d e)
@@ -128,12 +137,14 @@ module _ (n : ℕ) (count left right : ℕ → ℕ) (proper : Proper n count lef
       let g = first-holds (λ j. eqb (left j) (right i)) n (proper .right-bound i l a b) in
       (g .0, eqb-true _ _ (g .1))
 
--- where there is a state w that the rule takes to s, each state u that keeps to its choices agrees with w where s tells the label, and the rule takes it to s too
+-- where there is a state w that the rule takes to s, each state u that keeps to its choices agrees with w where s tells
+-- the label, and the rule takes it to s too
 module _
     (n : ℕ) (left right : ℕ → ℕ) (s w : List ℕ) (h : leadsBy n left right w s ≡ true) (u : List ℕ)
     (keeps : Keeps n (choice n left right s) u) where
   alike-only :
-      (i y : ℕ) → i < n → choice n left right s u i ≡ only y → choice n left right s w i ≡ only y → getD u i 0 ≡ getD w i 0
+      (i y : ℕ) → i < n → choice n left right s u i ≡ only y → choice n left right s w i ≡ only y
+      → getD u i 0 ≡ getD w i 0
   alike-only i y l a b =
       only-keeps y (getD u i 0) a (keeps i l) ∙ sym (only-keeps y (getD w i 0) b (leads-keeps n left right s w h i l))
 
@@ -146,7 +157,8 @@ module _
       go : (t : Bool) → eqb (right i) 255 ≡ t → getD u i 0 ≡ getD w i 0
       go true e = at-kept i l (eqb-true _ _ e)
       go false e =
-          alike-only i (left i) l (choice-label n left right s u i (eqb-false _ _ e) a) (choice-label n left right s w i (eqb-false _ _ e) a)
+          alike-only i (left i) l (choice-label n left right s u i (eqb-false _ _ e) a)
+          (choice-label n left right s w i (eqb-false _ _ e) a)
 
   pub at-shown :
       (i : ℕ) → i < n → 16 ≤ left i → left i < 32 → some n (shows left right (left i)) ≡ true → getD u i 0 ≡ getD w i 0
@@ -156,7 +168,8 @@ module _
       go true e = at-kept i l (eqb-true _ _ e)
       go false e =
           alike-only i (getD s (first n (shows left right (left i))) 0) l
-          (choice-shown n left right s u i (eqb-false _ _ e) a b d) (choice-shown n left right s w i (eqb-false _ _ e) a b d)
+          (choice-shown n left right s u i (eqb-false _ _ e) a b d)
+          (choice-shown n left right s w i (eqb-false _ _ e) a b d)
 
   -- a variable that is not shown: each of its positions has the label of the first
   at-home :
@@ -202,7 +215,8 @@ module _
         let f = first n (λ j. eqb (left j) (right i)) in
         let g = bound-stands n count left right proper i l a b in
         let e : left f ≡ right i = g .1 in
-        let d : some n (shows left right (left f)) ≡ true = some-intro (shows left right (left f)) n i l (shows-right left right (left f) i (sym e)) in
+        let d : some n (shows left right (left f)) ≡ true =
+        some-intro (shows left right (left f)) n i l (shows-right left right (left f) i (sym e)) in
         made n left right w s h .variable-at i l a b ∙ sym (at-shown f (g .0) (omega arith) (omega arith) d)
 
     pub keeps-leads : leadsBy n left right u s ≡ true
@@ -217,7 +231,8 @@ module _
           variable-at = variable-label;
           other-at =
               λ i l a.
-              sym (only-keeps (getD s i 0) (getD u i 0) (choice-dash n left right s u i (proper .right-dash i l a)) (keeps i l));
+              sym (only-keeps (getD s i 0) (getD u i 0) (choice-dash n left right s u i (proper .right-dash i l a))
+              (keeps i l));
         })
 
 -- the choices allow labels below the counts
@@ -255,7 +270,9 @@ module _ (b : List ℕ) (v : Valid b) (r : ℕ) (lr : r < rules b) where
         some-label = some-label b (v .sized .head);
         alike = count-alike b;
         left-below = λ i l a.
-            ltb-true _ _ (sym (ap (termOk (labelCount b i)) (is-label (leftOf b r i) a)) ∙ side-term b (leftOf b r) (left-side b v r lr) i l);
+            ltb-true _ _
+            (sym (ap (termOk (labelCount b i)) (is-label (leftOf b r i) a))
+            ∙ side-term b (leftOf b r) (left-side b v r lr) i l);
         right-dash = λ i l a. go i a (side-term b (rightOf b r) (right-side b v r lr) i l) (view (rightOf b r i));
         right-bound = λ i l a c.
             sym (ap (boundIn (positions b) (leftOf b r)) (is-variable (rightOf b r i) a c)) ∙ right-bound b v r lr i l;

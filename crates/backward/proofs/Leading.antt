@@ -1,5 +1,6 @@
--- What it says that a rule takes u to s: it applies to u, and the state it makes is s (`leads-exactly`); position by position, what the right terms say of s (`Made`, `made`, `making`).
--- The theorems on predecessors and on one-to-one rules rest on these.
+-- What it says that a rule takes u to s: it applies to u, and the state it makes is s (`leads-exactly`); position by
+-- position, what the right terms say of s (`Made`, `made`, `making`). The theorems on predecessors and on one-to-one
+-- rules rest on these.
 use mathlib.Core.Path.{_≡_, refl, sym, ap, _∙_}
 use mathlib.Core.Logic.{_↔_}
 use mathlib.Core.Bool.{Bool, true, _&&_}
@@ -25,7 +26,8 @@ use Rattle.psvn.proofs.Stepping.{step-length}
 unfoldable pub leadsBy : ℕ → (ℕ → ℕ) → (ℕ → ℕ) → List ℕ → List ℕ → Bool
 leadsBy n left right u s = matches n left u && same n (rewritten n left right u) s
 
-pub leads-by : (b : List ℕ) (r : ℕ) (u s : List ℕ) → leads b r u s ≡ leadsBy (positions b) (leftOf b r) (rightOf b r) u s
+pub leads-by :
+    (b : List ℕ) (r : ℕ) (u s : List ℕ) → leads b r u s ≡ leadsBy (positions b) (leftOf b r) (rightOf b r) u s
 unfolding leads leadsBy applies step
 leads-by b r u s = refl
 
@@ -45,7 +47,8 @@ module _ (n : ℕ) (left right : ℕ → ℕ) (u s : List ℕ) where
       leadsBy n left right u s ≡ true → (i : ℕ) → i < n → getD (rewritten n left right u) i 0 ≡ getD s i 0
   unfolding leadsBy
   leads-image h i l =
-      eqb-true _ _ (all-at (λ i. eqb (getD (rewritten n left right u) i 0) (getD s i 0)) n (and-true (matches n left u) _ h .1) i l)
+      eqb-true _ _
+      (all-at (λ i. eqb (getD (rewritten n left right u) i 0) (getD s i 0)) n (and-true (matches n left u) _ h .1) i l)
 
   leading :
       matches n left u ≡ true → ((i : ℕ) → i < n → getD (rewritten n left right u) i 0 ≡ getD s i 0)
@@ -53,7 +56,8 @@ module _ (n : ℕ) (left right : ℕ → ℕ) (u s : List ℕ) where
   unfolding leadsBy
   leading m h =
       and-intro (matches n left u) (same n (rewritten n left right u) s) m
-      (all-intro (λ i. eqb (getD (rewritten n left right u) i 0) (getD s i 0)) n (λ i l. eq-eqb (getD (rewritten n left right u) i 0) (getD s i 0) (h i l)))
+      (all-intro (λ i. eqb (getD (rewritten n left right u) i 0) (getD s i 0)) n
+      (λ i l. eq-eqb (getD (rewritten n left right u) i 0) (getD s i 0) (h i l)))
 
   -- and by the right terms
   pub made : leadsBy n left right u s ≡ true → Made n left right u s

@@ -1,5 +1,6 @@
--- What stepping back answers, in the document's words and both ways: the state found is the next one in rank order that the rule takes to s (`found-next`, `next-found`), and
--- 'none further' is told exactly where there is none (`none-none`, `none-found`). Everything else that is said of `stepBack` rests on these.
+-- What stepping back answers, in the document's words and both ways: the state found is the next one in rank order that
+-- the rule takes to s (`found-next`, `next-found`), and 'none further' is told exactly where there is none
+-- (`none-none`, `none-found`). Everything else that is said of `stepBack` rests on these.
 use mathlib.Core.Path.{_≡_, refl, sym, ap, _∙_, subst}
 use mathlib.Core.Logic.{_⊎_, inl, inr, ⊎-elim}
 use mathlib.Core.Bool.{Bool, true, false, _&&_}
@@ -16,21 +17,21 @@ use Rattle.blocks.specs.Validity.{Headed}
 use Rattle.psvn.specs.Rules.{leads}
 use Rattle.psvn.specs.Ranks.{stateRank, unrankState, stateCount}
 use Rattle.psvn.proofs.RankLaws.{state-rank-below, unrank-state-rank, unrank-state-ok, state-rank-unrank}
-use Rattle.backward.specs.Predecessors.{Earlier, fromRank, nextRank, Predecessor, found, none-further, stepBack}
+use Rattle.backward.specs.Predecessors.{Earlier, fromRank, nextRank, NextState, found, none-further, stepBack}
 
 -- the two answers are told apart, and a state found is told whole
-abbrev foundElse : List ℕ → Predecessor → List ℕ
+abbrev foundElse : List ℕ → NextState → List ℕ
 foundElse e (found u) = u
 foundElse e none-further = e
 
-abbrev isNone : Predecessor → Bool
+abbrev isNone : NextState → Bool
 isNone (found u) = false
 isNone none-further = true
 
-pub found-none : {p : Predecessor} {u : List ℕ} → p ≡ found u → p ≡ none-further → ⊥
+pub found-none : {p : NextState} {u : List ℕ} → p ≡ found u → p ≡ none-further → ⊥
 found-none f g = true-false (ap isNone g) (ap isNone f)
 
-pub same-found : {p : Predecessor} {u v : List ℕ} → p ≡ found u → p ≡ found v → u ≡ v
+pub same-found : {p : NextState} {u v : List ℕ} → p ≡ found u → p ≡ found v → u ≡ v
 same-found f g = ap (foundElse []) (sym f ∙ g)
 
 module _ (b : List ℕ) (h : Headed b) (r : ℕ) (s : List ℕ) (earlier : Earlier) where
@@ -77,7 +78,8 @@ module _ (b : List ℕ) (h : Headed b) (r : ℕ) (s : List ℕ) (earlier : Earli
   next-found u n =
       let top = state-rank-below b u (n .state) in
       at-rank (stateRank b u)
-      (first-at counts (stateCount b) (stateRank b u) top (state-counts u (n .state) (n .leads-there) (n .above)) (λ k l.
+      (first-at counts (stateCount b) (stateRank b u) top (state-counts u (n .state) (n .leads-there) (n .above))
+      (λ k l.
       not-so (counts k) (λ e.
       let m = counts-state k e in
       let q = state-rank-unrank b h k (omega arith) in
@@ -106,18 +108,21 @@ module _ (b : List ℕ) (h : Headed b) (r : ℕ) (s : List ℕ) (earlier : Earli
         leads-there = m .1;
         above = rw q (m .0);
         least = λ v ok l a.
-            let z : ¬ (stateRank b v < first (stateCount b) counts) = λ x. true-false (state-counts v ok l a) (first-least counts (stateCount b) (stateRank b v) x) in
+            let z : ¬ (stateRank b v < first (stateCount b) counts) =
+            λ x. true-false (state-counts v ok l a) (first-least counts (stateCount b) (stateRank b v) x) in
             omega (arith, q);
       }
 
   -- 'found' with the next state, or 'none further' where there is none
-  pub answer : ((u : List ℕ) × (stepBack b r s earlier ≡ found u) × Next u) ⊎ ((stepBack b r s earlier ≡ none-further) × NoNext)
+  pub answer :
+      ((u : List ℕ) × (stepBack b r s earlier ≡ found u) × Next u) ⊎ ((stepBack b r s earlier ≡ none-further) × NoNext)
   unfolding nextRank
   answer = go (some (stateCount b) counts) refl
     where
       go :
           (t : Bool) → some (stateCount b) counts ≡ t
-          → ((u : List ℕ) × (stepBack b r s earlier ≡ found u) × Next u) ⊎ ((stepBack b r s earlier ≡ none-further) × NoNext)
+          → ((u : List ℕ) × (stepBack b r s earlier ≡ found u) × Next u)
+          ⊎ ((stepBack b r s earlier ≡ none-further) × NoNext)
       go true e =
           let k = first (stateCount b) counts in
           inl (unrankState b k, at-rank k refl (first-holds counts (stateCount b) e .0), next-at e)
@@ -125,7 +130,8 @@ module _ (b : List ℕ) (h : Headed b) (r : ℕ) (s : List ℕ) (earlier : Earli
           inr (
             at-end (first-none counts (stateCount b) e),
             λ v ok l a.
-                true-false (some-intro counts (stateCount b) (stateRank b v) (state-rank-below b v ok) (state-counts v ok l a)) e,
+                true-false
+                (some-intro counts (stateCount b) (stateRank b v) (state-rank-below b v ok) (state-counts v ok l a)) e,
           )
 
   pub found-next : (u : List ℕ) → stepBack b r s earlier ≡ found u → Next u

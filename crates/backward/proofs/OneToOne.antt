@@ -1,6 +1,7 @@
--- A rule that is reversible by form takes no two states to one (`reversible-one`, `one-predecessor`); with two labels or more, any other rule does (`not-reversible`), so that the form
--- tells exactly which rules are one to one (`reversible-exactly`). With one label there is one state only, and every rule is one to one (`one-label`).
--- The starred exercises on reversible rules rest on this; the code's test goes by `form-kept` and `form-term`.
+-- A rule that is reversible by form takes no two states to one (`reversible-one`, `one-predecessor`); with two labels
+-- or more, any other rule does (`not-reversible`), so that the form tells exactly which rules are one to one
+-- (`reversible-exactly`). With one label there is one state only, and every rule is one to one (`one-label`). The
+-- starred exercises on reversible rules rest on this; the code's test goes by `form-kept` and `form-term`.
 use mathlib.Core.Path.{_≡_, refl, sym, ap, _∙_}
 use mathlib.Core.Logic.{_↔_}
 use mathlib.Core.Bool.{Bool, true, false, cond, _||_}
@@ -20,7 +21,8 @@ use Rattle.blocks.specs.Terms.{termOf, isDash}
 use Rattle.blocks.specs.Layout.{positions, labels, rules, labelCount, leftOf, rightOf}
 use Rattle.blocks.specs.States.{labelled, stateOk}
 use Rattle.blocks.specs.Validity.{Valid}
-use Rattle.blocks.proofs.TermCases.{View, label, variable, dash, refused, view, is-label, is-variable, is-dash, is-refused, dash-byte}
+use Rattle.blocks.proofs.TermCases.{View, label, variable, dash, refused, view, is-label, is-variable, is-dash}
+use Rattle.blocks.proofs.TermCases.{is-refused, dash-byte}
 use Rattle.blocks.proofs.StateLaws.{labelled-intro, state-length, state-label}
 use Rattle.psvn.specs.Rules.{bound, given, rewritten, applies, step, leads}
 use Rattle.psvn.proofs.Matching.{Matched, matching}
@@ -30,7 +32,8 @@ use Rattle.backward.specs.Choices.{choice}
 use Rattle.backward.proofs.Choosing.{Keeps}
 use Rattle.backward.proofs.Leading.{leadsBy, leads-by, leads-exactly}
 use Rattle.backward.proofs.ChoiceCases.{Case, kept, constant, shown, again, new, other, case}
-use Rattle.backward.proofs.Keeping.{shows-right, shows-left, leads-keeps, at-kept, at-constant, at-shown, Proper, bound-stands, valid-proper}
+use Rattle.backward.proofs.Keeping.{shows-right, shows-left, leads-keeps, at-kept, at-constant, at-shown, Proper}
+use Rattle.backward.proofs.Keeping.{bound-stands, valid-proper}
 
 -- the form at one position, by its terms
 module _ (n : ℕ) (left right : ℕ → ℕ) (i : ℕ) where
@@ -157,7 +160,8 @@ module _
           let nj : j ≡ i → ⊥ = λ z. (let y = ap left z in omega arith) in
           simp (d, e, ne-eqb k i nk, ne-eqb j i nj)
 
-  -- they have the same image: they agree at each position that does not move, and the new state shows only such positions
+  -- they have the same image: they agree at each position that
+  -- does not move, and the new state shows only such positions
   still :
       (k : ℕ) → k < n → (left i < 32 → left k ≡ left i → ⊥) → (32 ≤ left i → k ≡ i → ⊥)
       → getD (twin n left i 0) k 0 ≡ getD (twin n left i 1) k 0
@@ -168,30 +172,35 @@ module _
       go false e = simp (e, ne-eqb k i (b (ltb-false _ _ e)))
 
   image-at :
-      (k : ℕ) → k < n → given n left (twin n left i 0) k (termOf (right k)) ≡ given n left (twin n left i 1) k (termOf (right k))
+      (k : ℕ) → k < n
+      → given n left (twin n left i 0) k (termOf (right k)) ≡ given n left (twin n left i 1) k (termOf (right k))
   unfolding bound
   image-at k l = go (view (right k))
     where
       kept-at : right k ≡ 255 → getD (twin n left i 0) k 0 ≡ getD (twin n left i 1) k 0
       kept-at e =
-          still k l (λ b z. not-shown b k l (shows-left left right (left i) k z e)) (λ b z. right-here (ap right (sym z) ∙ e))
+          still k l (λ b z. not-shown b k l (shows-left left right (left i) k z e))
+          (λ b z. right-here (ap right (sym z) ∙ e))
 
       go :
-          View (right k) → given n left (twin n left i 0) k (termOf (right k)) ≡ given n left (twin n left i 1) k (termOf (right k))
+          View (right k)
+          → given n left (twin n left i 0) k (termOf (right k)) ≡ given n left (twin n left i 1) k (termOf (right k))
       go (label a) = rw (is-label (right k) a)
       go (variable a b) =
           let f = first n (λ j. eqb (left j) (right k)) in
           let h = bound-stands n count left right proper k l a b in
           let e : left f ≡ right k = h .1 in
           rw (is-variable (right k) a b)
-          (still f (h .0) (λ c z. not-shown c k l (shows-right left right (left i) k (sym e ∙ z))) (λ c z. (let y = ap left z in omega arith)))
+          (still f (h .0) (λ c z. not-shown c k l (shows-right left right (left i) k (sym e ∙ z)))
+          (λ c z. (let y = ap left z in omega arith)))
       go (dash e) = rw (is-dash (right k) e) (kept-at e)
       go (refused a b) = absurd (b (proper .right-dash k l a))
 
   twin-image : rewritten n left right (twin n left i 0) ≡ rewritten n left right (twin n left i 1)
   unfolding rewritten
   twin-image =
-      tabulate-ext n (λ k. given n left (twin n left i 0) k (termOf (right k))) (λ k. given n left (twin n left i 1) k (termOf (right k))) image-at
+      tabulate-ext n (λ k. given n left (twin n left i 0) k (termOf (right k)))
+      (λ k. given n left (twin n left i 1) k (termOf (right k))) image-at
 
   twin-different : twin n left i 0 ≡ twin n left i 1 → ⊥
   twin-different e =
@@ -223,7 +232,8 @@ module _ (b : List ℕ) (r : ℕ) where
   unfolding reversible
   one-predecessor h s u v uo vo lu lv =
       same-state u v uo vo
-      (form-tells (positions b) (leftOf b r) (rightOf b r) h s u v (sym (leads-by b r u s) ∙ lu) (sym (leads-by b r v s) ∙ lv))
+      (form-tells (positions b) (leftOf b r) (rightOf b r) h s u v (sym (leads-by b r u s) ∙ lu)
+      (sym (leads-by b r v s) ∙ lv))
 
   pub reversible-one : reversible b r ≡ true → OneToOne b r
   reversible-one h u v uo vo au av e =

@@ -1,5 +1,6 @@
--- The next list after e that keeps to a choice at each position, where a choice goes by the labels before its position alone: e up to the last position that can be raised, raised
--- there, and on with the least labels (`raised-above`, `raised-keeps`, `raised-below`, `raised-least`; `none-after`); the first one of all has the least labels throughout
+-- The next list after e that keeps to a choice at each position, where a choice goes by the labels before its position
+-- alone: e up to the last position that can be raised, raised there, and on with the least labels (`raised-above`,
+-- `raised-keeps`, `raised-below`, `raised-least`; `none-after`); the first one of all has the least labels throughout
 -- (`completed-keeps`, `completed-below`, `completed-least`). Nothing here is about rules.
 use mathlib.Core.Path.{_≡_, refl, sym, _∙_, subst}
 use mathlib.Core.Logic.{_⊎_, inl, inr, ⊎-elim}
@@ -59,7 +60,8 @@ module _
   abbrev Below : List ℕ → Type 0
   Below u = (k : ℕ) → k < n → getD u k 0 < count k
 
-  -- positions with the least label: it may stand there, is below the count, and no list that keeps to the choices has a lower one
+  -- positions with the least label: it may stand there, is below the
+  -- count, and no list that keeps to the choices has a lower one
   least-kept : (u : List ℕ) (k : ℕ) → getD u k 0 ≡ leastOf (choices u k) → keepsOf (choices u k) (getD u k 0) ≡ true
   least-kept u k e = rw e (least-keeps (choices u k))
 
@@ -70,7 +72,9 @@ module _
   least-below u from a b zero l k h = absurd (not-suc-le-zero h)
   least-below u from a b (suc m) l k h =
       let ih = least-below u from a b m (omega arith) in
-      ⊎-elim (λ q. subst (λ (j : ℕ). getD u j 0 < count j) (sym q) (go ih (ltb m from) refl)) (ih k) (eq-or-lt-of-le (le-of-suc-le-suc h))
+      ⊎-elim (λ q. subst (λ (j : ℕ). getD u j 0 < count j) (sym q) (go ih (ltb m from) refl))
+      (ih k)
+      (eq-or-lt-of-le (le-of-suc-le-suc h))
     where
       go : ((k : ℕ) → k < m → getD u k 0 < count k) → (t : Bool) → ltb m from ≡ t → getD u m 0 < count m
       go ih true e = a m (ltb-true _ _ e) l
@@ -91,7 +95,9 @@ module _
 
     pub completed-least : (v : List ℕ) → Keeps n choices v → Before n v u → ⊥
     completed-least v kv b =
-        let x = least-lowest u v (b .place) (f .after (b .place) (omega arith) (b .within)) (kv (b .place) (b .within)) (b .agree) in
+        let x =
+        least-lowest u v (b .place) (f .after (b .place) (omega arith) (b .within)) (kv (b .place) (b .within))
+        (b .agree) in
         omega (arith, b .lower)
 
   -- where e and a later list v that keeps to the choices part, e can be raised
@@ -101,7 +107,8 @@ module _
         and-intro _ _
         (all-intro (λ k. keepsOf (choices e k) (getD e k 0)) (b .place) (λ k l.
         rw (near e v k (λ j m. b .agree j (omega arith)), b .agree k l) (kv k (let x = b .within in omega arith))))
-        (rises-to (count (b .place)) (choices e (b .place)) (getD e (b .place) 0) (getD v (b .place) 0) (rw (near e v (b .place) (b .agree)) (kv (b .place) (b .within))) (b .lower) (bv (b .place) (b .within)))
+        (rises-to (count (b .place)) (choices e (b .place)) (getD e (b .place) 0) (getD v (b .place) 0)
+        (rw (near e v (b .place) (b .agree)) (kv (b .place) (b .within))) (b .lower) (bv (b .place) (b .within)))
 
     pub none-after : last n (raisableAt count choices e) ≡ 0 → ⊥
     none-after h =
@@ -147,7 +154,8 @@ module _
         here : getD u i 0 < count i
         here =
             rw (t .here)
-            (raised-small (count i) (choices e i) (getD e i 0) (raisable .1) (small e i within (λ j m. be j (let x = within in omega arith))))
+            (raised-small (count i) (choices e i) (getD e i 0) (raisable .1)
+            (small e i within (λ j m. be j (let x = within in omega arith))))
 
         front : (k : ℕ) → k < suc i → k < n → getD u k 0 < count k
         front k a l =
@@ -164,7 +172,8 @@ module _
       -- e and v part before position i
       early : b .place < i → (c .place < b .place) ⊎ ((c .place ≡ b .place) ⊎ (b .place < c .place)) → ⊥
       early l (inl m) =
-          let x : getD u (c .place) 0 ≡ getD v (c .place) 0 = t .before (c .place) (omega arith) ∙ b .agree (c .place) m in
+          let x : getD u (c .place) 0 ≡ getD v (c .place) 0 =
+          t .before (c .place) (omega arith) ∙ b .agree (c .place) m in
           omega (arith, c .lower)
       early l (inr (inl q)) =
           let x : getD v (b .place) 0 < getD u (b .place) 0 = subst (λ (j : ℕ). getD v j 0 < getD u j 0) q (c .lower) in
@@ -181,13 +190,18 @@ module _
 
       late : b .place ≡ i → (c .place < i) ⊎ ((c .place ≡ i) ⊎ (i < c .place)) → ⊥
       late q (inl m) =
-          let x : getD u (c .place) 0 ≡ getD v (c .place) 0 = t .before (c .place) m ∙ b .agree (c .place) (omega arith) in
+          let x : getD u (c .place) 0 ≡ getD v (c .place) 0 =
+          t .before (c .place) m ∙ b .agree (c .place) (omega arith) in
           omega (arith, c .lower)
       late q (inr (inl z)) =
           let x : getD v i 0 < getD u i 0 = subst (λ (j : ℕ). getD v j 0 < getD u j 0) z (c .lower) in
           omega (arith, lowest-here q)
       late q (inr (inr m)) =
-          omega (arith, least-lowest u v (c .place) (t .after (c .place) m (c .within)) (kv (c .place) (c .within)) (c .agree), c .lower)
+          omega (
+            arith,
+            least-lowest u v (c .place) (t .after (c .place) m (c .within)) (kv (c .place) (c .within)) (c .agree),
+            c .lower,
+          )
 
       pub raised-least : ⊥
       raised-least =

@@ -1,5 +1,6 @@
--- What a state that a rule takes to the state s may hold at a position, when its labels before that position are known: one label only, or any (`choice`).
--- The code builds the next predecessor by these choices; what it is, `Predecessors` says without them.
+-- What a state that a rule takes to the state s may hold at a position, when its labels
+-- before that position are known: one label only, or any (`choice`). The code builds
+-- the next predecessor by these choices; what it is, `Predecessors` says without them.
 use mathlib.Core.Path.{_≡_}
 use Prim.Native.Nat.{ℕ, suc, _+_, _≤_, _<_}
 use mathlib.Core.Bool.{Bool, true, cond, _&&_}
@@ -19,7 +20,8 @@ use Rattle.backward.specs.declared.choices.Choice.the-variants.{Only, An
 abbrev pub only : ℕ → Choice
 only x = Only (record { 0 = x })
 
--- where the variable v stands on the left: the label that s shows of v, or the label at v's first position, if that is before i
+-- where the variable v stands on the left: the label that s shows
+-- of v, or the label at v's first position, if that is before i
 abbrev pub variableChoice : ℕ → (ℕ → ℕ) → (ℕ → ℕ) → List ℕ → List ℕ → ℕ → ℕ → Choice
 variableChoice n left right s u i v =
     cond (ltb (first n (shows left right v)) n) (only (getD s (first n (shows left right v)) 0))
@@ -40,7 +42,8 @@ choice n left right s u i =
 abbrev pub choicesAt : List ℕ → ℕ → ℕ → List ℕ → List ℕ → ℕ → Choice
 choicesAt b left right s = choice (length s) (sideAt b left) (sideAt b right) s
 
--- the least label that may stand there; the least above x; whether there is one above x, below the count; whether x may stand there
+-- the least label that may stand there; the least above x; whether
+-- there is one above x, below the count; whether x may stand there
 abbrev pub leastOf : Choice → ℕ
 leastOf (Only label) = label .0
 leastOf Any = 0

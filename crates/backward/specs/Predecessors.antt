@@ -1,5 +1,5 @@
--- Stepping back (document 01): the next state in base-L rank order that a rule takes to the given one, or 'none further': `stepBack`.
--- The public calls for predecessors are stated with it.
+-- Stepping back (document 01): the next state in base-L rank order that a rule takes to the given one, or 'none
+-- further': `stepBack`. The public calls for predecessors are stated with it.
 use mathlib.Core.Path.{_≡_}
 use Prim.Native.Nat.{ℕ, zero, suc}
 use mathlib.Core.Bool.{Bool, true, false, cond, _&&_}
@@ -25,37 +25,38 @@ unfoldable pub nextRank : List ℕ → ℕ → List ℕ → Earlier → ℕ
 nextRank b r s earlier = first (stateCount b) (λ k. leb (fromRank b earlier) k && leads b r (unrankState b k) s)
 
 -- the state found, or 'none further'
-pub data Predecessor : Type 0 where
-  found : List ℕ → Predecessor
-  none-further : Predecessor
+pub data NextState : Type 0 where
+  found : List ℕ → NextState
+  none-further : NextState
 
-unfoldable pub stepBack : List ℕ → ℕ → List ℕ → Earlier → Predecessor
+unfoldable pub stepBack : List ℕ → ℕ → List ℕ → Earlier → NextState
 stepBack b r s earlier =
     cond (ltb (nextRank b r s earlier) (stateCount b)) (found (unrankState b (nextRank b r s earlier))) none-further
 
 -- whether there is one, and the buffer afterwards: the state found stands at its front, or nothing is written
-abbrev pub isFound : Predecessor → Bool
+abbrev pub isFound : NextState → Bool
 isFound (found u) = true
 isFound none-further = false
 
-abbrev pub writtenOut : Predecessor → List ℕ → List ℕ
+abbrev pub writtenOut : NextState → List ℕ → List ℕ
 writtenOut (found u) out = atFront u out
 writtenOut none-further out = out
 
 -- what stepping back answers, and leaves in the buffer
-abbrev pub Answered : Predecessor → Bool → List ℕ → List ℕ → Type 0
+abbrev pub Answered : NextState → Bool → List ℕ → List ℕ → Type 0
 Answered next answer out out′ = (answer ≡ isFound next) × (out′ ≡ writtenOut next out)
 
 -- what a candidate u settles: it is the state found where rule r takes it to s, else there is none
-abbrev pub settled : List ℕ → ℕ → List ℕ → List ℕ → Predecessor
+abbrev pub settled : List ℕ → ℕ → List ℕ → List ℕ → NextState
 settled b r s u = cond (leads b r u s) (found u) none-further
 
 -- go on from the state found, or tell 'none further' again
-abbrev pub afterCall : (List ℕ → Predecessor) → Predecessor → Predecessor
+abbrev pub afterCall : (List ℕ → NextState) → NextState → NextState
 afterCall further (found u) = further u
 afterCall further none-further = none-further
 
--- the answer of call k, where the first call begins from `earlier` and each later one from the state found before it; 'none further' once that was told
-abbrev pub call : List ℕ → ℕ → List ℕ → Earlier → ℕ → Predecessor
+-- the answer of call k, where the first call begins from `earlier` and each later one from the state found before it;
+-- 'none further' once that was told
+abbrev pub call : List ℕ → ℕ → List ℕ → Earlier → ℕ → NextState
 call b r s earlier zero = stepBack b r s earlier
 call b r s earlier (suc k) = afterCall (λ u. call b r s (after u) k) (stepBack b r s earlier)

@@ -1,5 +1,6 @@
--- Reversible by form (document 01): `reversible`; and what this form shows of a rule: no two states to which it applies have the same image (`OneToOne`).
--- The public call for it, and the theorem that the two are the same for two labels or more, are stated with these.
+-- Reversible by form (document 01): `reversible`; and what this form shows of a rule: no two states to which it applies
+-- have the same image (`OneToOne`). The public call for it, and the theorem that the two are the same for two labels or
+-- more, are stated with these.
 use mathlib.Core.Path.{_≡_}
 use Prim.Native.Nat.{ℕ}
 use mathlib.Core.Bool.{Bool, true, false, _&&_, _||_}
@@ -13,11 +14,13 @@ use Rattle.blocks.specs.declared.terms.Term.{Term}
 use Rattle.blocks.specs.declared.terms.Term.the-variants.{Label, Variable, Dash, Refused}
 use Rattle.psvn.specs.Rules.{applies, step}
 
--- the new state shows the variable v at position j: v stands there on the right, or it stands there on the left and the right term is a dash
+-- the new state shows the variable v at position j: v stands there on the right, or it stands there on the left and the
+-- right term is a dash
 abbrev pub shows : (ℕ → ℕ) → (ℕ → ℕ) → ℕ → ℕ → Bool
 shows left right v j = eqb (right j) v || (eqb (left j) v && isDash (termOf (right j)))
 
--- a left term whose label is not lost: a constant, or a variable that also stands on the right or at a left position whose right term is a dash
+-- a left term whose label is not lost: a constant, or a variable that also stands on the right or at a left position
+-- whose right term is a dash
 abbrev pub keptTerm : ℕ → (ℕ → ℕ) → (ℕ → ℕ) → Term → Bool
 keptTerm n left right (Label label) = true
 keptTerm n left right (Variable v) = some n (shows left right v)

@@ -7,9 +7,9 @@ ghost use Rattle.blocks.specs.Layout.{sideAt};
 ghost use Rattle.backward.specs.Reversible.{shows};
 ghost use Rattle.backward.specs.Choices.{variableChoice, choicesAt, leastOf, raisedOf, risesOf, keepsOf};
 use basics::and;
+use basics::first_of;
 use basics::wide;
 use blocks::labels::ConcreteLabel;
-use blocks::layout::first_of;
 use blocks::terms::Term;
 use blocks::terms::decode;
 use blocks::terms::is_dash;
@@ -57,8 +57,10 @@ fn variable_choice(
     i: usize,
     v: u8,
 ) -> Choice
-    requires { ⌜ (left + length (now state) ≤ length (now block)) × (right + length (now state) ≤ length (now block)) × (length (now begun) ≡ length (now state)) × (i < length (now state)) ⌝ }
-    ensures { λ r. ⌜ r ≡ variableChoice (length (now (state .entry))) (sideAt (now (block .entry)) left) (sideAt (now (block .entry)) right) (now (state .entry)) (now (begun .entry)) i v ⌝ }
+    requires { ⌜ (left + length (now state) ≤ length (now block)) × (right + length (now state) ≤ length (now block)) ×
+        (length (now begun) ≡ length (now state)) × (i < length (now state)) ⌝ }
+    ensures { λ r. ⌜ r ≡ variableChoice (length (now (state .entry))) (sideAt (now (block .entry)) left)
+        (sideAt (now (block .entry)) right) (now (state .entry)) (now (begun .entry)) i v ⌝ }
 {
     let n = state.len();
     let shown = first_shown(block, left, right, n, v);
@@ -81,7 +83,8 @@ pub fn choice_at(
     begun: &[u8],
     i: usize,
 ) -> Choice
-    requires { ⌜ (left + length (now state) ≤ length (now block)) × (right + length (now state) ≤ length (now block)) × (length (now begun) ≡ length (now state)) × (i < length (now state)) ⌝ }
+    requires { ⌜ (left + length (now state) ≤ length (now block)) × (right + length (now state) ≤ length (now block)) ×
+        (length (now begun) ≡ length (now state)) × (i < length (now state)) ⌝ }
     ensures { λ r. ⌜ r ≡ choicesAt (now (block .entry)) left right (now (state .entry)) (now (begun .entry)) i ⌝ }
 {
     if is_dash(block[right + i]) {

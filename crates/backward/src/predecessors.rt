@@ -1,4 +1,5 @@
-// The states that a rule takes to a given one, in rank order. The next one after an earlier state is built position by position, never by counting through ranks.
+// The states that a rule takes to a given one, in rank order. The next one after an earlier state is built position by
+// position, never by counting through ranks.
 ghost use mathlib.Core.Path.{_≡_};
 ghost use mathlib.Core.Bool.{true};
 ghost use Prim.Native.Nat.{_+_, _≤_, _<_};
@@ -27,8 +28,10 @@ fn complete(
     candidate: &mut [u8],
     from: usize,
 )
-    requires { ⌜ (left + length (now state) ≤ length (now block)) × (right + length (now state) ≤ length (now block)) × (length (now candidate) ≡ length (now state)) × (from ≤ length (now state)) ⌝ }
-    ensures { λ _. ⌜ Completed (choicesAt (now (block .entry)) left right (now (state .entry))) (length (now (state .entry))) from (now (candidate .entry)) (now (candidate .exit)) ⌝ }
+    requires { ⌜ (left + length (now state) ≤ length (now block)) × (right + length (now state) ≤ length (now block)) ×
+        (length (now candidate) ≡ length (now state)) × (from ≤ length (now state)) ⌝ }
+    ensures { λ _. ⌜ Completed (choicesAt (now (block .entry)) left right (now (state .entry)))
+        (length (now (state .entry))) from (now (candidate .entry)) (now (candidate .exit)) ⌝ }
 {
     let n = state.len();
     let mut i = from;
@@ -41,8 +44,12 @@ fn complete(
 
 // One more than the last position that can be raised, with the labels of `earlier` before it kept; or 0.
 fn pivot(block: &[u8], left: usize, right: usize, state: &[u8], earlier: &[u8]) -> usize
-    requires { ⌜ Headed (now block) × (length (now state) ≡ positions (now block)) × (left + length (now state) ≤ length (now block)) × (right + length (now state) ≤ length (now block)) × (length (now earlier) ≡ length (now state)) ⌝ }
-    ensures { λ r. ⌜ r ≡ last (length (now (state .entry))) (raisableAt (labelCount (now (block .entry))) (choicesAt (now (block .entry)) left right (now (state .entry))) (now (earlier .entry))) ⌝ }
+    requires { ⌜ Headed (now block) × (length (now state) ≡ positions (now block)) ×
+        (left + length (now state) ≤ length (now block)) × (right + length (now state) ≤ length (now block)) ×
+        (length (now earlier) ≡ length (now state)) ⌝ }
+    ensures { λ r. ⌜ r ≡ last (length (now (state .entry)))
+        (raisableAt (labelCount (now (block .entry))) (choicesAt (now (block .entry)) left right (now (state .entry)))
+        (now (earlier .entry))) ⌝ }
 {
     let n = state.len();
     let mut best = 0;
@@ -71,8 +78,11 @@ fn raise(
     candidate: &mut [u8],
     i: usize,
 )
-    requires { ⌜ (left + length (now state) ≤ length (now block)) × (right + length (now state) ≤ length (now block)) × (length (now earlier) ≡ length (now state)) × (length (now candidate) ≡ length (now state)) × (i < length (now state)) × (getD (now earlier) i 0 < 255) ⌝ }
-    ensures { λ _. ⌜ Raised (choicesAt (now (block .entry)) left right (now (state .entry))) (length (now (state .entry))) i (now (earlier .entry)) (now (candidate .exit)) ⌝ }
+    requires { ⌜ (left + length (now state) ≤ length (now block)) × (right + length (now state) ≤ length (now block)) ×
+        (length (now earlier) ≡ length (now state)) × (length (now candidate) ≡ length (now state)) ×
+        (i < length (now state)) × (getD (now earlier) i 0 < 255) ⌝ }
+    ensures { λ _. ⌜ Raised (choicesAt (now (block .entry)) left right (now (state .entry)))
+        (length (now (state .entry))) i (now (earlier .entry)) (now (candidate .exit)) ⌝ }
 {
     copy(earlier, i, candidate);
     let choice = choice_at(block, left, right, state, earlier, i);
@@ -82,8 +92,10 @@ fn raise(
 
 // Writes the candidate out if rule r takes it to `state`.
 fn settle(block: &[u8], r: usize, candidate: &[u8], state: &[u8], out: &mut [u8]) -> bool
-    requires { ⌜ Sized (now block) × (r < rules (now block)) × (length (now candidate) ≡ positions (now block)) × (length (now state) ≡ positions (now block)) × (positions (now block) ≤ length (now out)) ⌝ }
-    ensures { λ answer. ⌜ Answered (settled (now (block .entry)) r (now (state .entry)) (now (candidate .entry))) answer (now (out .entry)) (now (out .exit)) ⌝ }
+    requires { ⌜ Sized (now block) × (r < rules (now block)) × (length (now candidate) ≡ positions (now block)) ×
+        (length (now state) ≡ positions (now block)) × (positions (now block) ≤ length (now out)) ⌝ }
+    ensures { λ answer. ⌜ Answered (settled (now (block .entry)) r (now (state .entry)) (now (candidate .entry))) answer
+        (now (out .entry)) (now (out .exit)) ⌝ }
 {
     if psvn::rules::leads(block, r, candidate, state) {
         copy(candidate, candidate.len(), out);
@@ -94,8 +106,10 @@ fn settle(block: &[u8], r: usize, candidate: &[u8], state: &[u8], out: &mut [u8]
 
 // The first predecessor; `candidate` is room for a state.
 fn first_in(block: &[u8], r: usize, state: &[u8], candidate: &mut [u8], out: &mut [u8]) -> bool
-    requires { ⌜ Valid (now block) × (r < rules (now block)) × (stateOk (now block) (now state) ≡ true) × (length (now candidate) ≡ positions (now block)) × (positions (now block) ≤ length (now out)) ⌝ }
-    ensures { λ answer. ⌜ Answered (stepBack (now (block .entry)) r (now (state .entry)) from-first) answer (now (out .entry)) (now (out .exit)) ⌝ }
+    requires { ⌜ Valid (now block) × (r < rules (now block)) × (stateOk (now block) (now state) ≡ true) ×
+        (length (now candidate) ≡ positions (now block)) × (positions (now block) ≤ length (now out)) ⌝ }
+    ensures { λ answer. ⌜ Answered (stepBack (now (block .entry)) r (now (state .entry)) from-first) answer
+        (now (out .entry)) (now (out .exit)) ⌝ }
 {
     let left = layout::left_at(block, r);
     let right = layout::right_at(block, r);
@@ -112,8 +126,11 @@ fn next_in(
     candidate: &mut [u8],
     out: &mut [u8],
 ) -> bool
-    requires { ⌜ Valid (now block) × (r < rules (now block)) × (stateOk (now block) (now state) ≡ true) × (stateOk (now block) (now earlier) ≡ true) × (length (now candidate) ≡ positions (now block)) × (positions (now block) ≤ length (now out)) ⌝ }
-    ensures { λ answer. ⌜ Answered (stepBack (now (block .entry)) r (now (state .entry)) (after (now (earlier .entry)))) answer (now (out .entry)) (now (out .exit)) ⌝ }
+    requires { ⌜ Valid (now block) × (r < rules (now block)) × (stateOk (now block) (now state) ≡ true) ×
+        (stateOk (now block) (now earlier) ≡ true) × (length (now candidate) ≡ positions (now block)) ×
+        (positions (now block) ≤ length (now out)) ⌝ }
+    ensures { λ answer. ⌜ Answered (stepBack (now (block .entry)) r (now (state .entry)) (after (now (earlier .entry))))
+        answer (now (out .entry)) (now (out .exit)) ⌝ }
 {
     let left = layout::left_at(block, r);
     let right = layout::right_at(block, r);
@@ -127,15 +144,18 @@ fn next_in(
 
 // Writes the first state that rule r takes to `state` at the front of `out`; or there is none, and nothing is written.
 pub fn first_predecessor(block: &[u8], r: usize, state: &[u8], out: &mut [u8]) -> bool
-    requires { ⌜ Valid (now block) × (r < rules (now block)) × (stateOk (now block) (now state) ≡ true) × (positions (now block) ≤ length (now out)) ⌝ }
-    ensures { λ answer. ⌜ Answered (stepBack (now (block .entry)) r (now (state .entry)) from-first) answer (now (out .entry)) (now (out .exit)) ⌝ }
+    requires { ⌜ Valid (now block) × (r < rules (now block)) × (stateOk (now block) (now state) ≡ true) ×
+        (positions (now block) ≤ length (now out)) ⌝ }
+    ensures { λ answer. ⌜ Answered (stepBack (now (block .entry)) r (now (state .entry)) from-first) answer
+        (now (out .entry)) (now (out .exit)) ⌝ }
 {
     let n = state.len();
     let mut candidate = [0u8; MOST_POSITIONS];
     first_in(block, r, state, &mut candidate[..n], out)
 }
 
-// Writes the next state after `earlier` that rule r takes to `state` at the front of `out`; or there is none further, and nothing is written.
+// Writes the next state after `earlier` that rule r takes to `state` at the front of `out`; or there is none further,
+// and nothing is written.
 pub fn next_predecessor(
     block: &[u8],
     r: usize,
@@ -143,8 +163,10 @@ pub fn next_predecessor(
     earlier: &[u8],
     out: &mut [u8],
 ) -> bool
-    requires { ⌜ Valid (now block) × (r < rules (now block)) × (stateOk (now block) (now state) ≡ true) × (stateOk (now block) (now earlier) ≡ true) × (positions (now block) ≤ length (now out)) ⌝ }
-    ensures { λ answer. ⌜ Answered (stepBack (now (block .entry)) r (now (state .entry)) (after (now (earlier .entry)))) answer (now (out .entry)) (now (out .exit)) ⌝ }
+    requires { ⌜ Valid (now block) × (r < rules (now block)) × (stateOk (now block) (now state) ≡ true) ×
+        (stateOk (now block) (now earlier) ≡ true) × (positions (now block) ≤ length (now out)) ⌝ }
+    ensures { λ answer. ⌜ Answered (stepBack (now (block .entry)) r (now (state .entry)) (after (now (earlier .entry))))
+        answer (now (out .entry)) (now (out .exit)) ⌝ }
 {
     let n = state.len();
     let mut candidate = [0u8; MOST_POSITIONS];

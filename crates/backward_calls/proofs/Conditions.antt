@@ -1,4 +1,5 @@
--- What an accepting verdict on the conditions of stepping back says (`step-back-accepted`), and that stepping back from 'first' is refused as applying the rule is (`first-conditions`).
+-- What an accepting verdict on the conditions of stepping back says (`step-back-accepted`), and that stepping back from
+-- 'first' is refused as applying the rule is (`first-conditions`).
 -- The calls of stepping back rest on these once they have refused what is to be refused.
 use mathlib.Core.Path.{_≡_}
 use mathlib.Core.Bool.{true}

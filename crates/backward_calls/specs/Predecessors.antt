@@ -1,5 +1,6 @@
--- Stepping back, as two public calls, from 'first' and after an earlier state: `stepBackFrom` is the answer with the final contents of the lent buffer, for every input.
--- `predecessorOf` gives the document's answer for each case of the enum.
+-- Stepping back, as two public calls, from 'first' and after an earlier state: `stepBackFrom` is the answer with the
+-- final contents of the lent buffer, for every input. `predecessorOf` gives the document's answer for each case of the
+-- enum.
 use Prim.Native.Nat.{ℕ}
 use mathlib.Core.Bool.{Bool, true, false}
 use mathlib.Core.List.{List, [], _∷_, _++_}

@@ -18,7 +18,8 @@ pub enum Predecessor {
 
 // Checks what stepping back after an earlier state is handed; `room` is the length of the buffer.
 fn check_step_back(block: &[u8], rule: usize, state: &[u8], earlier: &[u8], room: usize) -> Verdict
-    ensures { λ r. ⌜ verdictOf r ≡ verdict (stepBackConditions (now (block .entry)) rule (now (state .entry)) (after (now (earlier .entry))) room) ⌝ }
+    ensures { λ r. ⌜ verdictOf r ≡ verdict
+        (stepBackConditions (now (block .entry)) rule (now (state .entry)) (after (now (earlier .entry))) room) ⌝ }
 {
     let checked = check_state(block, state);
     if let Verdict::Refused(refusal) = checked {
@@ -36,10 +37,11 @@ fn check_step_back(block: &[u8], rule: usize, state: &[u8], earlier: &[u8], room
     Verdict::Accepted
 }
 
-// Steps back from 'first': writes the first state in rank order that the rule takes to `state` at the front of `out`, or there is none and nothing is written.
-// Refused with 3 to 7, 8, 9, 11.
+// Steps back from 'first': writes the first state in rank order that the rule takes to `state` at the front of `out`,
+// or there is none and nothing is written. Refused with 3 to 7, 8, 9, 11.
 pub fn first_predecessor(block: &[u8], rule: usize, state: &[u8], out: &mut [u8]) -> Predecessor
-    ensures { λ r. ⌜ outcome (predecessorOf r) (now (out .exit)) ≡ stepBackFrom (now (block .entry)) rule (now (state .entry)) from-first (now (out .entry)) ⌝ }
+    ensures { λ r. ⌜ outcome (predecessorOf r) (now (out .exit)) ≡
+        stepBackFrom (now (block .entry)) rule (now (state .entry)) from-first (now (out .entry)) ⌝ }
 {
     let checked = check_application(block, rule, state, out.len());
     if let Verdict::Refused(refusal) = checked {
@@ -51,8 +53,9 @@ pub fn first_predecessor(block: &[u8], rule: usize, state: &[u8], out: &mut [u8]
     Predecessor::NoneFurther
 }
 
-// Steps back after an earlier state, which may be any state: writes the next one in rank order that the rule takes to `state` at the front of `out`, or there is none further and
-// nothing is written. Refused with 3 to 7, 8 (for both states), 9, 11.
+// Steps back after an earlier state, which may be any state: writes the next one in rank order that the rule takes to
+// `state` at the front of `out`, or there is none further and nothing is written. Refused with 3 to 7, 8 (for both
+// states), 9, 11.
 pub fn next_predecessor(
     block: &[u8],
     rule: usize,
@@ -60,7 +63,8 @@ pub fn next_predecessor(
     earlier: &[u8],
     out: &mut [u8],
 ) -> Predecessor
-    ensures { λ r. ⌜ outcome (predecessorOf r) (now (out .exit)) ≡ stepBackFrom (now (block .entry)) rule (now (state .entry)) (after (now (earlier .entry))) (now (out .entry)) ⌝ }
+    ensures { λ r. ⌜ outcome (predecessorOf r) (now (out .exit)) ≡ stepBackFrom
+        (now (block .entry)) rule (now (state .entry)) (after (now (earlier .entry))) (now (out .entry)) ⌝ }
 {
     let checked = check_step_back(block, rule, state, earlier, out.len());
     if let Verdict::Refused(refusal) = checked {

@@ -1,5 +1,5 @@
--- Laws of `all`, `some`, `first` and `last`: what they say at each number below the bound, how to show them, and that they go by the test's values alone.
--- The proofs of every scanning loop, of matching and of relabelling rest on these.
+-- Laws of `all`, `some`, `first` and `last`: what they say at each number below the bound, how to show them, and that
+-- they go by the test's values alone. The proofs of every scanning loop, of matching and of relabelling rest on these.
 use mathlib.Core.Path.{_≡_, refl, sym, ap, ap₂, _∙_}
 use mathlib.Core.Logic.{_⊎_, ⊎-elim}
 use mathlib.Core.Bool.{Bool, true, false, cond, _&&_, _||_, true≢false}
@@ -31,7 +31,9 @@ module _ (f : ℕ → Bool) where
   pub all-false : (n i : ℕ) → i < n → f i ≡ false → all n f ≡ false
   all-false zero i l h = absurd (not-suc-le-zero l)
   all-false (suc n) i l h =
-      ⊎-elim (λ e. and-right-false (all n f) (f n) (rw e at h)) (λ k. ap (λ (t : Bool). t && f n) (all-false n i k h)) (below l)
+      ⊎-elim (λ e. and-right-false (all n f) (f n) (rw e at h))
+      (λ k. ap (λ (t : Bool). t && f n) (all-false n i k h))
+      (below l)
 
   -- where not each number passes, one fails
   pub all-fails : (n : ℕ) → all n f ≡ false → (i : ℕ) × (i < n) × (f i ≡ false)
@@ -48,7 +50,9 @@ module _ (f : ℕ → Bool) where
   pub some-false : (n : ℕ) → some n f ≡ false → (i : ℕ) → i < n → f i ≡ false
   some-false zero h i l = absurd (not-suc-le-zero l)
   some-false (suc n) h i l =
-      ⊎-elim (λ e. rw e (or-false (some n f) (f n) h .1)) (λ k. some-false n (or-false (some n f) (f n) h .0) i k) (below l)
+      ⊎-elim (λ e. rw e (or-false (some n f) (f n) h .1))
+      (λ k. some-false n (or-false (some n f) (f n) h .0) i k)
+      (below l)
 
   pub some-none : (n : ℕ) → ((i : ℕ) → i < n → f i ≡ false) → some n f ≡ false
   some-none zero h = refl
@@ -71,7 +75,8 @@ module _ (f : ℕ → Bool) where
   -- where the test holds at some number below n, it holds at the first one
   first-step :
       (n : ℕ) (t : Bool) → some n f ≡ t → (u : Bool) → f n ≡ u → (t || u) ≡ true
-      → (some n f ≡ true → (first n f < n) × (f (first n f) ≡ true)) → (first (suc n) f < suc n) × (f (first (suc n) f) ≡ true)
+      → (some n f ≡ true → (first n f < n) × (f (first n f) ≡ true))
+      → (first (suc n) f < suc n) × (f (first (suc n) f) ≡ true)
   first-step n true e u q h ih = rw e (let k = ih e .0 in omega arith, ih e .1)
   first-step n false e true q h ih = rw (e, q) (omega arith, q)
   first-step n false e false q h ih = absurd (true≢false (sym h))

@@ -1,5 +1,5 @@
--- Parts of lists of bytes are lists of bytes (`bytes-take`, `bytes-drop`), and so are two behind one another (`bytes-append`).
--- Reading and writing exercises as text rests on these.
+-- Parts of lists of bytes are lists of bytes (`bytes-take`, `bytes-drop`), and so are two behind one another
+-- (`bytes-append`). Reading and writing exercises as text rests on these.
 use mathlib.Core.List.{List, [], _∷_, _++_}
 use Prim.Native.Nat.{ℕ, zero, suc}
 use native.Mathlib.Omega.{arith}

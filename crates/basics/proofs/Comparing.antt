@@ -1,5 +1,5 @@
--- How two numbers compare: one is below the other or not (`below?`), they are equal or not (`same?`), and all three cases (`trichotomy`).
--- Proofs that go by cases of two numbers, here and in the layers above, rest on these.
+-- How two numbers compare: one is below the other or not (`below?`), they are equal or not (`same?`), and all three
+-- cases (`trichotomy`). Proofs that go by cases of two numbers, here and in the layers above, rest on these.
 use mathlib.Core.Path.{_≡_, refl}
 use mathlib.Core.Logic.{_⊎_, inl, inr, ⊎-elim, _≢_}
 use mathlib.Core.Bool.{Bool, true, false}

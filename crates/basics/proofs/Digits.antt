@@ -1,11 +1,12 @@
--- Digits and numbers: digits below their bases make a number below `span`, no less than that of the first of them (`value-grows`), and the number of digits and the
--- digits of a number undo one another; with one base the numbers are those below a power (`span-power`), and a power with one factor more (`power-more`).
--- Ranks of states rest on these.
+-- Digits and numbers: digits below their bases make a number below `span`, no less than that of the first of them
+-- (`value-grows`), and the number of digits and the digits of a number undo one another; with one base the numbers are
+-- those below a power (`span-power`), and a power with one factor more (`power-more`). Ranks of states rest on these.
 use mathlib.Core.Path.{_≡_, refl, sym, ap, ap₂, _∙_}
 use mathlib.Core.Logic.{⊎-elim}
 use mathlib.Core.List.{List, [], _∷_, _++_}
 use Prim.Native.Nat.{ℕ, zero, suc, _+_, _*_, _/_, _%_, _^_, _≤_, _<_}
-use native.Mathlib.Nat.{eq-or-lt-of-le, le-of-suc-le-suc, not-suc-le-zero, mod-lt, le-mul-of-pos-right, pow-zero, pow-suc, div-lt-iff-lt-mul, div-add-mod'}
+use native.Mathlib.Nat.{eq-or-lt-of-le, le-of-suc-le-suc, not-suc-le-zero, mod-lt, le-mul-of-pos-right, pow-zero}
+use native.Mathlib.Nat.{pow-suc, div-lt-iff-lt-mul, div-add-mod'}
 use native.Mathlib.Numerals.{add-one}
 use native.Mathlib.Omega.{arith}
 use lib.Arith.{digits-lt, digits-div, digits-mod}
@@ -22,17 +23,23 @@ module _ (base : ℕ → ℕ) where
   value-below s (suc n) h = digits-lt (value-below s n (λ i l. h i (omega arith))) (h n (omega arith))
 
   -- the first digits alone write no greater number
-  pub value-grows : (s : List ℕ) (i n : ℕ) → i ≤ n → ((j : ℕ) → j < n → getD s j 0 < base j) → valueTo base s i ≤ valueTo base s n
+  pub value-grows :
+      (s : List ℕ) (i n : ℕ) → i ≤ n → ((j : ℕ) → j < n → getD s j 0 < base j) → valueTo base s i ≤ valueTo base s n
   value-grows s i zero l h = let e : i ≡ 0 = omega arith in rw e (omega arith)
   value-grows s i (suc n) l h =
       ⊎-elim (λ e. rw e (omega arith))
       (λ k.
       let d = h n (omega arith) in
-      omega (arith, value-grows s i n (le-of-suc-le-suc k) (λ j l. h j (omega arith)), le-mul-of-pos-right {m = base n} (valueTo base s n) (omega arith)))
+      omega (
+        arith,
+        value-grows s i n (le-of-suc-le-suc k) (λ j l. h j (omega arith)),
+        le-mul-of-pos-right {m = base n} (valueTo base s n) (omega arith),
+      ))
       (eq-or-lt-of-le l)
 
   -- a number goes by its n digits alone
-  pub value-ext : (s t : List ℕ) (n : ℕ) → ((i : ℕ) → i < n → getD s i 0 ≡ getD t i 0) → valueTo base s n ≡ valueTo base t n
+  pub value-ext :
+      (s t : List ℕ) (n : ℕ) → ((i : ℕ) → i < n → getD s i 0 ≡ getD t i 0) → valueTo base s n ≡ valueTo base t n
   value-ext s t zero h = refl
   value-ext s t (suc n) h =
       ap₂ (λ (a d : ℕ). a * base n + d) (value-ext s t n (λ i l. h i (omega arith))) (h n (omega arith))

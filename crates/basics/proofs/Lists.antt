@@ -1,10 +1,12 @@
--- Laws of `tabulate`, `joined`, `atFront` and of runs of stores: lengths, elements, and one element or one part more; lists that agree at each place are equal (`same-list`).
--- The loops that write a buffer, and all that is said of the bytes of a relabelled block, rest on these.
+-- Laws of `tabulate`, `joined`, `atFront` and of runs of stores: lengths, elements, and one element or one part more;
+-- lists that agree at each place are equal (`same-list`). The loops that write a buffer, and all that is said of the
+-- bytes of a relabelled block, rest on these.
 use mathlib.Core.Path.{_≡_, refl, sym, ap, ap₂, _∙_}
 use mathlib.Core.Logic.{⊎-elim}
 use mathlib.Core.List.{List, [], _∷_, _++_, append-nil}
 use Prim.Native.Nat.{ℕ, zero, suc, _+_, _*_, _≤_, _<_}
-use native.Mathlib.Nat.{eq-or-lt-of-le, le-of-suc-le-suc, not-suc-le-zero, add-zero, suc-add, add-suc, zero-add, suc-mul, zero-mul, mul-le-mul-right}
+use native.Mathlib.Nat.{eq-or-lt-of-le, le-of-suc-le-suc, not-suc-le-zero, add-zero, suc-add, add-suc, zero-add}
+use native.Mathlib.Nat.{suc-mul, zero-mul, mul-le-mul-right}
 use native.Mathlib.Omega.{arith}
 use native.Mathlib.Numerals.{add-one}
 use lib.ListN.{length, getD, set, take, drop, length-append, List·getD-append, length-drop, drop-of-length-le}
@@ -40,7 +42,8 @@ module _ (n : ℕ) (f : ℕ → ℕ) where
   tabulate-snoc = snoc-from n 0 f ∙ ap (λ (k : ℕ). tabulate n f ++ (f k ∷ [])) (zero-add n)
 
 -- lists of n elements that agree at each place are equal
-pub same-list : (n : ℕ) (u v : List ℕ) → length u ≡ n → length v ≡ n → ((k : ℕ) → k < n → getD u k 0 ≡ getD v k 0) → u ≡ v
+pub same-list :
+    (n : ℕ) (u v : List ℕ) → length u ≡ n → length v ≡ n → ((k : ℕ) → k < n → getD u k 0 ≡ getD v k 0) → u ≡ v
 same-list n u v a b h = ext-getD 0 u v (a ∙ sym b) (λ i l. h i (omega arith))
 
 -- tables that agree at each index
@@ -83,7 +86,9 @@ pub joined-within : (f : ℕ → List ℕ) (n r : ℕ) → r < n → length (joi
 joined-within f zero r l = absurd (not-suc-le-zero l)
 joined-within f (suc n) r l =
     let e = length-append (joined n f) (f n) in
-    ⊎-elim (λ q. rw q (omega arith)) (λ k. let ih = joined-within f n r k in omega arith) (eq-or-lt-of-le (le-of-suc-le-suc l))
+    ⊎-elim (λ q. rw q (omega arith))
+    (λ k. let ih = joined-within f n r k in omega arith)
+    (eq-or-lt-of-le (le-of-suc-le-suc l))
 
 pub joined-ext : (f g : ℕ → List ℕ) (n : ℕ) → ((r : ℕ) → r < n → f r ≡ g r) → joined n f ≡ joined n g
 joined-ext f g zero h = refl

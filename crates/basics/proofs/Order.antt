@@ -1,6 +1,6 @@
--- The order of lists of digits, the first digit deciding (`Before`), is the order of the numbers they write (`before-value`, `value-before`), and lists of
--- one length with digits below their bases are equal where their numbers are (`value-injective`).
--- The rank order of states rests on these.
+-- The order of lists of digits, the first digit deciding (`Before`), is the order of the numbers they write
+-- (`before-value`, `value-before`), and lists of one length with digits below their bases are equal where their numbers
+-- are (`value-injective`). The rank order of states rests on these.
 use mathlib.Core.Path.{_≡_, refl, sym, ap, _∙_, subst}
 use mathlib.Core.Logic.{_⊎_, inl, inr, ⊎-elim}
 use mathlib.Core.Bool.{Bool, true, false, not}
@@ -35,7 +35,8 @@ module _ (n : ℕ) (u v : List ℕ) where
     where
       part :
           (d : ℕ) → d < n → (getD u d 0 ≡ getD v d 0 → ⊥) → ((k : ℕ) → k < d → getD u k 0 ≡ getD v k 0)
-          → (getD u d 0 < getD v d 0) ⊎ ((getD u d 0 ≡ getD v d 0) ⊎ (getD v d 0 < getD u d 0)) → Before n u v ⊎ Before n v u
+          → (getD u d 0 < getD v d 0) ⊎ ((getD u d 0 ≡ getD v d 0) ⊎ (getD v d 0 < getD u d 0))
+          → Before n u v ⊎ Before n v u
       part d l h a (inl x) = inl (record { place = d; within = l; agree = a; lower = x })
       part d l h a (inr (inl x)) = absurd (h x)
       part d l h a (inr (inr x)) = inr (record { place = d; within = l; agree = λ k m. sym (a k m); lower = x })
@@ -48,7 +49,8 @@ module _ (n : ℕ) (u v : List ℕ) where
       go true e =
           let h = first-holds differs n e in
           let d = first n differs in
-          inr (part d (h .0) (eqb-false _ _ (not-true _ (h .1))) (λ k l. equal k (first-least differs n k l)) (trichotomy (getD u d 0) (getD v d 0)))
+          inr (part d (h .0) (eqb-false _ _ (not-true _ (h .1))) (λ k l. equal k (first-least differs n k l))
+          (trichotomy (getD u d 0) (getD v d 0)))
 
 module _ (base : ℕ → ℕ) where
   -- the lower front stays lower, whatever digits follow
@@ -66,7 +68,8 @@ module _ (base : ℕ → ℕ) where
       (lower-more u v (d + m) (lower-behind u v d m h (λ k l. x k (omega arith))) (x (d + m) (omega arith)))
 
   pub before-value :
-      (n : ℕ) (u v : List ℕ) → ((k : ℕ) → k < n → getD u k 0 < base k) → Before n u v → valueTo base u n < valueTo base v n
+      (n : ℕ) (u v : List ℕ) → ((k : ℕ) → k < n → getD u k 0 < base k) → Before n u v
+      → valueTo base u n < valueTo base v n
   before-value n u v x b =
       let a = ap (λ (m : ℕ). m * base (b .place)) (value-ext base u v (b .place) (b .agree)) in
       let h : valueTo base u (suc (b .place)) < valueTo base v (suc (b .place)) = omega (arith, b .lower) in
@@ -76,7 +79,8 @@ module _ (base : ℕ → ℕ) where
       (lower-behind u v (suc (b .place)) (n - suc (b .place)) h (λ k l. x k (omega arith)))
 
   pub value-before :
-      (n : ℕ) (u v : List ℕ) → ((k : ℕ) → k < n → getD v k 0 < base k) → valueTo base u n < valueTo base v n → Before n u v
+      (n : ℕ) (u v : List ℕ) → ((k : ℕ) → k < n → getD v k 0 < base k) → valueTo base u n < valueTo base v n
+      → Before n u v
   value-before n u v x h =
       ⊎-elim (λ s. absurd (let e = value-ext base u v n s in omega arith))
       (λ o. ⊎-elim (λ b. b) (λ b. absurd (let k = before-value n v u x b in omega arith)) o)

@@ -12,7 +12,8 @@ pub outside-none : (low high : ℕ) (l : List ℕ) → Outside low high l l
 outside-none low high l = record { len = refl; before = λ j h. refl; behind = λ j h. refl }
 
 pub outside-set :
-    {low high : ℕ} {old l : List ℕ} (i v : ℕ) → low ≤ i → i < high → Outside low high old l → Outside low high old (set l i v)
+    {low high : ℕ} {old l : List ℕ} (i v : ℕ) → low ≤ i → i < high → Outside low high old l
+    → Outside low high old (set l i v)
 outside-set {low} {high} {old} {l} i v a b o =
     record {
       len = length-set l i v ∙ o .len;

@@ -35,7 +35,8 @@ module _ (n : ℕ) (f : ℕ → ℕ) (below : (i : ℕ) → i ≤ suc n → f i 
   moved-equal i j k l = go (eqb (f i) n) refl (eqb (f j) n) refl
     where
       go :
-          (x : Bool) → eqb (f i) n ≡ x → (y : Bool) → eqb (f j) n ≡ y → cond x (f (suc n)) (f i) ≡ cond y (f (suc n)) (f j)
+          (x : Bool) → eqb (f i) n ≡ x → (y : Bool) → eqb (f j) n ≡ y
+          → cond x (f (suc n)) (f i) ≡ cond y (f (suc n)) (f j)
           → f i ≡ f j
       go true d true e q = eqb-true (f i) n d ∙ sym (eqb-true (f j) n e)
       go true d false e q = absurd (new j l (sym q))

@@ -1,9 +1,11 @@
--- Sets of numbers below 64 as words: the members of the empty set, of all, of twice a set, of what two sets share (`member-and`); the lowest member (`lowest-in`, `lowest-least`), and
--- the set without it (`without-lowest`, `without-other`, `without-less`). The code that makes sets and goes through them rests on these.
+-- Sets of numbers below 64 as words: the members of the empty set, of all, of twice a set, of what two sets share
+-- (`member-and`); the lowest member (`lowest-in`, `lowest-least`), and the set without it (`without-lowest`,
+-- `without-other`, `without-less`). The code that makes sets and goes through them rests on these.
 use mathlib.Core.Path.{_≡_, refl, sym, ap, ap₂, _∙_}
 use mathlib.Core.Bool.{Bool, true, false, _&&_}
 use Prim.Native.Nat.{ℕ, zero, suc, _-_, _/_, _%_, _^_, _<_}
-use native.Mathlib.Nat.{div-one, pow-succ', div-div-eq-div-mul, mod-lt, zero-lt-suc, pow-suc, not-suc-le-zero, le-of-suc-le-suc}
+use native.Mathlib.Nat.{div-one, pow-succ', div-div-eq-div-mul, mod-lt, zero-lt-suc, pow-suc, not-suc-le-zero}
+use native.Mathlib.Nat.{le-of-suc-le-suc}
 use native.Mathlib.Omega.{arith}
 use lib.Bits.{bitAnd, and-shr, and-mod, and-self, and-le-r}
 use lib.Count.{trailingZeros, under}
@@ -25,7 +27,8 @@ member-next s t r e = ap (λ (x : ℕ). member x r) e
 pub member-shift : (r s : ℕ) → eqb (s / 2 ^ r % 2) 1 ≡ member s r
 member-shift zero s = ap (λ (x : ℕ). eqb (x % 2) 1) (div-one s) ∙ sym (member-first s (s % 2) refl)
 member-shift (suc r) s =
-    ap (λ (x : ℕ). eqb (s / x % 2) 1) (pow-succ' 2 r) ∙ ap (λ (x : ℕ). eqb (x % 2) 1) (sym (div-div-eq-div-mul s 2 (2 ^ r)))
+    ap (λ (x : ℕ). eqb (s / x % 2) 1) (pow-succ' 2 r)
+    ∙ ap (λ (x : ℕ). eqb (x % 2) 1) (sym (div-div-eq-div-mul s 2 (2 ^ r)))
     ∙ member-shift r (s / 2) ∙ sym (member-next s (s / 2) r refl)
 
 -- the empty set
@@ -39,7 +42,8 @@ member-all zero r l = absurd (not-suc-le-zero l)
 member-all (suc k) zero l =
     member-first (2 ^ suc k - 1) 1 (omega (arith, pow-suc 2 k, pow-pos k))
 member-all (suc k) (suc r) l =
-    member-next (2 ^ suc k - 1) (2 ^ k - 1) r (omega (arith, pow-suc 2 k, pow-pos k)) ∙ member-all k r (le-of-suc-le-suc l)
+    member-next (2 ^ suc k - 1) (2 ^ k - 1) r (omega (arith, pow-suc 2 k, pow-pos k))
+    ∙ member-all k r (le-of-suc-le-suc l)
 
 -- what two sets share
 bit-and : (x y : ℕ) → x < 2 → y < 2 → eqb (bitAnd x y) 1 ≡ (eqb x 1 && eqb y 1)
@@ -88,8 +92,10 @@ lowest-in zero s p l = absurd (omega arith)
 lowest-in (suc k) s p l =
     by-first s
     (λ e.
-    let ih = lowest-in k (s / 2) (omega arith) (half-below k s l) in
-    (ap (member s) (low-even k s e) ∙ member-next s (s / 2) (trailingZeros k (s / 2)) refl ∙ ih .0, omega (arith, low-even k s e, ih .1)))
+    let ih = lowest-in k (s / 2) (omega arith) (half-below k s l) in (
+      ap (member s) (low-even k s e) ∙ member-next s (s / 2) (trailingZeros k (s / 2)) refl ∙ ih .0,
+      omega (arith, low-even k s e, ih .1),
+    ))
     (λ e. (ap (member s) (low-odd k s e) ∙ member-first s 1 e, omega (arith, low-odd k s e)))
 
 pub lowest-least : (k s j : ℕ) → j < trailingZeros k s → member s j ≡ false
@@ -118,11 +124,13 @@ without-odd s e =
     let h : (s - 1) / 2 ≡ s / 2 = omega arith in
     and-shr s (s - 1) 1 ∙ ap (bitAnd (s / 2)) h ∙ and-self (s / 2)
 
-pub without-other : (k s r : ℕ) → 0 < s → s < 2 ^ k → (r ≡ trailingZeros k s → ⊥) → member (bitAnd s (s - 1)) r ≡ member s r
+pub without-other :
+    (k s r : ℕ) → 0 < s → s < 2 ^ k → (r ≡ trailingZeros k s → ⊥) → member (bitAnd s (s - 1)) r ≡ member s r
 without-other zero s r p l n = absurd (omega arith)
 without-other (suc k) s zero p l n =
     by-first s
-    (λ e. member-and s (s - 1) 0 ∙ ap (λ (b : Bool). b && member (s - 1) 0) (member-first s 0 e) ∙ sym (member-first s 0 e))
+    (λ e.
+    member-and s (s - 1) 0 ∙ ap (λ (b : Bool). b && member (s - 1) 0) (member-first s 0 e) ∙ sym (member-first s 0 e))
     (λ e. absurd (n (sym (low-odd k s e))))
 without-other (suc k) s (suc r) p l n =
     by-first s

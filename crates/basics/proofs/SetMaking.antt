@@ -1,5 +1,6 @@
--- Making the set of those numbers below a bound that pass a test, from the last one down: what the word holds on the way (`From`), how it begins (`from-none`), a number more or left
--- out (`from-in`, `from-out`), that the word fits (`more-fits`), and what it is in the end (`from-all`). A test that says the same makes the same set (`passing-same`).
+-- Making the set of those numbers below a bound that pass a test, from the last one down: what the word holds on the
+-- way (`From`), how it begins (`from-none`), a number more or left out (`from-in`, `from-out`), that the word fits
+-- (`more-fits`), and what it is in the end (`from-all`). A test that says the same makes the same set (`passing-same`).
 -- The loops that make sets rest on these.
 use mathlib.Core.Path.{_≡_, refl, sym, ap, _∙_}
 use mathlib.Core.Bool.{Bool, true, false, _&&_}

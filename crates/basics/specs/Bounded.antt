@@ -1,5 +1,5 @@
--- Tests over the numbers below a bound: each of them (`all`), some of them (`some`), the first and the last of them (`first`, `last`).
--- Validity, matching, goals and predecessors are stated with these.
+-- Tests over the numbers below a bound: each of them (`all`), some of them (`some`), the first and the last of them
+-- (`first`, `last`). Validity, matching, goals and predecessors are stated with these.
 use Prim.Native.Nat.{ℕ, zero, suc}
 use mathlib.Core.Bool.{Bool, true, false, cond, _&&_, _||_}
 

@@ -1,5 +1,5 @@
--- Numbers as digits, the first digit highest, with a base for each place: the number of a list of digits (`valueTo`), the digits of a number (`digits`),
--- and how many numbers there are (`span`). Ranks of states are stated with these.
+-- Numbers as digits, the first digit highest, with a base for each place: the number of a list of digits (`valueTo`),
+-- the digits of a number (`digits`), and how many numbers there are (`span`). Ranks of states are stated with these.
 use Prim.Native.Nat.{ℕ, zero, suc, _+_, _*_, _/_, _%_}
 use mathlib.Core.List.{List, [], _∷_, _++_}
 use lib.ListN.{getD}

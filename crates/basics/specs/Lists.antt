@@ -1,4 +1,5 @@
--- Lists made by a function of the index (`tabulate`), lists joined by one (`joined`), a list written over the front of another (`atFront`), and lists of bytes (`Bytes`).
+-- Lists made by a function of the index (`tabulate`), lists joined by one (`joined`),
+-- a list written over the front of another (`atFront`), and lists of bytes (`Bytes`).
 -- States, relabelled blocks and the contents of lent buffers are stated with these.
 use Prim.Native.Nat.{ℕ, zero, suc, _≤_}
 use mathlib.Core.List.{List, [], _∷_, _++_}

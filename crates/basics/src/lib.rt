@@ -1,8 +1,11 @@
-// What every layer uses: two tests joined, a byte as an index, and bytes copied; sets of small numbers as words.
+// What every layer uses: two tests joined, a byte as an index, bytes copied and looked for; sets of small numbers as
+// words.
 ghost use mathlib.Core.Path.{_≡_};
 ghost use mathlib.Core.Bool.{_&&_};
-ghost use Prim.Native.Nat.{_≤_};
-ghost use lib.ListN.{length, take};
+ghost use Prim.Native.Nat.{_+_, _≤_};
+ghost use lib.Dec.{eqb};
+ghost use lib.ListN.{length, getD, take};
+ghost use Rattle.basics.specs.Bounded.{first};
 ghost use Rattle.basics.specs.Lists.{atFront};
 
 pub mod sets;
@@ -34,4 +37,19 @@ pub fn copy(from: &[u8], n: usize, to: &mut [u8])
         to[i] = from[i];
         i += 1;
     }
+}
+
+// The first of the n places from `at` on that holds the byte v, or n.
+pub fn first_of(bytes: &[u8], at: usize, n: usize, v: u8) -> usize
+    requires { ⌜ at + n ≤ length (now bytes) ⌝ }
+    ensures { λ r. ⌜ r ≡ first n (λ j. eqb (getD (now (bytes .entry)) (at + j) 0) v) ⌝ }
+{
+    let mut j = 0;
+    while j < n {
+        if bytes[at + j] == v {
+            return j;
+        }
+        j += 1;
+    }
+    n
 }

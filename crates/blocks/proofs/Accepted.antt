@@ -1,6 +1,7 @@
--- What the conditions on a block give: the head's limits (`headed`), and that a block is accepted exactly where it is `Valid` (`accepted-valid`, `valid-accepted`);
--- then each abstract label, term and right variable of a valid block by itself. Every theorem on valid blocks rests on these.
-use mathlib.Core.Path.{_≡_}
+-- What the conditions on a block give: the head's limits (`headed`), and that a block is accepted exactly where it is
+-- `Valid` (`accepted-valid`, `valid-accepted`; part by part, `shape-sized`, `content-valid`); then each abstract label,
+-- term and right variable of a valid block by itself. Every theorem on valid blocks rests on these.
+use mathlib.Core.Path.{_≡_, _∙_}
 use mathlib.Core.Bool.{true, _&&_}
 use mathlib.Core.List.{List, [], _∷_}
 use Prim.Native.Nat.{ℕ, _≤_, _<_}
@@ -10,10 +11,13 @@ use borrow.Author.Tests.{leb-true, le-leb, ltb-true, eqb-true, eq-eqb}
 use Rattle.basics.proofs.Truth.{and-true, and-intro}
 use Rattle.basics.proofs.Bounded.{all-at}
 use Rattle.refusals.specs.Answers.{told, verdict, _unless_}
-use Rattle.refusals.proofs.Verdicts.{verdict-told}
+use Rattle.refusals.proofs.Verdicts.{verdict-told, verdict-behind, verdict-parts}
 use Rattle.blocks.specs.Terms.{termOf, termOk}
-use Rattle.blocks.specs.Layout.{positions, labels, abstracts, rules, goals, labelCount, abstractCount, abstractStates, headLength, mapByte, mapAt, leftOf, rightOf, goalOf, blockLength}
-use Rattle.blocks.specs.Validity.{within, sizesOk, headOk, lengthOk, mapOk, sideOk, ruleTermsOk, goalTermsOk, termsOk, boundIn, ruleBound, boundOk, blockConditions, Sizes, Headed, Sized, Valid}
+use Rattle.blocks.specs.Layout.{positions, labels, abstracts, rules, goals, labelCount, abstractCount}
+use Rattle.blocks.specs.Layout.{abstractStates, headLength, mapByte, mapAt, leftOf, rightOf, goalOf, blockLength}
+use Rattle.blocks.specs.Validity.{within, sizesOk, headOk, lengthOk, mapOk, sideOk, ruleTermsOk, goalTermsOk}
+use Rattle.blocks.specs.Validity.{termsOk, boundIn, ruleBound, boundOk}
+use Rattle.blocks.specs.Validity.{shapeConditions, contentConditions, blockConditions, Sizes, Headed, Sized, Valid}
 
 within-limits : (low x high : ℕ) → within low x high ≡ true → (low ≤ x) × (x ≤ high)
 within-limits low x high h =
@@ -79,24 +83,40 @@ module _ (b : List ℕ) where
   unfolding lengthOk
   length-ok h = eq-eqb (length b) (blockLength b) (h .len)
 
+  pub shape-sized : verdict (shapeConditions b) ≡ told tt → Sized b
+  unfolding shapeConditions
+  shape-sized h =
+      let p₃ = verdict-told 3 (headOk b) (4 unless lengthOk b ∷ []) h in
+      sized (p₃ .0) (verdict-told 4 (lengthOk b) [] (p₃ .1) .0)
+
+  pub shape-accepted : Sized b → verdict (shapeConditions b) ≡ told tt
+  unfolding shapeConditions
+  shape-accepted s = rw (head-ok (s .head), length-ok s)
+
+  pub content-valid : Sized b → verdict (contentConditions b) ≡ told tt → Valid b
+  unfolding contentConditions
+  content-valid s h =
+      let c₆ = 6 unless termsOk b in
+      let c₇ = 7 unless boundOk b in
+      let p₅ = verdict-told 5 (mapOk b) (c₆ ∷ c₇ ∷ []) h in
+      let p₆ = verdict-told 6 (termsOk b) (c₇ ∷ []) (p₅ .1) in
+      let p₇ = verdict-told 7 (boundOk b) [] (p₆ .1) in
+      record { sized = s; map = p₅ .0; terms = p₆ .0; bound = p₇ .0 }
+
+  pub content-accepted : Valid b → verdict (contentConditions b) ≡ told tt
+  unfolding contentConditions
+  content-accepted v = rw (v .map, v .terms, v .bound)
+
   pub accepted-valid : verdict (blockConditions b) ≡ told tt → Valid b
   unfolding blockConditions
   accepted-valid h =
-      let c₄ = 4 unless lengthOk b in
-      let c₅ = 5 unless mapOk b in
-      let c₆ = 6 unless termsOk b in
-      let c₇ = 7 unless boundOk b in
-      let p₃ = verdict-told 3 (headOk b) (c₄ ∷ c₅ ∷ c₆ ∷ c₇ ∷ []) h in
-      let p₄ = verdict-told 4 (lengthOk b) (c₅ ∷ c₆ ∷ c₇ ∷ []) (p₃ .1) in
-      let p₅ = verdict-told 5 (mapOk b) (c₆ ∷ c₇ ∷ []) (p₄ .1) in
-      let p₆ = verdict-told 6 (termsOk b) (c₇ ∷ []) (p₅ .1) in
-      let p₇ = verdict-told 7 (boundOk b) [] (p₆ .1) in
-      record { sized = sized (p₃ .0) (p₄ .0); map = p₅ .0; terms = p₆ .0; bound = p₇ .0 }
+      let p = verdict-parts (shapeConditions b) (contentConditions b) h in
+      content-valid (shape-sized (p .0)) (p .1)
 
   pub valid-accepted : Valid b → verdict (blockConditions b) ≡ told tt
   unfolding blockConditions
   valid-accepted v =
-      rw (head-ok (v .sized .head), length-ok (v .sized), v .map, v .terms, v .bound)
+      verdict-behind (shapeConditions b) (contentConditions b) (shape-accepted (v .sized)) ∙ content-accepted v
 
   module _ (v : Valid b) where
     pub map-below : (i x : ℕ) → x < labelCount b i → mapAt b i x < abstractCount b i
@@ -108,7 +128,8 @@ module _ (b : List ℕ) where
     unfolding termsOk ruleTermsOk
     sides r l =
         and-true (sideOk b (leftOf b r)) (sideOk b (rightOf b r))
-        (all-at (λ r. sideOk b (leftOf b r) && sideOk b (rightOf b r)) (rules b) (and-true (ruleTermsOk b) (goalTermsOk b) (v .terms) .0) r l)
+        (all-at (λ r. sideOk b (leftOf b r) && sideOk b (rightOf b r)) (rules b)
+        (and-true (ruleTermsOk b) (goalTermsOk b) (v .terms) .0) r l)
 
     pub left-side : (r : ℕ) → r < rules b → sideOk b (leftOf b r) ≡ true
     left-side r l = sides r l .0

@@ -1,6 +1,6 @@
--- Laws of frames: they make up the block behind its head (`frames-all`), and what the head alone settles is the same for a head and for a block that begins with it
--- (`same-length`, `same-head`, `head-alone`).
--- Reading an exercise frame by frame rests on these.
+-- Laws of frames: they make up the block behind its head (`frames-all`), and what the head alone settles is the same
+-- for a head and for a block that begins with it (`same-length`, `same-head`, `head-alone`). Reading an exercise frame
+-- by frame rests on these.
 use mathlib.Core.Path.{_≡_, ap, _∙_}
 use mathlib.Core.List.{List, _++_}
 use Prim.Native.Nat.{ℕ, zero, suc, _+_, _≤_, _<_}
@@ -9,7 +9,8 @@ use native.Mathlib.Omega.{arith}
 use lib.Dec.{lit<}
 use lib.ListN.{length, length-append, List·getD-append}
 use borrow.Author.Tests.{ne-eqb, le-leb, lt-leb}
-use Rattle.blocks.specs.Layout.{positions, rules, goals, headLength, headByte, abstractStates, ruleWidth, ruleAt, goalAt, blockLength, frameCount, frameLength}
+use Rattle.blocks.specs.Layout.{positions, rules, goals, headLength, headByte, abstractStates, ruleWidth, ruleAt}
+use Rattle.blocks.specs.Layout.{goalAt, blockLength, frameCount, frameLength}
 use Rattle.blocks.specs.Validity.{Headed}
 
 module _ (b : List ℕ) where
@@ -73,7 +74,14 @@ module _ (head rest : List ℕ) (five : length head ≡ headLength) where
       record {
         long = omega (arith, length-append head rest, h .long);
         sizes =
-            omega (arith, same-byte 0 (lit< tt), same-byte 1 (lit< tt), same-byte 2 (lit< tt), same-byte 3 (lit< tt), same-byte 4 (lit< tt));
+            omega (
+              arith,
+              same-byte 0 (lit< tt),
+              same-byte 1 (lit< tt),
+              same-byte 2 (lit< tt),
+              same-byte 3 (lit< tt),
+              same-byte 4 (lit< tt),
+            );
         few = omega (arith, same-states, h .few);
       }
 
@@ -82,6 +90,13 @@ module _ (head rest : List ℕ) (five : length head ≡ headLength) where
       record {
         long = omega (arith, five);
         sizes =
-            omega (arith, same-byte 0 (lit< tt), same-byte 1 (lit< tt), same-byte 2 (lit< tt), same-byte 3 (lit< tt), same-byte 4 (lit< tt));
+            omega (
+              arith,
+              same-byte 0 (lit< tt),
+              same-byte 1 (lit< tt),
+              same-byte 2 (lit< tt),
+              same-byte 3 (lit< tt),
+              same-byte 4 (lit< tt),
+            );
         few = omega (arith, same-states, h .few);
       }

@@ -1,5 +1,5 @@
--- Laws of the layout: each rule, side and goal of a block lies in it, how far the offsets reach, and how long a block (`block-short`) and its relabelled block are.
--- Whoever reads a block goes by these and not by the layout.
+-- Laws of the layout: each rule, side and goal of a block lies in it, how far the offsets reach, and how long a block
+-- (`block-short`) and its relabelled block are. Whoever reads a block goes by these and not by the layout.
 use mathlib.Core.Path.{_≡_}
 use mathlib.Core.List.{List}
 use Prim.Native.Nat.{ℕ, _+_, _*_, _≤_, _<_}
@@ -7,7 +7,8 @@ use native.Mathlib.Nat.{mul-le-mul, mul-le-mul-right, suc-mul}
 use native.Mathlib.Omega.{arith}
 use lib.ListN.{length}
 use Rattle.basics.proofs.Lists.{length-tabulate}
-use Rattle.blocks.specs.Layout.{positions, labels, abstracts, rules, goals, headLength, ruleWidth, ruleAt, leftAt, rightAt, goalAt, blockLength, relabelHead, relabelledLength}
+use Rattle.blocks.specs.Layout.{positions, labels, abstracts, rules, goals, headLength, ruleWidth, ruleAt, leftAt}
+use Rattle.blocks.specs.Layout.{rightAt, goalAt, blockLength, relabelHead, relabelledLength}
 use Rattle.blocks.specs.Validity.{Headed, Sized}
 
 module _ (b : List ℕ) where

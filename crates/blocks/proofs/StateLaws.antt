@@ -1,6 +1,8 @@
--- What it says that a list is `labelled`: its length, and each label by itself (`labelled-length`, `labelled-at`, `labelled-intro`; of a block's state `state-length`, `state-label`); its number
--- in the base of the label counts (`labelled-below`, `labelled-digits`, `digits-labelled`); and the limits of the counts (`some-label`, `label-count-low`, `some-abstract`, `abstract-count-low`).
--- The theorems on states and ranks, and the code that reads a checked state, rest on these.
+-- What it says that a list is `labelled`: its length, and each label by itself (`labelled-length`, `labelled-at`,
+-- `labelled-intro`; of a block's state `state-length`, `state-label`); its number in the base of the label counts
+-- (`labelled-below`, `labelled-digits`, `digits-labelled`); and the limits of the counts (`some-label`,
+-- `label-count-low`, `some-abstract`, `abstract-count-low`). The theorems on states and ranks, and the code that reads
+-- a checked state, rest on these.
 use mathlib.Core.Path.{_≡_}
 use mathlib.Core.Bool.{true}
 use mathlib.Core.List.{List}
@@ -41,7 +43,8 @@ module _ (n : ℕ) (count : ℕ → ℕ) (s : List ℕ) where
       and-intro (eqb (length s) n) _ (eq-eqb (length s) n e)
       (all-intro (λ i. ltb (getD s i 0) (count i)) n (λ i l. lt-ltb (getD s i 0) (count i) (h i l)))
 
-pub digits-labelled : (n : ℕ) (count : ℕ → ℕ) → ((i : ℕ) → 0 < count i) → (k : ℕ) → labelled n count (digits count n k) ≡ true
+pub digits-labelled :
+    (n : ℕ) (count : ℕ → ℕ) → ((i : ℕ) → 0 < count i) → (k : ℕ) → labelled n count (digits count n k) ≡ true
 digits-labelled n count positive k =
     labelled-intro n count (digits count n k) (length-digits count n k) (digit-below count positive n k)
 
@@ -69,5 +72,6 @@ pub abstract-count-low : (b : List ℕ) → Headed b → (i : ℕ) → abstractC
 unfolding abstractCount
 abstract-count-low b h i = omega (arith, h .sizes .l-high, h .sizes .k-high)
 
-pub label-below : (b : List ℕ) → Headed b → (s : List ℕ) → stateOk b s ≡ true → (i : ℕ) → i < positions b → getD s i 0 < 16
+pub label-below :
+    (b : List ℕ) → Headed b → (s : List ℕ) → stateOk b s ≡ true → (i : ℕ) → i < positions b → getD s i 0 < 16
 label-below b h s ok i l = omega (arith, state-label b s ok i l, label-count-low b h i)

@@ -1,5 +1,5 @@
--- The four cases of `termOf`, each from a fact about the byte, and that every byte falls into one (`view`); a dash is one byte (`dash-byte`).
--- The proofs of decoding, matching, relabelling and stepping back go by these cases.
+-- The four cases of `termOf`, each from a fact about the byte, and that every byte falls into one (`view`); a dash is
+-- one byte (`dash-byte`). The proofs of decoding, matching, relabelling and stepping back go by these cases.
 use mathlib.Core.Path.{_≡_, refl, sym, ap, _∙_}
 use mathlib.Core.Bool.{Bool, true, false}
 use Prim.Native.Nat.{ℕ, _≤_, _<_}

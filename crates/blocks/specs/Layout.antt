@@ -1,5 +1,6 @@
 -- The exercise block as a list of bytes: its head, its map, its rules and its goals, each behind a name.
--- Only these definitions know the layout, save that a relabelled block is written in the same order; all others go by the names and their laws.
+-- Only these definitions know the layout, save that a relabelled block is written in the same order; all others go by
+-- the names and their laws.
 use Prim.Native.Nat.{ℕ, _+_, _*_, _^_}
 use mathlib.Core.Bool.{cond}
 use mathlib.Core.List.{List, _∷_}

@@ -1,5 +1,5 @@
--- States of a block (`stateOk`, condition 8) and of its abstraction (`abstractOk`): n labels, each below the count at its position.
--- The calls that take a state refuse by the first; tables and ranks are about the second.
+-- States of a block (`stateOk`, condition 8) and of its abstraction (`abstractOk`): n labels, each below the count at
+-- its position. The calls that take a state refuse by the first; tables and ranks are about the second.
 use Prim.Native.Nat.{ℕ}
 use mathlib.Core.Bool.{Bool, _&&_}
 use mathlib.Core.List.{List}

@@ -1,15 +1,18 @@
--- What turns a block back, 3 to 7 in this order, each over the whole block before the next: `blockConditions`.
--- `Headed`, `Sized` and `Valid` say what holds once the first, the first two and all conditions are met; inner functions ask for them.
+-- What turns a block back, 3 to 7 in this order, each over the whole block before the next: `blockConditions`, in the
+-- parts `shapeConditions` and `contentConditions`.
+-- `Headed`, `Sized` and `Valid` say what holds once the first, the first two and all conditions are met; inner
+-- functions ask for them.
 use mathlib.Core.Path.{_≡_}
 use Prim.Native.Nat.{ℕ, _≤_}
 use mathlib.Core.Bool.{Bool, true, _&&_}
-use mathlib.Core.List.{List, [], _∷_}
+use mathlib.Core.List.{List, [], _∷_, _++_}
 use lib.Dec.{leb, ltb, eqb}
 use lib.ListN.{length}
 use Rattle.basics.specs.Bounded.{all, some}
 use Rattle.refusals.specs.Answers.{Condition, _unless_}
 use Rattle.blocks.specs.Terms.{termOf, termOk}
-use Rattle.blocks.specs.Layout.{positions, labels, abstracts, rules, goals, labelCount, abstractStates, headLength, mapByte, blockLength, leftOf, rightOf, goalOf}
+use Rattle.blocks.specs.Layout.{positions, labels, abstracts, rules, goals, labelCount, abstractStates}
+use Rattle.blocks.specs.Layout.{headLength, mapByte, blockLength, leftOf, rightOf, goalOf}
 use Rattle.blocks.specs.declared.terms.Term.{Term}
 use Rattle.blocks.specs.declared.terms.Term.the-variants.{Label, Variable, Dash, Refused}
 
@@ -64,9 +67,16 @@ ruleBound b r = all (positions b) (λ i. boundIn (positions b) (leftOf b r) (ter
 unfoldable pub boundOk : List ℕ → Bool
 boundOk b = all (rules b) (ruleBound b)
 
+-- the conditions in two parts, by the shape of the block and by what stands in it; what a call is lent beside the
+-- block, and what it asks of its other arguments, comes behind them
+unfoldable pub shapeConditions : List ℕ → List Condition
+shapeConditions b = 3 unless headOk b ∷ 4 unless lengthOk b ∷ []
+
+unfoldable pub contentConditions : List ℕ → List Condition
+contentConditions b = 5 unless mapOk b ∷ 6 unless termsOk b ∷ 7 unless boundOk b ∷ []
+
 unfoldable pub blockConditions : List ℕ → List Condition
-blockConditions b =
-    3 unless headOk b ∷ 4 unless lengthOk b ∷ 5 unless mapOk b ∷ 6 unless termsOk b ∷ 7 unless boundOk b ∷ []
+blockConditions b = shapeConditions b ++ contentConditions b
 
 -- the head's numbers are in their limits
 pub record Sizes (b : List ℕ) : Type 0 where

@@ -2,11 +2,12 @@
 // writes the rules and goals of a block in the same order.
 ghost use mathlib.Core.Path.{_≡_};
 ghost use Prim.Native.Nat.{_+_, _≤_, _<_};
-ghost use lib.Dec.{eqb};
 ghost use lib.ListN.{length};
 ghost use lib.Seq.{sets};
-ghost use Rattle.basics.specs.Bounded.{first};
-ghost use Rattle.blocks.specs.Layout.{sideAt, headByte, positions, labels, abstracts, rules, goals, labelCount, abstractCount, abstractStates, headLength, mapByte, mapAt, ruleWidth, ruleAt, leftAt, rightAt, goalAt, blockLength, frameCount, frameLength, costOf, relabelHead, relabelledLength};
+ghost use Rattle.blocks.specs.Layout.{headByte, positions, labels, abstracts, rules, goals, labelCount};
+ghost use Rattle.blocks.specs.Layout.{abstractCount, abstractStates, headLength, mapByte, mapAt, ruleWidth};
+ghost use Rattle.blocks.specs.Layout.{ruleAt, leftAt, rightAt, goalAt, blockLength, frameCount, frameLength};
+ghost use Rattle.blocks.specs.Layout.{costOf, relabelHead, relabelledLength};
 ghost use Rattle.blocks.specs.Validity.{Headed, Sized};
 use super::labels::AbstractLabel;
 use super::labels::ConcreteLabel;
@@ -16,11 +17,16 @@ use basics::wide;
 // How many bytes the head has.
 pub const HEAD_LENGTH: usize = 5;
 
+// The bytes of a head.
+pub type Head = [u8; HEAD_LENGTH];
+
 // The most positions that a state can have.
 pub const MOST_POSITIONS: usize = 16;
 
 // How many bytes hold every block, the longest of which has 2,261.
 pub const BLOCK_ROOM: usize = 2304;
+
+pub type BlockBuffer = [u8; BLOCK_ROOM];
 
 // Byte i of the head.
 fn head_byte(block: &[u8], i: usize) -> usize
@@ -194,21 +200,6 @@ pub fn cost(block: &[u8], r: usize) -> u8
     ensures { λ c. ⌜ c ≡ costOf (now (block .entry)) r ⌝ }
 {
     block[rule_at(block, r)]
-}
-
-// The first of the n places from `at` on that holds the byte v, or n.
-pub fn first_of(block: &[u8], at: usize, n: usize, v: u8) -> usize
-    requires { ⌜ at + n ≤ length (now block) ⌝ }
-    ensures { λ r. ⌜ r ≡ first n (λ j. eqb (sideAt (now (block .entry)) at j) v) ⌝ }
-{
-    let mut j = 0;
-    while j < n {
-        if block[at + j] == v {
-            return j;
-        }
-        j += 1;
-    }
-    n
 }
 
 // How long the relabelled block is.

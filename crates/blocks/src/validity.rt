@@ -7,18 +7,24 @@ ghost use Rattle.refusals.specs.Answers.{verdict};
 ghost use Rattle.refusals.specs.Refusals.{verdictOf};
 ghost use Rattle.blocks.specs.Terms.{termOf};
 ghost use Rattle.blocks.specs.Layout.{positions, rules, headLength, sideAt};
-ghost use Rattle.blocks.specs.Validity.{within, sizesOk, headOk, mapOk, sideOk, ruleTermsOk, goalTermsOk, termsOk, boundIn, ruleBound, boundOk, blockConditions, Sized};
+ghost use Rattle.blocks.specs.Validity.{within, sizesOk, headOk, mapOk, sideOk, ruleTermsOk, goalTermsOk};
+ghost use Rattle.blocks.specs.Validity.{termsOk, boundIn, ruleBound, boundOk};
+ghost use Rattle.blocks.specs.Validity.{shapeConditions, contentConditions, blockConditions, Sized};
 use super::layout;
-use super::layout::first_of;
 use super::terms::Term;
 use super::terms::decode;
 use super::terms::term_ok;
 use basics::and;
+use basics::first_of;
 use refusals::Refusal;
 use refusals::Verdict;
 
 // The most abstract states that an exercise may have.
 pub const MOST_STATES: usize = 16384;
+
+// The entries of a table, as many as there can be. An array is lent by its address alone, a slice by an address and a
+// length, which each call would copy.
+pub type Entries = [u32; MOST_STATES];
 
 // Whether x lies from low to high.
 fn lies_within(low: usize, x: usize, high: usize) -> bool
@@ -47,7 +53,8 @@ fn sizes_ok(block: &[u8]) -> bool
     )
 }
 
-// Whether k to the power n is at most the number of abstract states that an exercise may have. The product never passes 16 times the limit.
+// Whether k to the power n is at most the number of abstract states that an exercise may have. The product never passes
+// 16 times the limit.
 fn power_ok(k: usize, n: usize) -> bool
     requires { ⌜ (1 ≤ k) × (k ≤ 16) × (n ≤ 16) ⌝ }
     ensures { λ r. ⌜ r ≡ leb (k ^ n) 16384 ⌝ }
@@ -200,9 +207,9 @@ fn bound_ok(block: &[u8]) -> bool
     true
 }
 
-// Whether a block is accepted, or what turns it back.
-pub fn check(block: &[u8]) -> Verdict
-    ensures { λ r. ⌜ verdictOf r ≡ verdict (blockConditions (now (block .entry))) ⌝ }
+// The head and the length: 3 and 4.
+pub fn check_shape(block: &[u8]) -> Verdict
+    ensures { λ r. ⌜ verdictOf r ≡ verdict (shapeConditions (now (block .entry))) ⌝ }
 {
     if !head_ok(block) {
         return Verdict::Refused(Refusal::Head);
@@ -210,6 +217,14 @@ pub fn check(block: &[u8]) -> Verdict
     if block.len() != layout::block_length(block) {
         return Verdict::Refused(Refusal::Length);
     }
+    Verdict::Accepted
+}
+
+// What stands in the block: 5, 6 and 7.
+pub fn check_content(block: &[u8]) -> Verdict
+    requires { ⌜ Sized (now block) ⌝ }
+    ensures { λ r. ⌜ verdictOf r ≡ verdict (contentConditions (now (block .entry))) ⌝ }
+{
     if !map_ok(block) {
         return Verdict::Refused(Refusal::Map);
     }
@@ -220,4 +235,15 @@ pub fn check(block: &[u8]) -> Verdict
         return Verdict::Refused(Refusal::Unbound);
     }
     Verdict::Accepted
+}
+
+// Whether a block is accepted, or what turns it back: its parts in turn.
+pub fn check(block: &[u8]) -> Verdict
+    ensures { λ r. ⌜ verdictOf r ≡ verdict (blockConditions (now (block .entry))) ⌝ }
+{
+    let shape = check_shape(block);
+    if let Verdict::Refused(refusal) = shape {
+        return Verdict::Refused(refusal);
+    }
+    check_content(block)
 }

@@ -1,10 +1,12 @@
-// The answers of the public calls in numbers, since C knows no enum that holds values: the structs, and for each enum of `engine` what turns it into numbers.
-// The members stand in the order of include/mikjuqan.h; `refusal` is 0, or the refusal's number, and all else is then 0.
+// The answers of the public calls in numbers, since C knows no enum that holds values: the structs, and for each enum
+// of `engine` what turns it into numbers. The members stand in the order of include/mikjuqan.h; `refusal` is 0, or the
+// refusal's number, and all else is then 0. `ReplayNumbers` and `SearchNumbers` are C's mikjuqan_replay and
+// mikjuqan_search.
 mod decisions;
 mod entries;
 mod lengths;
-mod plans;
-mod run_ends;
+mod replays;
+mod searches;
 mod verdicts;
 
 pub use decisions::Decision;
@@ -18,9 +20,9 @@ pub use entries::looked_up;
 pub use lengths::Length;
 pub use lengths::read;
 pub use lengths::relabelled;
-pub use plans::Plan;
-pub use plans::searched;
-pub use run_ends::RunEnd;
-pub use run_ends::replayed;
+pub use replays::ReplayNumbers;
+pub use replays::replayed;
+pub use searches::SearchNumbers;
+pub use searches::searched;
 pub use verdicts::checked;
 pub use verdicts::filled;

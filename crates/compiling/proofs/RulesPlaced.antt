@@ -1,5 +1,7 @@
--- Rules and goals placed one after another: the two sides of a rule (`sides-placed`), a rule with its cost, which keeps the rules before it (`rule-placed`), a goal, which keeps those before it (`goal-kept`),
--- and the whole (`compiled`). The loops over rules and goals, and compiling a block, rest on these; what is said of sides carries over to their numbers' other names (`named`).
+-- Rules and goals placed one after another: the two sides of a rule (`sides-placed`), a rule with its cost, which keeps
+-- the rules before it (`rule-placed`), a goal, which keeps those before it (`goal-kept`), and the whole (`compiled`).
+-- The loops over rules and goals, and compiling a block, rest on these; what is said of sides carries over to their
+-- numbers' other names (`named`).
 use mathlib.Core.Path.{_≡_, ap, _∙_, subst}
 use mathlib.Core.List.{List}
 use Prim.Native.Nat.{ℕ, _+_, _*_, _%_, _≤_, _<_}
@@ -13,7 +15,8 @@ use Rattle.blocks.specs.Validity.{Valid}
 use Rattle.words.specs.Sides.{leftPlace, rightPlace, goalPlace, costWord}
 use Rattle.words.specs.Code.{codeLength}
 use Rattle.words.specs.Compiled.{Sided, RuleAt, Weighted, Compiled}
-use Rattle.compiling.specs.PlacingSides.{SidePlaced, SidesPlaced, RulePlaced, RulesPlaced, GoalsPlaced, CountsPlaced}
+use Rattle.compiling.specs.PlacingSides.{SidePlaced, SidesPlaced, RulePlaced, RulesPlaced, GoalsPlaced}
+use Rattle.compiling.specs.PlacingSides.{CountsPlaced}
 use Rattle.compiling.proofs.SidePlaced.{sided-kept}
 
 -- the two sides of a rule placed one after the other
@@ -23,7 +26,8 @@ pub sides-placed :
     → SidesPlaced n left right r code₀ code₂
 sides-placed {n} {left} {right} {code₀} {code₁} {code₂} r p q =
     record {
-      left-sided = sided-kept n left left code₁ code₂ (leftPlace r) (p .sided) (λ j a c. q .code .before j (omega arith));
+      left-sided =
+          sided-kept n left left code₁ code₂ (leftPlace r) (p .sided) (λ j a c. q .code .before j (omega arith));
       right-sided = q .sided;
       code =
           outside-then (outside-within (12 * r) (12 * r + 12) (omega arith) (omega arith) (p .code))
@@ -95,7 +99,8 @@ module _
         others = λ k l s.
             rule-kept b code₀ withCost k s
             (λ j a c. side-same j (omega arith) ∙ sides .code .before j (omega arith))
-            (getD-set-other code₁ (816 + r) (816 + k) cost 0 (λ q. omega arith) ∙ sides .code .behind (816 + k) (omega arith));
+            (getD-set-other code₁ (816 + r) (816 + k) cost 0 (λ q. omega arith)
+            ∙ sides .code .behind (816 + k) (omega arith));
         code = length-set code₁ (816 + r) cost ∙ sides .code .len;
       }
 

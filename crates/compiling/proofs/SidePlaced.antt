@@ -1,5 +1,6 @@
--- A side whose n positions are compiled, once its six elements are stored, is `Sided` (`side-placed`), and stays so while these stay (`sided-kept`).
--- Placing a side, and keeping what is placed while others are, rests on these; the counts are stored likewise (`counts-placed`).
+-- A side whose n positions are compiled, once its six elements are stored, is `Sided` (`side-placed`), and stays so
+-- while these stay (`sided-kept`). Placing a side, and keeping what is placed while others are, rests on these; the
+-- counts are stored likewise (`counts-placed`).
 use mathlib.Core.Path.{_≡_, sym, ap, _∙_}
 use mathlib.Core.List.{List}
 use Prim.Native.Nat.{ℕ, _+_, _*_, _≤_, _<_}
@@ -73,7 +74,8 @@ module _
   mask : (w : ℕ) → rewritten n left side (unpack n w) ≡ unpack n w → bitAnd w (maskAt code x) ≡ valueAt code x
   mask w e =
       ap (bitAnd w) (t .mask-is)
-      ∙ same-digits n (bitAnd w (s .mask)) (s .value) (lt-of-le-of-lt (and-le-r w (s .mask)) (b .small-mask)) (b .small-value) (λ k l.
+      ∙ same-digits n (bitAnd w (s .mask)) (s .value) (lt-of-le-of-lt (and-le-r w (s .mask)) (b .small-mask))
+      (b .small-value) (λ k l.
       digit-and w (s .mask) k ∙ b .passes w k l (itself-at w e k l))
       ∙ sym (t .value-is)
 

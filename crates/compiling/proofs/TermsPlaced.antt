@@ -1,10 +1,12 @@
--- Where a term takes its label from (`taken-variable`, `taken-dash`, `taken-refused`), and one term more of a side on the way, in four cases: a constant
--- (`constant-more`), a position that keeps its label (`kept-more`), a move (`move-more`), and a variable that stands nowhere on the left (`unbound-more`).
--- The functions that add a term rest on these, and on `label-lt`.
+-- Where a term takes its label from (`taken-variable`, `taken-dash`, `taken-refused`), and one term more of a side on
+-- the way, in four cases: a constant (`constant-more`), a position that keeps its label (`kept-more`), a move
+-- (`move-more`), and a variable that stands nowhere on the left (`unbound-more`). The functions that add a term rest on
+-- these, and on `label-lt`.
 use mathlib.Core.Path.{_≡_, refl, sym, ap, ap₂, _∙_}
 use mathlib.Core.Logic.{_⊎_, ⊎-elim}
 use Prim.Native.Nat.{ℕ, zero, suc, _+_, _*_, _%_, _^_, _≤_, _<_}
-use native.Mathlib.Nat.{eq-or-lt-of-le, lt-of-le-of-lt, lt-of-lt-of-le, mod-eq-of-lt, pow-le-pow-right, zero-lt-suc, zero-mul}
+use native.Mathlib.Nat.{eq-or-lt-of-le, lt-of-le-of-lt, lt-of-lt-of-le, mod-eq-of-lt, pow-le-pow-right, zero-lt-suc}
+use native.Mathlib.Nat.{zero-mul}
 use native.Mathlib.Numerals.{add-one}
 use native.Mathlib.Omega.{arith}
 use lib.Bits.{bitAnd, bitOr, and-le-r, and-zero-r, and-mask, or-comm, or-zero-r}
@@ -16,17 +18,20 @@ use Rattle.blocks.specs.Terms.{termOf}
 use Rattle.blocks.specs.declared.labels.ConcreteLabel.{ConcreteLabel}
 use Rattle.blocks.specs.declared.terms.Term.{Term}
 use Rattle.blocks.specs.declared.terms.Term.the-variants.{Label, Variable, Dash, Refused}
-use Rattle.blocks.proofs.TermCases.{is-label, is-variable, is-dash, is-refused, View, label, variable, dash, refused, view}
+use Rattle.blocks.proofs.TermCases.{is-label, is-variable, is-dash, is-refused, View, label, variable, dash, refused}
+use Rattle.blocks.proofs.TermCases.{view}
 use Rattle.psvn.specs.Rules.{bound, given}
 use Rattle.words.specs.Packing.{digit, unpack}
 use Rattle.words.specs.Sides.{moved, joinMoves}
 use Rattle.compiling.specs.PlacingSides.{TakenFrom, madeBy, Begun}
 use Rattle.compiling.specs.declared.placing_sides.Side.{Side}
-use Rattle.words.proofs.WordDigits.{shifted, digit-lt, digit-and, joined-before, joined-at, joined-below, same-digits, unpack-length, unpack-at}
+use Rattle.words.proofs.WordDigits.{shifted, digit-lt, digit-and, joined-before, joined-at, joined-below, same-digits}
+use Rattle.words.proofs.WordDigits.{unpack-length, unpack-at}
 
 -- where a term takes its label from
 module _ (n : ℕ) (left : ℕ → ℕ) (i byte : ℕ) where
-  pub taken-variable : (v from : ℕ) → termOf byte ≡ Variable v → from ≡ first n (λ j. eqb (left j) v) → TakenFrom n left i byte from
+  pub taken-variable :
+      (v from : ℕ) → termOf byte ≡ Variable v → from ≡ first n (λ j. eqb (left j) v) → TakenFrom n left i byte from
   unfolding bound
   taken-variable v from e f = record { label = λ s. ap (given n left s i) e ∙ ap (λ (k : ℕ). getD s k 0) (sym f) }
 
@@ -336,4 +341,5 @@ module _
             let v = bitOr (bitAnd w (s .keep)) (s .value) in
             ap₂ (λ (y z : ℕ). joinMoves v w (bitOr (s .from) y) (bitOr (s .to) z) (s .count + 1))
             (at from (omega arith)) (at i (omega arith))
-            ∙ move-joined v w (s .from) (s .to) (s .count) from i (b .small-from) (b .small-to) (omega arith) (omega arith)
+            ∙ move-joined v w (s .from) (s .to) (s .count) from i (b .small-from) (b .small-to) (omega arith)
+            (omega arith)

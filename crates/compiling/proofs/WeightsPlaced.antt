@@ -1,5 +1,6 @@
--- Weights written one after another: those of one position more (`rows-more`), all of them low (`low-more`) over an array of zeros (`zeros`), and those of pairs, which
--- are then the weights of the block (`pairs-weighted`). The loops over positions and labels rest on these.
+-- Weights written one after another: those of one position more (`rows-more`), all of them low (`low-more`) over an
+-- array of zeros (`zeros`), and those of pairs, which are then the weights of the block (`pairs-weighted`). The loops
+-- over positions and labels rest on these.
 use mathlib.Core.Path.{_≡_, refl, sym, ap, ap₂, _∙_, subst}
 use mathlib.Core.Logic.{⊎-elim}
 use mathlib.Core.List.{List}
@@ -15,11 +16,12 @@ use Rattle.blocks.specs.Validity.{Headed}
 use Rattle.blocks.proofs.StateLaws.{label-count-low}
 use Rattle.words.specs.Ranking.{placeValue, weightOf}
 use Rattle.words.specs.Compiled.{Weighted}
-use Rattle.compiling.specs.PlacingWeights.{RowPlaced, Singles, PairsPlaced}
+use Rattle.compiling.specs.PlacingWeights.{RowPlaced, SinglesPlaced, PairsPlaced}
 
 -- the weights of one position more
 pub rows-more :
-    {b singles singles′ : List ℕ} (i : ℕ) {p : ℕ} → p ≡ placeValue (abstractCount b) (suc i) (positions b - suc i) → RowPlaced b i p singles singles′
+    {b singles singles′ : List ℕ} (i : ℕ) {p : ℕ} → p ≡ placeValue (abstractCount b) (suc i) (positions b - suc i)
+    → RowPlaced b i p singles singles′
     → ((j x : ℕ) → suc i ≤ j → j < positions b → x < labelCount b j → getD singles (16 * j + x) 0 ≡ weightOf b j x)
     → (j x : ℕ) → i ≤ j → j < positions b → x < labelCount b j → getD singles′ (16 * j + x) 0 ≡ weightOf b j x
 rows-more {b} {singles} {singles′} i e row rest j x h lj lx =
@@ -37,18 +39,23 @@ zeros (suc n) zero = refl
 zeros (suc n) (suc k) = zeros n k
 
 -- one weight more is written, and it is low: all are
-pub low-more : (l : List ℕ) (at v : ℕ) → at < length l → v ≤ 16384 → ((k : ℕ) → getD l k 0 ≤ 16384) → (k : ℕ) → getD (set l at v) k 0 ≤ 16384
+pub low-more :
+    (l : List ℕ) (at v : ℕ) → at < length l → v ≤ 16384 → ((k : ℕ) → getD l k 0 ≤ 16384) → (k : ℕ)
+    → getD (set l at v) k 0 ≤ 16384
 low-more l at v h low rest k =
     ⊎-elim (λ e. omega (arith, getD-set-same l at v 0 h, ap (λ (j : ℕ). getD (set l at v) j 0) e))
     (λ n. omega (arith, getD-set-other l at k v 0 (λ e. n (sym e)), rest k)) (same? at k)
 
 -- the weights of pairs are those of single labels together
-pub pairs-weighted : {b singles weights : List ℕ} → Headed b → Singles b singles → PairsPlaced (positions b) singles weights → Weighted b weights
+pub pairs-weighted :
+    {b singles weights : List ℕ} → Headed b → SinglesPlaced b singles → PairsPlaced (positions b) singles weights
+    → Weighted b weights
 pairs-weighted {b} {singles} {weights} h single pairs =
     record {
       pair = λ j x y l lx ly.
           let n = h .sizes .n-high in
-          joined j x y (omega arith) (omega (arith, label-count-low b h (2 * j))) (omega (arith, label-count-low b h (suc (2 * j))))
+          joined j x y (omega arith) (omega (arith, label-count-low b h (2 * j)))
+          (omega (arith, label-count-low b h (suc (2 * j))))
           ∙ ap₂ _+_ (single .weight (2 * j) x (omega arith) lx) (single .weight (suc (2 * j)) y l ly);
       last = λ j x y e lx ly.
           let n = h .sizes .n-high in
@@ -59,7 +66,8 @@ pairs-weighted {b} {singles} {weights} h single pairs =
   where
     joined :
         (j x y : ℕ) → 2 * j < positions b → x < 16 → y < 16
-        → getD weights (256 * j + (y * 16 + x)) 0 ≡ getD singles (16 * (2 * j) + x) 0 + getD singles (16 * suc (2 * j) + y) 0
+        → getD weights (256 * j + (y * 16 + x)) 0
+        ≡ getD singles (16 * (2 * j) + x) 0 + getD singles (16 * suc (2 * j) + y) 0
     joined j x y lj lx ly =
         let k = 256 * j + (y * 16 + x) in
         let byte : k / 256 ≡ j = omega arith in

@@ -1,5 +1,6 @@
--- What the parts of compiling the map leave: the weights of one position's labels (`RowPlaced`), of all single labels (`Singles`), and of pairs (`PairsPlaced`).
--- The functions that place weights are stated with these; together they make the weights `Weighted`.
+-- What the parts of compiling the map leave: the weights of one position's labels (`RowPlaced`), of all single labels
+-- (`SinglesPlaced`), and of pairs (`PairsPlaced`). The functions that place weights are stated with these; together
+-- they make the weights `Weighted`.
 use mathlib.Core.Path.{_≡_}
 use mathlib.Core.List.{List}
 use Prim.Native.Nat.{ℕ, _+_, _*_, _/_, _%_, _≤_, _<_}
@@ -15,7 +16,7 @@ pub record RowPlaced (b : List ℕ) (i p : ℕ) (singles₀ singles₁ : List �
   pub singles : Outside (16 * i) (16 * i + 16) singles₀ singles₁
 
 -- the weight of each label at each position, 0 behind the last, and none so high that two would not fit 16 bits
-pub record Singles (b singles : List ℕ) : Type 0 where
+pub record SinglesPlaced (b singles : List ℕ) : Type 0 where
   pub weight : (i x : ℕ) → i < positions b → x < labelCount b i → getD singles (16 * i + x) 0 ≡ weightOf b i x
   pub behind : (k : ℕ) → 16 * positions b ≤ k → getD singles k 0 ≡ 0
   pub low : (k : ℕ) → getD singles k 0 ≤ 16384

@@ -79,7 +79,7 @@ fn with_term(bytes: &[u8], left: usize, side: usize, n: usize, made: Side, i: us
     match term {
         Term::Label(label) => with_constant(made, i, label),
         Term::Variable(v) => {
-            let from = layout::first_of(bytes, left, n, v);
+            let from = basics::first_of(bytes, left, n, v);
             with_source(made, n, i, from)
         }
         Term::Dash => with_source(made, n, i, i),

@@ -6,7 +6,7 @@ ghost use lib.ListN.{length, getD};
 ghost use Rattle.blocks.specs.Layout.{positions, abstractCount};
 ghost use Rattle.blocks.specs.Validity.{Valid};
 ghost use Rattle.words.specs.Compiled.{Weighted};
-ghost use Rattle.compiling.specs.PlacingWeights.{RowPlaced, Singles, PairsPlaced};
+ghost use Rattle.compiling.specs.PlacingWeights.{RowPlaced, SinglesPlaced, PairsPlaced};
 use basics::wide;
 use blocks::labels::ConcreteLabel;
 use blocks::labels::byte_of;
@@ -38,7 +38,7 @@ fn place_row(block: &[u8], i: usize, p: usize, singles: &mut Singles)
 // abstract labels for the positions behind it. What a rule adds to a rank is made of these too.
 pub fn place_singles(block: &[u8], singles: &mut Singles)
     requires { ⌜ Valid (now block) × (length (now singles) ≡ 256) × ((k : ℕ) → getD (now singles) k 0 ≡ 0) ⌝ }
-    ensures { λ _. ⌜ Singles (now (block .entry)) (now (singles .exit)) ⌝ }
+    ensures { λ _. ⌜ SinglesPlaced (now (block .entry)) (now (singles .exit)) ⌝ }
 {
     let mut p: usize = 1;
     let mut i = layout::positions(block);

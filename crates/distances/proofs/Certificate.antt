@@ -1,5 +1,6 @@
--- A table that the computed test `certifies` accepts is exact (`certified`): each entry that is not the mark is achieved, by the rules that meet the entries, since
--- the entries fall along them. Fixed tables are shown exact with it.
+-- A table that the computed test `certifies` accepts is exact (`certified`): each
+-- entry that is not the mark is achieved, by the rules that meet the entries,
+-- since the entries fall along them. Fixed tables are shown exact with it.
 use mathlib.Core.Path.{_≡_, refl, sym}
 use mathlib.Core.Logic.{_≢_}
 use mathlib.Core.Bool.{Bool, true, false, _&&_, _||_}

@@ -1,5 +1,6 @@
--- A good table that passes the lower-bound test is exact (`exact`, by `exact-entries`), and an exact table passes (`least-passes`).
--- The least cost is one number (`least-one`) and the exact table one list (`table-one`). That the fill ends right rests on these.
+-- A good table that passes the lower-bound test is exact (`exact`, by `exact-entries`), and an exact table passes
+-- (`least-passes`). The least cost is one number (`least-one`) and the exact table one list (`table-one`). That the
+-- fill ends right rests on these.
 use mathlib.Core.Path.{_≡_, sym, _∙_}
 use mathlib.Core.Logic.{_⊎_, inl, inr, _≢_}
 use mathlib.Core.Bool.{true}
@@ -51,7 +52,8 @@ table-one g s t a b =
 
 pub least-passes : (g : Graph) (t : List ℕ) → LeastTable g t → passes g t ≡ true
 least-passes g t a =
-    passes-intro g t (λ u l. goal u (a .least u l)) (λ u r l i v m. rule u r i v m (a .least u l) (a .least (g .step u r) v))
+    passes-intro g t (λ u l. goal u (a .least u l))
+    (λ u r l i v m. rule u r i v m (a .least u l) (a .least (g .step u r) v))
   where
     goal : (u : ℕ) → Least g u (getD t u 0) → ZeroAtGoal g t u
     goal u (inl x) e = absurd (x .1 [] e)

@@ -1,5 +1,6 @@
--- `leastCosts` is the table of the least costs of lists of any length (`least-costs`): a list that reaches a goal has a shortcut of no more rules than were counted.
--- So it is the one exact table (`least-costs-only`), and it passes the lower-bound test (`least-costs-pass`). What the fill answers rests on these.
+-- `leastCosts` is the table of the least costs of lists of any length (`least-costs`): a list that reaches a goal has a
+-- shortcut of no more rules than were counted. So it is the one exact table (`least-costs-only`), and it passes the
+-- lower-bound test (`least-costs-pass`). What the fill answers rests on these.
 use mathlib.Core.Path.{_≡_}
 use mathlib.Core.Logic.{⊎-elim, inl, inr, _≢_}
 use mathlib.Core.Bool.{true}
@@ -18,12 +19,15 @@ use Rattle.distances.proofs.WithinSteps.{length-within, within-least, w
 
 module _ (g : Graph) (cheap : Cheap g) (small : g .states ≤ 16384) where
   -- no list that reaches a goal from u costs less than the entry, and there is none where the entry is the mark
-  lower : (u : ℕ) → u < g .states → (rs : List ℕ) → reaches g u rs ≡ true → getD (leastWithin g (g .states)) u 0 ≤ totalCost g rs
+  lower :
+      (u : ℕ) → u < g .states → (rs : List ℕ) → reaches g u rs ≡ true
+      → getD (leastWithin g (g .states)) u 0 ≤ totalCost g rs
   lower u l rs w =
       let q = shortcut g u l rs w in
       omega (arith, q .cost, within-least g (g .states) (q .list) u l (omega (arith, q .short)) (q .goal))
 
-  not-marked : (u : ℕ) → u < g .states → (rs : List ℕ) → reaches g u rs ≡ true → getD (leastWithin g (g .states)) u 0 ≢ mark
+  not-marked :
+      (u : ℕ) → u < g .states → (rs : List ℕ) → reaches g u rs ≡ true → getD (leastWithin g (g .states)) u 0 ≢ mark
   not-marked u l rs w =
       let q = shortcut g u l rs w in
       let b = lower u l (q .list) (q .goal) in

@@ -1,6 +1,7 @@
--- Costs by one rule: the cost by cases (`via-at`, `via-marked`, `via-none`, `via-found`), and the least of them for the first k rules (`BestBelow`), rule by rule
--- (`best-none`, `best-lower`, `best-keep`, `best-all`). The sweeps of the fill, the test at one state (`TestAt`), and the code that finds these costs
--- (`via` and `best` of the crate tables, with its `RuleCosts`) rest on these.
+-- Costs by one rule: the cost by cases (`via-at`, `via-marked`, `via-none`, `via-found`), and the least of them for the
+-- first k rules (`BestBelow`), rule by rule (`best-none`, `best-lower`, `best-keep`, `best-all`). The sweeps of the
+-- fill, the test at one state (`TestAt`), and the code that finds these costs (`via` and `best` of the crate tables,
+-- with its `RuleCosts`) rest on these.
 use mathlib.Core.Path.{_≡_, refl, sym}
 use mathlib.Core.Logic.{⊎-elim}
 use mathlib.Core.List.{List}
@@ -29,12 +30,15 @@ module _ (g : Graph) (t : List ℕ) (u r v : ℕ) (e : v ≡ g .step u r) where
 
 -- a cost below `none` is by a rule that applies and leads to an entry that is not the mark
 pub via-found :
-    (g : Graph) (t : List ℕ) (u r : ℕ) → via g t u r < none → (g .step u r < g .states) × (getD t (g .step u r) 0 < mark)
+    (g : Graph) (t : List ℕ) (u r : ℕ) → via g t u r < none
+    → (g .step u r < g .states) × (getD t (g .step u r) 0 < mark)
 via-found g t u r h =
     let v = g .step u r in
     ⊎-elim
     (λ hv.
-    ⊎-elim (λ hm. (hv, hm)) (λ hm. let q = via-marked g t u r v refl hv hm in absurd (omega arith)) (below? (getD t v 0) mark))
+    ⊎-elim (λ hm. (hv, hm))
+    (λ hm. let q = via-marked g t u r v refl hv hm in absurd (omega arith))
+    (below? (getD t v 0) mark))
     (λ hv. let q = via-none g t u r v refl hv in absurd (omega arith))
     (below? v (g .states))
 

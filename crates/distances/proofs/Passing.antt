@@ -1,6 +1,7 @@
--- The lower-bound test as two propositions, at one state (`at-goal`, `at-rule`, `at-intro`) and at all (`passes-goal`, `passes-rule`, `passes-intro`, `passes-at`).
--- A table that passes is at most the cost of every list that reaches a goal (`passing-bound`), and zeros pass (`zeros-pass`).
--- Exactness, the certificate, the sweeps of the fill, the test at one state and what a passing table promises rest on these.
+-- The lower-bound test as two propositions, at one state (`at-goal`, `at-rule`, `at-intro`) and at all (`passes-goal`,
+-- `passes-rule`, `passes-intro`, `passes-at`). A table that passes is at most the cost of every list that reaches a
+-- goal (`passing-bound`), and zeros pass (`zeros-pass`). Exactness, the certificate, the sweeps of the fill, the test
+-- at one state and what a passing table promises rest on these.
 use mathlib.Core.Path.{_≡_, refl, ap}
 use mathlib.Core.Logic.{_≢_}
 use mathlib.Core.Bool.{Bool, true, false, not, _&&_, _||_}
@@ -49,7 +50,8 @@ module _ (g : Graph) (t : List ℕ) where
     unfolding passesAt
     at-intro z b =
         and-intro (zeroAtGoal g t u) (all (g .rules) (boundedBy g t u)) (zero (g .goal u) refl)
-        (all-intro (boundedBy g t u) (g .rules) (λ r i. rule r i (leadsOn g u r) refl (eqb (getD t (g .step u r) 0) mark) refl))
+        (all-intro (boundedBy g t u) (g .rules)
+        (λ r i. rule r i (leadsOn g u r) refl (eqb (getD t (g .step u r) 0) mark) refl))
       where
         zero : (x : Bool) → g .goal u ≡ x → (not x || eqb (getD t u 0) 0) ≡ true
         zero true e = eq-eqb (getD t u 0) 0 (z e)
@@ -57,7 +59,8 @@ module _ (g : Graph) (t : List ℕ) where
 
         rule :
             (r : ℕ) → r < g .rules → (x : Bool) → leadsOn g u r ≡ x → (y : Bool) → eqb (getD t (g .step u r) 0) mark ≡ y
-            → (not x || (y || not (eqb (getD t u 0) mark) && leb (getD t u 0) (g .cost r + getD t (g .step u r) 0))) ≡ true
+            → (not x || (y || not (eqb (getD t u 0) mark) && leb (getD t u 0) (g .cost r + getD t (g .step u r) 0)))
+            ≡ true
         rule r i false d y e = refl
         rule r i true d true e = refl
         rule r i true d false e =

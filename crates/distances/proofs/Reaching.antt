@@ -17,5 +17,6 @@ module _ (g : Graph) (u r : ℕ) (rs : List ℕ) where
       let (v, w) = and-true (leadsOn g u r) (reaches g (g .step u r) rs) k in
       (ltb-true _ _ i, ltb-true _ _ v, w)
 
-  pub reaches-intro : r < g .rules → g .step u r < g .states → reaches g (g .step u r) rs ≡ true → reaches g u (r ∷ rs) ≡ true
+  pub reaches-intro :
+      r < g .rules → g .step u r < g .states → reaches g (g .step u r) rs ≡ true → reaches g u (r ∷ rs) ≡ true
   reaches-intro i v w = rw (lt-ltb r (g .rules) i, lt-ltb (g .step u r) (g .states) v) w

@@ -1,5 +1,6 @@
--- Every list that reaches a goal has a shortcut: a list of fewer rules than there are states that reaches a goal at no more cost (`shortcut`).
--- A longer list comes to some state twice, and the rules in between are cut out. The table of least costs rests on it.
+-- Every list that reaches a goal has a shortcut: a list of fewer rules than there are states that reaches a goal at no
+-- more cost (`shortcut`). A longer list comes to some state twice, and the rules in between are cut out. The table of
+-- least costs rests on it.
 use mathlib.Core.Path.{_≡_}
 use mathlib.Core.Logic.{⊎-elim}
 use mathlib.Core.Bool.{true}
@@ -34,7 +35,8 @@ module _ (g : Graph) where
       after-in rs (g .step u r) v w′ i
 
   -- the rules behind reach a goal from there
-  reaches-after : (rs : List ℕ) (u : ℕ) → reaches g u rs ≡ true → (i : ℕ) → reaches g (after g u rs i) (drop i rs) ≡ true
+  reaches-after :
+      (rs : List ℕ) (u : ℕ) → reaches g u rs ≡ true → (i : ℕ) → reaches g (after g u rs i) (drop i rs) ≡ true
   reaches-after rs u w zero = w
   reaches-after [] u w (suc i) = w
   reaches-after (r ∷ rs) u w (suc i) = reaches-after rs (g .step u r) (reaches-cons g u r rs w .2) i

@@ -1,6 +1,6 @@
--- One sweep of a fill over all states, with the states below u done (`Sweeping`): it begins (`sweep-none`), keeps an entry (`sweep-keep`), writes one (`sweep-write`, which
--- leaves the table good: `good-best`), and where no entry fell the table passes (`sweep-all`).
--- The sweeps of the fill rest on these.
+-- One sweep of a fill over all states, with the states below u done (`Sweeping`): it begins (`sweep-none`), keeps an
+-- entry (`sweep-keep`), writes one (`sweep-write`, which leaves the table good: `good-best`), and where no entry fell
+-- the table passes (`sweep-all`). The sweeps of the fill rest on these.
 use mathlib.Core.Path.{_≡_, refl, sym}
 use mathlib.Core.Bool.{Bool, true, false, false≢true}
 use mathlib.Core.List.{List}

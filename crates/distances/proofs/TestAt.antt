@@ -1,6 +1,6 @@
--- The lower-bound test at one state, by the least cost by one rule. In the order of the code: a goal's entry is not 0 (`test-goal`), no rule leads to an entry that is
--- not the mark (`test-none`), the entry is not the mark and is compared (`test-leb`), the entry is the mark (`test-marked`).
--- The code of the test rests on these.
+-- The lower-bound test at one state, by the least cost by one rule. In the order of the code: a goal's entry is not 0
+-- (`test-goal`), no rule leads to an entry that is not the mark (`test-none`), the entry is not the mark and is
+-- compared (`test-leb`), the entry is the mark (`test-marked`). The code of the test rests on these.
 use mathlib.Core.Path.{_≡_, refl}
 use mathlib.Core.Logic.{_≢_}
 use mathlib.Core.Bool.{Bool, true, false}
@@ -22,7 +22,8 @@ test-goal g t u e z = not-so (passesAt g t u) (λ p. z (at-goal g t u p e))
 
 -- the entries are numbers of 32 bits
 module _
-    (g : Graph) (t : List ℕ) (u x : ℕ) (entries : (v : ℕ) → getD t v 0 ≤ mark) (cheap : Cheap g) (b : Best g t u x) where
+    (g : Graph) (t : List ℕ) (u x : ℕ) (entries : (v : ℕ) → getD t v 0 ≤ mark) (cheap : Cheap g)
+    (b : Best g t u x) where
   -- x is at most the cost by a rule that leads to an entry that is not the mark, and below `none`
   under :
       (r : ℕ) → r < g .rules → g .step u r < g .states → getD t (g .step u r) 0 ≢ mark

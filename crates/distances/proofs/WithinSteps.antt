@@ -1,5 +1,6 @@
--- The table of the least costs of lists of at most m rules: no list of at most m rules that reaches a goal costs less than the entry (`within-least`), and an entry
--- that is not the mark is the cost of such a list (`within-found`) and at most 255 m (`within-bound`). The table of least costs rests on these.
+-- The table of the least costs of lists of at most m rules: no list of at most m rules that reaches a goal costs less
+-- than the entry (`within-least`), and an entry that is not the mark is the cost of such a list (`within-found`) and at
+-- most 255 m (`within-bound`). The table of least costs rests on these.
 use mathlib.Core.Path.{_≡_, refl, _∙_}
 use mathlib.Core.Logic.{_⊎_, inl, inr, ⊎-elim, _≢_}
 use mathlib.Core.Bool.{Bool, true, false, cond}

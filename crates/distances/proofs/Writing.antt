@@ -1,6 +1,6 @@
--- The one write of a fill: an entry falls to a cost by one rule. It keeps the table good (`good-write`) and lowers the sum (`total-falls`).
--- Entries of a good table leave room for a cost more (`room`); the table of zeros at the goals and marks elsewhere is good (`Cleared`, `good-clear`).
--- The fill's steps rest on these.
+-- The one write of a fill: an entry falls to a cost by one rule. It keeps the table good (`good-write`) and lowers the
+-- sum (`total-falls`). Entries of a good table leave room for a cost more (`room`); the table of zeros at the goals and
+-- marks elsewhere is good (`Cleared`, `good-clear`). The fill's steps rest on these.
 use mathlib.Core.Path.{_≡_, refl, sym, ap, _∙_}
 use mathlib.Core.Logic.{⊎-elim}
 use mathlib.Core.Bool.{Bool, true, false, cond}
@@ -71,8 +71,8 @@ room g t k small u l m =
 -- The one write: rule r takes u to v, and the cost by it is less than the entry of u.
 module _
     (g : Graph) (t : List ℕ) (k : Good g t) (small : g .states ≤ 16384) (cheap : Cheap g)
-    (u r v x : ℕ) (hu : u < g .states) (hr : r < g .rules) (e : g .step u r ≡ v) (hv : v < g .states) (hm : getD t v 0 < mark)
-    (ex : x ≡ getD t v 0 + g .cost r) (less : x < getD t u 0) where
+    (u r v x : ℕ) (hu : u < g .states) (hr : r < g .rules) (e : g .step u r ≡ v) (hv : v < g .states)
+    (hm : getD t v 0 < mark) (ex : x ≡ getD t v 0 + g .cost r) (less : x < getD t u 0) where
   write-small : x < mark
   write-small =
       let q = room g t k small v hv hm in
@@ -85,7 +85,9 @@ module _
   write-zero : (w : ℕ) → w < g .states → g .goal w ≡ true → getD (set t u x) w 0 ≡ 0
   write-zero w hw gw =
       let z = k .zeroAtGoals w hw gw in
-      ⊎-elim (λ q. let y : getD t u 0 ≡ 0 = rw q at z in absurd (omega arith)) (λ q. getD-set-other t u w x 0 q ∙ z) (same? w u)
+      ⊎-elim (λ q. let y : getD t u 0 ≡ 0 = rw q at z in absurd (omega arith))
+      (λ q. getD-set-other t u w x 0 q ∙ z)
+      (same? w u)
 
   write-reach : Achieved g u x
   write-reach =
@@ -108,7 +110,8 @@ module _
       (λ q. let new = unmarked-new t u x write-small (omega arith) q in omega arith)
       (below? (getD t u 0) mark)
 
-  write-bounded : (w : ℕ) → w < g .states → getD (set t u x) w 0 < mark → getD (set t u x) w 0 ≤ 255 * unmarked (set t u x)
+  write-bounded :
+      (w : ℕ) → w < g .states → getD (set t u x) w 0 < mark → getD (set t u x) w 0 ≤ 255 * unmarked (set t u x)
   write-bounded w hw m =
       ⊎-elim (λ q. rw q (rw write-at write-bounded-here))
       (λ q.
@@ -120,7 +123,12 @@ module _
 
   pub good-write : Good g (set t u x)
   good-write =
-      record { len = length-set t u x ∙ k .len; zeroAtGoals = write-zero; achieved = write-achieved; bounded = write-bounded }
+      record {
+        len = length-set t u x ∙ k .len;
+        zeroAtGoals = write-zero;
+        achieved = write-achieved;
+        bounded = write-bounded;
+      }
 
 -- The table before the first write, its entries below u: 0 at the goals, the mark elsewhere.
 abbrev pub Cleared : Graph → List ℕ → ℕ → Type 0

@@ -1,5 +1,6 @@
--- A test that shows a fixed table to be exact, where antt computes it (`certifies`): the table passes, and every entry that is neither the mark nor a goal's
--- is met by a rule of cost above 0. Tables of worked exercises are shown exact with it.
+-- A test that shows a fixed table to be exact, where antt computes it (`certifies`):
+-- the table passes, and every entry that is neither the mark nor a goal's is met by
+-- a rule of cost above 0. Tables of worked exercises are shown exact with it.
 use mathlib.Core.Bool.{Bool, _&&_, _||_}
 use mathlib.Core.List.{List}
 use Prim.Native.Nat.{ℕ, _+_}

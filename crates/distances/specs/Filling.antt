@@ -1,5 +1,5 @@
--- What every write of a fill keeps (`Good`), what the least cost by one rule is (`via`, `Best`), and what one sweep over all states leaves (`Swept`).
--- The contracts of the fill and of the lower-bound test are stated with these.
+-- What every write of a fill keeps (`Good`), what the least cost by one rule is (`via`, `Best`), and what one sweep
+-- over all states leaves (`Swept`). The contracts of the fill and of the lower-bound test are stated with these.
 use mathlib.Core.Path.{_≡_}
 use mathlib.Core.Bool.{Bool, true, false, cond}
 use mathlib.Core.List.{List, [], _∷_}
@@ -23,7 +23,8 @@ unfoldable pub total : List ℕ → ℕ
 total [] = 0
 total (x ∷ xs) = x + total xs
 
--- What every write keeps. An entry that is not the mark is at most 255 for each entry that is not, so that it stays far below the mark.
+-- What every write keeps. An entry that is not the mark is at most 255
+-- for each entry that is not, so that it stays far below the mark.
 pub record Good (g : Graph) (t : List ℕ) : Type 0 where
   pub len : length t ≡ g .states
   pub zeroAtGoals : (u : ℕ) → u < g .states → g .goal u ≡ true → getD t u 0 ≡ 0

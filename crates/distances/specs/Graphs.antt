@@ -1,5 +1,6 @@
 -- A finite graph whose edges are rules with costs: the states are numbers, `step` says where a rule leads.
--- Which lists of rules reach a goal (`reaches`), what they cost (`totalCost`), and the least such cost (`Least`, `LeastTable`), for lists of any length.
+-- Which lists of rules reach a goal (`reaches`), what they cost (`totalCost`), and the least such cost (`Least`,
+-- `LeastTable`), for lists of any length.
 use mathlib.Core.Path.{_≡_}
 use mathlib.Core.Logic.{_⊎_}
 use mathlib.Core.Bool.{Bool, true, _&&_}

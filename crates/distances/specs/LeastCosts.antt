@@ -1,5 +1,6 @@
--- The table of least costs as one value (`leastCosts`): by the number of rules allowed, up to as many as there are states.
--- A cheapest list needs no more, so this is the table of the least costs of lists of any length. The fill is stated with it.
+-- The table of least costs as one value (`leastCosts`): by the number of rules
+-- allowed, up to as many as there are states. A cheapest list needs no more, so this
+-- is the table of the least costs of lists of any length. The fill is stated with it.
 use mathlib.Core.Bool.{cond}
 use mathlib.Core.List.{List}
 use Prim.Native.Nat.{ℕ, zero, suc, _+_, min}

@@ -8,7 +8,8 @@ use lib.ListN.{getD}
 use Rattle.basics.specs.Bounded.{all}
 use Rattle.distances.specs.Graphs.{Graph, mark, leadsOn}
 
--- condition (ii) for a rule of cost c, with the entry e before it and f after it: if f is not the mark, e is not the mark and at most c plus f
+-- condition (ii) for a rule of cost c, with the entry e before it and f after it: if f is not the mark, e is not the
+-- mark and at most c plus f
 abbrev pub bounded : ℕ → ℕ → ℕ → Bool
 bounded e c f = eqb f mark || (not (eqb e mark) && leb e (c + f))
 

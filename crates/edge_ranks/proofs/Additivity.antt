@@ -18,7 +18,8 @@ use Rattle.words.specs.Packing.{digit, unpack}
 use Rattle.words.specs.Sides.{rewrittenWord}
 use Rattle.words.specs.Ranking.{rankWord}
 use Rattle.words.specs.Compiled.{Sided, Compiled}
-use Rattle.words.proofs.WordDigits.{digit-lt, digit-high, digit-before, placed-below, digit-placed, unpack-length, unpack-at}
+use Rattle.words.proofs.WordDigits.{digit-lt, digit-high, digit-before, placed-below, digit-placed, unpack-length}
+use Rattle.words.proofs.WordDigits.{unpack-at}
 use Rattle.words.proofs.WordRanks.{labelsRank, labels-rank}
 use Rattle.words.proofs.Meaning.{rank-word}
 use Rattle.edge_ranks.specs.Lists.{firstRank, secondRank, from, Labels, Additive}
@@ -75,15 +76,21 @@ module _ (n : ℕ) where
       (⊎-elim
       (λ e. inr (
         at (from p w) ∙ from-behind p w j (omega arith) ∙ ap (digit w) e
-            ∙ sym (digit-placed (digit w p) (digit-lt w p) p) ∙ ap (digit (digit w p * 16 ^ p)) (sym e) ∙ sym (at (digit w p * 16 ^ p)),
+            ∙ sym (digit-placed (digit w p) (digit-lt w p) p) ∙ ap (digit (digit w p * 16 ^ p)) (sym e)
+            ∙ sym (at (digit w p * 16 ^ p)),
         at (from (suc p) w) ∙ from-before (suc p) w j (omega arith) ∙ sym o,
       ))
       (λ b. inl (
         at (from p w) ∙ from-behind p w j (omega arith) ∙ sym (at (from (suc p) w) ∙ from-behind (suc p) w j b),
-        at (digit w p * 16 ^ p) ∙ digit-high (suc p) (digit w p * 16 ^ p) j (placed-below (digit w p) (digit-lt w p) p (suc p) (omega arith)) b ∙ sym o,
+        at (digit w p * 16 ^ p)
+            ∙ digit-high (suc p) (digit w p * 16 ^ p) j
+            (placed-below (digit w p) (digit-lt w p) p (suc p) (omega arith)) b
+            ∙ sym o,
       )))
       (trichotomy j p))
-      (λ g. let z : (v : ℕ) → getD (unpack n v) j 0 ≡ 0 = λ v. label-cut v j g in inl (z (from p w) ∙ sym (z (from (suc p) w)), z (digit w p * 16 ^ p) ∙ sym (z 0)))
+      (λ g.
+      let z : (v : ℕ) → getD (unpack n v) j 0 ≡ 0 = λ v. label-cut v j g in
+      inl (z (from p w) ∙ sym (z (from (suc p) w)), z (digit w p * 16 ^ p) ∙ sym (z 0)))
       (below? j n)
 
 -- a word of n labels below k, also behind the last one
@@ -92,13 +99,20 @@ Low n k w = (w < 16 ^ n) × ((j : ℕ) → getD (unpack n w) j 0 < k)
 
 module _ (n k : ℕ) (some : 0 < k) where
   low-digits : (w : ℕ) → w < 16 ^ n → ((j : ℕ) → j < n → digit w j < k) → Low n k w
-  low-digits w l h =
-      (l, λ j. ⊎-elim (λ i. omega (arith, h j i, unpack-at n w j i)) (λ g. omega (arith, some, label-cut n w j g)) (below? j n))
+  low-digits w l h = (
+    l,
+    λ j.
+        ⊎-elim (λ i. omega (arith, h j i, unpack-at n w j i))
+        (λ g. omega (arith, some, label-cut n w j g))
+        (below? j n),
+  )
 
   low-from : (w p : ℕ) → Labels n k w → Low n k (from p w)
   low-from w p l =
       low-digits (from p w) (from-small n p w (l .0)) (λ j i.
-      ⊎-elim (λ b. omega (arith, some, from-before p w j b)) (λ b. omega (arith, l .1 j i, from-behind p w j b)) (below? j p))
+      ⊎-elim (λ b. omega (arith, some, from-before p w j b))
+      (λ b. omega (arith, l .1 j i, from-behind p w j b))
+      (below? j p))
 
   low-zero : Low n k 0
   low-zero = low-digits 0 (one-le-pow n 16 (zero-lt-suc 15)) (λ j i. omega (arith, some, digit-zero j))
@@ -118,8 +132,10 @@ module _ (n k : ℕ) (some : 0 < k) where
       (code : List ℕ) (x : ℕ) (left right : ℕ → ℕ) (side : Sided n left right code x)
       (terms : (i : ℕ) → i < n → termOk k (termOf (right i)) ≡ true) where
     low-made : (w : ℕ) → Low n k w → Low n k (rewrittenWord code x w)
-    low-made w l =
-        (side .small w (l .0), λ j. rw (side .makes w (l .0)) (drawn-below n k left right some terms (unpack n w) (l .1) j))
+    low-made w l = (
+      side .small w (l .0),
+      λ j. rw (side .makes w (l .0)) (drawn-below n k left right some terms (unpack n w) (l .1) j),
+    )
 
     exchanged-made :
         (a b c d : ℕ) → Low n k a → Low n k b → Low n k c → Low n k d
@@ -131,19 +147,25 @@ module _ (n k : ℕ) (some : 0 < k) where
         (exchanged-rewritten n k left right some terms (unpack n a) (unpack n b) (unpack n c) (unpack n d) e)
 
 module _ {b code weights : List ℕ} (c : Compiled b code weights) (some : 0 < labels b) where
-  ranks : (w : ℕ) → Low (positions b) (labels b) w → rankWord weights (positions b) w ≡ labelsRank b (unpack (positions b) w) (positions b)
+  ranks :
+      (w : ℕ) → Low (positions b) (labels b) w
+      → rankWord weights (positions b) w ≡ labelsRank b (unpack (positions b) w) (positions b)
   unfolding labelCount
   ranks w l =
       let s = unpack (positions b) w in
-      rank-word c w (labelled-intro (positions b) (labelCount b) s (unpack-length (positions b) w) (λ i h. l .1 i)) ∙ sym (labels-rank b s)
+      rank-word c w (labelled-intro (positions b) (labelCount b) s (unpack-length (positions b) w) (λ i h. l .1 i))
+      ∙ sym (labels-rank b s)
 
   sums :
-      (u v w z : ℕ) → Low (positions b) (labels b) u → Low (positions b) (labels b) v → Low (positions b) (labels b) w → Low (positions b) (labels b) z
+      (u v w z : ℕ) → Low (positions b) (labels b) u → Low (positions b) (labels b) v → Low (positions b) (labels b) w
+      → Low (positions b) (labels b) z
       → Exchanged (unpack (positions b) u) (unpack (positions b) v) (unpack (positions b) w) (unpack (positions b) z)
-      → rankWord weights (positions b) u + rankWord weights (positions b) z ≡ rankWord weights (positions b) v + rankWord weights (positions b) w
+      → rankWord weights (positions b) u + rankWord weights (positions b) z
+      ≡ rankWord weights (positions b) v + rankWord weights (positions b) w
   sums u v w z lu lv lw lz e =
       rw (ranks u lu, ranks v lv, ranks w lw, ranks z lz)
-      (exchanged-ranks b (unpack (positions b) u) (unpack (positions b) v) (unpack (positions b) w) (unpack (positions b) z) e (positions b))
+      (exchanged-ranks b (unpack (positions b) u) (unpack (positions b) v) (unpack (positions b) w)
+      (unpack (positions b) z) e (positions b))
 
   module _
       (x : ℕ) (left right : ℕ → ℕ) (side : Sided (positions b) left right code x)

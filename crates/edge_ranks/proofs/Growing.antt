@@ -55,7 +55,9 @@ pub record Grown (f : ℕ → ℕ) (label p count at : ℕ) (old now : ℕ → �
       × ((now (l * count + j) + old 0) % 16384 ≡ (old j + f (l * 16 ^ p)) % 16384)
 
 -- what is added for a label
-added : (x y b v : ℕ) → v ≡ (x + y) % 16384 → (w : ℕ) → (y + b) % 16384 ≡ w % 16384 → (v < 16384) × ((v + b) % 16384 ≡ (x + w) % 16384)
+added :
+    (x y b v : ℕ) → v ≡ (x + y) % 16384 → (w : ℕ) → (y + b) % 16384 ≡ w % 16384
+    → (v < 16384) × ((v + b) % 16384 ≡ (x + w) % 16384)
 added x y b v e w h = (
   omega arith,
   ap (λ (z : ℕ). (z + b) % 16384) e ∙ mod-add-mod (x + y) 16384 b ∙ ap (λ (z : ℕ). z % 16384) (add-assoc x y b)
@@ -97,7 +99,11 @@ module _ {f : ℕ → ℕ} {p count : ℕ} {old : ℕ → ℕ} where
   grown-all {labels} {label} {at} g l m n i =
       record {
         few = m;
-        some = λ z. ⊎-elim (λ e. absurd (omega (arith, i ∙ ap (λ (x : ℕ). label * x) e, mul-zero label))) (λ d. omega arith) (same? count 0);
+        some =
+            λ z.
+            ⊎-elim (λ e. absurd (omega (arith, i ∙ ap (λ (x : ℕ). label * x) e, mul-zero label)))
+            (λ d. omega arith)
+            (same? count 0);
         first = g .first;
         kept = λ z j i. (omega arith, g .kept j i);
         more = λ z k j a b i. g .more k j a (omega arith) i;

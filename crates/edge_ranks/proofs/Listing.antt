@@ -1,5 +1,6 @@
--- Lists of ranks, position by position from the last one on: the list of the word 0 alone (`listed-first`), a position that changes nothing (`listed-idle`) and one whose labels are
--- added (`listed-more`); the whole word at the end (`listed-all`). The code that finds edges rests on these.
+-- Lists of ranks, position by position from the last one on: the list of the word 0 alone (`listed-first`), a position
+-- that changes nothing (`listed-idle`) and one whose labels are added (`listed-more`); the whole word at the end
+-- (`listed-all`). The code that finds edges rests on these.
 use mathlib.Core.Path.{_≡_, sym, ap, _∙_}
 use mathlib.Core.Logic.{⊎-elim}
 use Prim.Native.Nat.{ℕ, suc, _+_, _*_, _%_, _^_, _≤_, _<_}

@@ -33,8 +33,8 @@ pub record Extended (list count at by : ℕ) (old new : List ℕ) : Type 0 where
   pub outside : Outside (list + at) (list + at + count) old new
   pub more : (j : ℕ) → j < count → getD new (list + at + j) 0 ≡ (getD old (list + j) 0 + by) % 16384
 
--- so do they for each label at position p from 1 on, with what its word alone adds to the first rank; where the new
--- count is not 0
+-- so do they for each label at position p from 1 on, with what its
+-- word alone adds to the first rank; where the new count is not 0
 pub record LabelsAdded (f : ℕ → ℕ) (labels p count new : ℕ) (old now : ℕ → ℕ) : Type 0 where
   pub few : new ≤ 16384
   pub some : 0 < new → 0 < count

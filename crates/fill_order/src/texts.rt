@@ -3,7 +3,7 @@ ghost use Prim.Native.Nat.{_≤_};
 ghost use lib.ListN.{length};
 use super::fills::print_fill;
 use super::fills::print_refused;
-use frames::Reading;
+use text_calls::Reading;
 
 const LINE_FEED: u8 = 10;
 
@@ -35,7 +35,7 @@ fn front(buffer: &[u8], length: usize) -> &[u8] {
 // Reads an exercise and prints how it was filled.
 fn print_text(text: &[u8]) {
     let mut block = [0u8; blocks::layout::BLOCK_ROOM];
-    let reading = frames::read_exercise(text, &mut block);
+    let reading = text_calls::read_exercise(text, &mut block);
     match reading {
         Reading::Done(length) => print_fill(front(&block, length)),
         Reading::Refused(_) => {
@@ -44,6 +44,7 @@ fn print_text(text: &[u8]) {
     }
 }
 
+// Prints how the exercises of the input were filled, a line for each.
 pub fn print_fills(input: &[u8]) {
     let mut at = 0;
     while at < input.len() {

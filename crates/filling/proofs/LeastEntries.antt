@@ -1,6 +1,7 @@
--- What the entries of an exact table mean: each is the least cost from its state (`least-entry`), in the filled table too (`filled-least`), which has an entry for each
--- abstract state (`filled-length`) and passes the test (`filled-passes`); so its estimates are lower bounds (`filled-low`, `filled-small`).
--- Fixed tables are shown exact by the first; what `par` prints, and the exercises, rest on the others.
+-- What the entries of an exact table mean: each is the least cost from its state (`least-entry`), in the filled table
+-- too (`filled-least`), which has an entry for each abstract state (`filled-length`) and passes the test
+-- (`filled-passes`); so its estimates are lower bounds (`filled-low`, `filled-small`). Fixed tables are shown exact by
+-- the first; what `par` prints, and the exercises, rest on the others.
 use mathlib.Core.Path.{_≡_, sym, _∙_}
 use mathlib.Core.Bool.{true}
 use mathlib.Core.List.{List}
@@ -79,7 +80,8 @@ module _ (b : List ℕ) (v : Valid b) (bytes : CostBytes b) where
   pub filled-least :
       (u : List ℕ) → abstractOk b u ≡ true → LeastCost (relabelBlock b) u (entry b (filled b) u)
   unfolding filled
-  filled-least = least-entry b v (leastCosts (graphOf (relabelBlock b))) (least-costs (graphOf (relabelBlock b)) cheap few)
+  filled-least =
+      least-entry b v (leastCosts (graphOf (relabelBlock b))) (least-costs (graphOf (relabelBlock b)) cheap few)
 
   pub filled-passes : passesTest b (filled b) ≡ true
   unfolding passesTest filled

@@ -1,5 +1,7 @@
--- The word of the next rank, label by label from the last position on: while the labels passed begin again, the word's first i labels are those of a number q, and the next word's those of
--- q + 1 (`Counting`). A label that can rise ends it (`counting-up`), one that cannot begins again (`counting-on`). The code that writes the words of all ranks rests on these.
+-- The word of the next rank, label by label from the last position on: while the labels
+-- passed begin again, the word's first i labels are those of a number q, and the next word's
+-- those of q + 1 (`Counting`). A label that can rise ends it (`counting-up`), one that cannot
+-- begins again (`counting-on`). The code that writes the words of all ranks rests on these.
 use mathlib.Core.Path.{_≡_, refl, sym, ap, ap₂, _∙_}
 use mathlib.Core.List.{List}
 use Prim.Native.Nat.{ℕ, suc, _+_, _*_, _/_, _%_, _^_, _≤_, _<_}
@@ -18,7 +20,8 @@ use Rattle.words.proofs.WordDigits.{pack-last, pack-below, power-fits}
 
 abbrev pub Counting : List ℕ → ℕ → ℕ → ℕ → Type 0
 Counting b u next i =
-    (q : ℕ) × (next ≡ pack (digits (abstractCount b) i q)) × (wordOf b (u + 1) ≡ pack (digits (abstractCount b) i (q + 1)))
+    (q : ℕ) × (next ≡ pack (digits (abstractCount b) i q))
+    × (wordOf b (u + 1) ≡ pack (digits (abstractCount b) i (q + 1)))
 
 module _ (b : List ℕ) (h : Headed b) where
   pub counting-first : (u word : ℕ) → word ≡ wordOf b u → Counting b u word (positions b)
@@ -34,13 +37,22 @@ module _ (b : List ℕ) (h : Headed b) where
       let s = digits (abstractCount b) m v in
       let e = length-digits (abstractCount b) m v in
       rw e at (pack-below s (λ k l.
-      omega (arith, digit-below (abstractCount b) (some-abstract b h) m v k (omega (arith, l, e)), abstract-count-low b h k)))
+      omega (
+        arith,
+        digit-below (abstractCount b) (some-abstract b h) m v k (omega (arith, l, e)),
+        abstract-count-low b h k,
+      )))
 
   -- one label more
-  last : (m v : ℕ) → pack (digits (abstractCount b) (suc m) v) ≡ pack (digits (abstractCount b) m (v / abstractCount b m)) + v % abstractCount b m * 16 ^ m
+  last :
+      (m v : ℕ)
+      → pack (digits (abstractCount b) (suc m) v)
+      ≡ pack (digits (abstractCount b) m (v / abstractCount b m)) + v % abstractCount b m * 16 ^ m
   last m v =
       let s = digits (abstractCount b) m (v / abstractCount b m) in
-      pack-last s (v % abstractCount b m) ∙ ap (λ (k : ℕ). pack s + v % abstractCount b m * 16 ^ k) (length-digits (abstractCount b) m (v / abstractCount b m))
+      pack-last s (v % abstractCount b m)
+      ∙ ap (λ (k : ℕ). pack s + v % abstractCount b m * 16 ^ k)
+      (length-digits (abstractCount b) m (v / abstractCount b m))
 
   module _ (m q : ℕ) where
     low : q % abstractCount b m < abstractCount b m
@@ -57,14 +69,18 @@ module _ (b : List ℕ) (h : Headed b) where
         ∙ ap (λ (x : ℕ). x % 16) (digits-div (q % abstractCount b m) (small m (q / abstractCount b m)))
         ∙ mod-eq-of-lt (omega (arith, low, abstract-count-low b h m))
 
-    rest : (next : ℕ) → next ≡ pack (digits (abstractCount b) (suc m) q) → next % 16 ^ m ≡ pack (digits (abstractCount b) m (q / abstractCount b m))
-    rest next e = ap (λ (x : ℕ). x % 16 ^ m) (split next e) ∙ digits-mod (q % abstractCount b m) (small m (q / abstractCount b m))
+    rest :
+        (next : ℕ) → next ≡ pack (digits (abstractCount b) (suc m) q)
+        → next % 16 ^ m ≡ pack (digits (abstractCount b) m (q / abstractCount b m))
+    rest next e =
+        ap (λ (x : ℕ). x % 16 ^ m) (split next e) ∙ digits-mod (q % abstractCount b m) (small m (q / abstractCount b m))
 
     whole : q / abstractCount b m * abstractCount b m + q % abstractCount b m ≡ q
     whole = div-add-mod' q (abstractCount b m)
 
     -- the last label can rise
-    risen : (next : ℕ) → next ≡ pack (digits (abstractCount b) (suc m) q) → q % abstractCount b m + 1 < abstractCount b m
+    risen :
+        (next : ℕ) → next ≡ pack (digits (abstractCount b) (suc m) q) → q % abstractCount b m + 1 < abstractCount b m
         → next + 16 ^ m ≡ pack (digits (abstractCount b) (suc m) (q + 1))
     risen next e l =
         let c = abstractCount b m in
@@ -76,7 +92,8 @@ module _ (b : List ℕ) (h : Headed b) where
 
     -- it cannot
     begun : q % abstractCount b m + 1 ≡ abstractCount b m
-        → pack (digits (abstractCount b) (suc m) (q + 1)) ≡ pack (digits (abstractCount b) m (q / abstractCount b m + 1))
+        → pack (digits (abstractCount b) (suc m) (q + 1))
+        ≡ pack (digits (abstractCount b) m (q / abstractCount b m + 1))
     begun l =
         let c = abstractCount b m in
         let up : q + 1 ≡ (q / c + 1) * c + 0 = omega (arith, whole, add-mul (q / c) 1 c, one-mul c) in

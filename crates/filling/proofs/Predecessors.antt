@@ -1,5 +1,5 @@
--- A candidate that the rule's test, its step and the words of the ranks confirm is a state that the rule takes to another (`candidate-lowers`).
--- The fast pass of the fill lowers no entry but by this.
+-- A candidate that the rule's test, its step and the words of the ranks confirm is a state that the rule takes to
+-- another (`candidate-lowers`). The fast pass of the fill lowers no entry but by this.
 use mathlib.Core.Path.{_≡_, sym, _∙_}
 use mathlib.Core.Bool.{Bool, true}
 use mathlib.Core.List.{List}
@@ -33,5 +33,7 @@ module _
         u-in = u-in;
         r-in = r-in;
         v-in = v-in;
-        edge = word-edge a code weights ready u r r-in v v-in (rw same at (sym tested ∙ applies)) (rw same at (sym stepped ∙ leads ∙ holds .word v v-in));
+        edge =
+            word-edge a code weights ready u r r-in v v-in (rw same at (sym tested ∙ applies))
+            (rw same at (sym stepped ∙ leads ∙ holds .word v v-in));
       }

@@ -1,5 +1,6 @@
--- The filled table of an exercise (`filled`), and what an entry of it is: `LeastCost`, where costs are bytes (`CostBytes`).
--- The call that fills a table is stated with the first; the second says what it means in the terms of the language.
+-- The filled table of an exercise (`filled`), and what an entry of it is:
+-- `LeastCost`, where costs are bytes (`CostBytes`). The call that fills a table is
+-- stated with the first; the second says what it means in the terms of the language.
 use mathlib.Core.Path.{_≡_}
 use mathlib.Core.Logic.{_⊎_}
 use mathlib.Core.Bool.{true}
@@ -20,8 +21,10 @@ filled b = leastCosts (graphOf (relabelBlock b))
 abbrev pub CostBytes : List ℕ → Type 0
 CostBytes b = (r : ℕ) → r < rules b → costOf b r ≤ 255
 
--- e is the least total cost of the lists of rules, of any length, that reach a goal from the state u; or it is the mark and there are none
+-- e is the least total cost of the lists of rules, of any length, that
+-- reach a goal from the state u; or it is the mark and there are none
 abbrev pub LeastCost : List ℕ → List ℕ → ℕ → Type 0
 LeastCost a u e =
     ((e ≡ mark) × ((rs : List ℕ) → reaches a u rs ≡ true → ⊥))
-    ⊎ ((e < mark) × ((rs : List ℕ) × (reaches a u rs ≡ true) × (totalCost a rs ≡ e)) × ((rs : List ℕ) → reaches a u rs ≡ true → e ≤ totalCost a rs))
+    ⊎ ((e < mark) × ((rs : List ℕ) × (reaches a u rs ≡ true) × (totalCost a rs ≡ e))
+    × ((rs : List ℕ) → reaches a u rs ≡ true → e ≤ totalCost a rs))

@@ -1,5 +1,5 @@
--- What an accepted text says: once the frames are accepted its bytes are as long as its head demands (`frames-accepted`, `block-sized`), so that only its content decides (`content-decides`),
--- and an accepted text holds a valid block (`read-valid`).
+-- What an accepted text says: once the frames are accepted its bytes are as long as its head demands
+-- (`frames-accepted`, `block-sized`), so that 4 cannot come, and an accepted text holds a valid block (`read-valid`).
 -- Reading an exercise, and `par`, rest on these.
 use mathlib.Core.Path.{_≡_, refl, sym, ap, _∙_, subst}
 use mathlib.Core.Bool.{true, _&&_}
@@ -13,11 +13,11 @@ use Rattle.basics.proofs.Truth.{and-true}
 use Rattle.refusals.specs.Answers.{told, verdict, _unless_}
 use Rattle.refusals.proofs.Verdicts.{verdict-told, verdict-parts}
 use Rattle.blocks.specs.Layout.{headLength, blockLength, frameCount, frameLength}
-use Rattle.blocks.specs.Validity.{headOk, blockConditions, Headed, Sized, Valid}
-use Rattle.blocks.proofs.Accepted.{headed, head-ok, length-ok, accepted-valid}
+use Rattle.blocks.specs.Validity.{headOk, contentConditions, Headed, Sized, Valid}
+use Rattle.blocks.proofs.Accepted.{headed, content-valid}
 use Rattle.blocks.proofs.FrameLaws.{frameAt, frames-all, same-length, same-head}
 use Rattle.frames.specs.Lines.{lineBytes}
-use Rattle.frames.specs.Reading.{headOf, blockOf, linesOk, headLineOk, linesFit, frameConditions, contentConditions, readConditions}
+use Rattle.frames.specs.Reading.{headOf, blockOf, linesOk, headLineOk, linesFit, frameConditions, readConditions}
 
 -- the block is the head and what stands in the other lines
 block-split : (ls : List (List ℕ)) → blockOf ls ≡ headOf ls ++ blockOf (tail ls)
@@ -27,7 +27,8 @@ block-split (l ∷ ls) = refl
 
 -- lines that fit from frame i on reach the block's end
 fit-length :
-    (head : List ℕ) (i : ℕ) (ls : List (List ℕ)) → linesFit head i ls ≡ true → frameAt head i + length (blockOf ls) ≡ blockLength head
+    (head : List ℕ) (i : ℕ) (ls : List (List ℕ)) → linesFit head i ls ≡ true
+    → frameAt head i + length (blockOf ls) ≡ blockLength head
 unfolding flatMap frameAt
 fit-length head i [] h =
     omega (arith, ap (frameAt head) (eqb-true i (frameCount head) h), frames-all head)
@@ -35,7 +36,8 @@ fit-length head i (l ∷ ls) h =
     let fits = eqb (length (lineBytes l)) (frameLength head i) in
     let p = and-true (ltb i (frameCount head)) (fits && linesFit head (suc i) ls) h in
     let q = and-true fits (linesFit head (suc i) ls) (p .1) in
-    omega (arith, eqb-true (length (lineBytes l)) (frameLength head i) (q .0), fit-length head (suc i) ls (q .1), length-append (lineBytes l) (blockOf ls))
+    let mine = eqb-true (length (lineBytes l)) (frameLength head i) (q .0) in
+    omega (arith, mine, fit-length head (suc i) ls (q .1), length-append (lineBytes l) (blockOf ls))
 
 module _ (ls : List (List ℕ)) (room : ℕ) where
   pub record FramesAccepted : Type 0 where
@@ -46,7 +48,7 @@ module _ (ls : List (List ℕ)) (room : ℕ) where
     pub room-left : blockLength (headOf ls) ≤ room
 
   pub frames-accepted : verdict (frameConditions ls room) ≡ told tt → FramesAccepted
-  unfolding readConditions
+  unfolding frameConditions
   frames-accepted h =
       let c₁₁ = 11 unless leb (blockLength (headOf ls)) room in
       let c₂ = 2 unless linesFit (headOf ls) 0 (tail ls) in
@@ -55,12 +57,13 @@ module _ (ls : List (List ℕ)) (room : ℕ) where
       let p₂ = verdict-told 2 (headLineOk ls) (c₃ ∷ c₂ ∷ c₁₁ ∷ []) (p₁ .1) in
       let p₃ = verdict-told 3 (headOk (headOf ls)) (c₂ ∷ c₁₁ ∷ []) (p₂ .1) in
       let q₂ = verdict-told 2 (linesFit (headOf ls) 0 (tail ls)) (c₁₁ ∷ []) (p₃ .1) in
+      let p₁₁ = verdict-told 11 (leb (blockLength (headOf ls)) room) [] (q₂ .1) in
       record {
         right = p₁ .0;
         five = eqb-true (length (headOf ls)) headLength (p₂ .0);
         head = headed (headOf ls) (p₃ .0);
         fit = q₂ .0;
-        room-left = leb-true (blockLength (headOf ls)) room (verdict-told 11 (leb (blockLength (headOf ls)) room) [] (q₂ .1) .0);
+        room-left = leb-true (blockLength (headOf ls)) room (p₁₁ .0);
       }
 
   module _ (a : FramesAccepted) where
@@ -68,7 +71,8 @@ module _ (ls : List (List ℕ)) (room : ℕ) where
     pub block-length : length (blockOf ls) ≡ blockLength (headOf ls)
     unfolding frameAt
     block-length =
-        omega (arith, ap length (block-split ls), length-append (headOf ls) (blockOf (tail ls)), a .five, fit-length (headOf ls) 0 (tail ls) (a .fit))
+        let behind = fit-length (headOf ls) 0 (tail ls) (a .fit) in
+        omega (arith, ap length (block-split ls), length-append (headOf ls) (blockOf (tail ls)), a .five, behind)
 
     -- and the block has that head
     pub block-sized : Sized (blockOf ls)
@@ -79,17 +83,9 @@ module _ (ls : List (List ℕ)) (room : ℕ) where
           len = block-length ∙ sym same;
         }
 
--- of a block with the right length only the content decides
-pub content-decides :
-    (ls : List (List ℕ)) (room : ℕ) → Sized (blockOf ls)
-    → verdict (blockConditions (blockOf ls)) ≡ verdict (contentConditions ls room)
-unfolding blockConditions readConditions
-content-decides ls room s = rw (head-ok (blockOf ls) (s .head), length-ok (blockOf ls) s)
-
 -- an accepted text holds a valid block
 pub read-valid : (ls : List (List ℕ)) (room : ℕ) → verdict (readConditions ls room) ≡ told tt → Valid (blockOf ls)
 unfolding readConditions
 read-valid ls room h =
-    let p = verdict-parts (frameConditions ls room) (contentConditions ls room) h in
-    let s = block-sized ls room (frames-accepted ls room (p .0)) in
-    accepted-valid (blockOf ls) (content-decides ls room s ∙ p .1)
+    let p = verdict-parts (frameConditions ls room) (contentConditions (blockOf ls)) h in
+    content-valid (blockOf ls) (block-sized ls room (frames-accepted ls room (p .0))) (p .1)

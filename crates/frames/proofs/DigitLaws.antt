@@ -1,4 +1,5 @@
--- Digits by their ranges (`decimal`, `letter`), and what is none (`below`, `between`, `above`); the digit of a value has that value (`digit-back`).
+-- Digits by their ranges (`decimal`, `letter`), and what is none (`below`, `between`, `above`); the digit of a value
+-- has that value (`digit-back`).
 -- The functions on single characters, and that what is written can be read, rest on these.
 use mathlib.Core.Path.{_≡_}
 use mathlib.Core.Logic.{⊎-elim}

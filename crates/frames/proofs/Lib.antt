@@ -1,5 +1,6 @@
 -- The laws of digits, of lines and of reading, and what the walks over a reader share.
--- The proofs of the reader's functions, what is said of printed lines, and what is said of the input of `par`, rest on them.
+-- The proofs of the reader's functions, what is said of printed lines, and what is said of the input of `par`, rest on
+-- them.
 pub mod DigitLaws
 pub mod PairLaws
 pub mod LineLaws

@@ -1,5 +1,5 @@
--- Laws of lines: the line at a place goes up to its line feed (`line-feed`, `line-more`), it is a part of the text (`line-part`), and the lines from a place on are that line and
--- the lines behind it (`lines-from`).
+-- Laws of lines: the line at a place goes up to its line feed (`line-feed`, `line-more`), it is a part of the text
+-- (`line-part`), and the lines from a place on are that line and the lines behind it (`lines-from`).
 -- The loops of the reader and of `par` rest on these.
 use mathlib.Core.Path.{_≡_, refl, ap, _∙_}
 use mathlib.Core.Logic.{⊎-elim}
@@ -22,21 +22,23 @@ front-first c [] = refl
 front-first c (l ∷ ls) = refl
 
 -- the lines of a text are the first one and the lines behind it
-lines-split : (c : ℕ) (x : List ℕ) → linesOf (c ∷ x) ≡ firstLine (linesOf (c ∷ x)) ∷ linesOf (drop (length (firstLine (linesOf (c ∷ x)))) (c ∷ x))
+abbrev FirstApart : List (List ℕ) → List ℕ → Type 0
+FirstApart ls x = ls ≡ firstLine ls ∷ linesOf (drop (length (firstLine ls)) x)
+
+lines-split : (c : ℕ) (x : List ℕ) → FirstApart (linesOf (c ∷ x)) (c ∷ x)
 lines-split c [] = go (eqb c lineFeed)
   where
-    go : (t : Bool) → inFront t c [] ≡ firstLine (inFront t c []) ∷ linesOf (drop (length (firstLine (inFront t c []))) (c ∷ []))
+    go : (t : Bool) → FirstApart (inFront t c []) (c ∷ [])
     go true = refl
     go false = refl
 lines-split c (d ∷ y) = go (lines-split d y) (eqb c lineFeed)
   where
     go :
-        linesOf (d ∷ y) ≡ firstLine (linesOf (d ∷ y)) ∷ linesOf (drop (length (firstLine (linesOf (d ∷ y)))) (d ∷ y))
-        → (t : Bool) → inFront t c (linesOf (d ∷ y)) ≡ firstLine (inFront t c (linesOf (d ∷ y))) ∷ linesOf (drop (length (firstLine (inFront t c (linesOf (d ∷ y))))) (c ∷ d ∷ y))
+        FirstApart (linesOf (d ∷ y)) (d ∷ y) → (t : Bool) → FirstApart (inFront t c (linesOf (d ∷ y))) (c ∷ d ∷ y)
     go ih true = refl
     go ih false = rw (front-first c (linesOf (d ∷ y))) (ap (inFront false c) ih)
 
-lines-some : (x : List ℕ) → 0 < length x → linesOf x ≡ firstLine (linesOf x) ∷ linesOf (drop (length (firstLine (linesOf x))) x)
+lines-some : (x : List ℕ) → 0 < length x → FirstApart (linesOf x) x
 lines-some [] l = absurd (omega arith)
 lines-some (c ∷ x) l = lines-split c x
 
@@ -85,7 +87,8 @@ module _ (x : List ℕ) (at : ℕ) where
     -- it has a character
     pub line-some : 1 ≤ length (lineFrom x at)
     line-some =
-        ⊎-elim (λ e. rw (line-feed e) (omega arith)) (λ n. rw (line-more n) (omega arith)) (same? (getD x at 0) lineFeed)
+        ⊎-elim (λ e. rw (line-feed e) (omega arith)) (λ n. rw (line-more n) (omega arith))
+        (same? (getD x at 0) lineFeed)
 
   -- and ends in the text
   pub line-inside : at ≤ length x → at + length (lineFrom x at) ≤ length x

@@ -1,5 +1,6 @@
--- Lines before and behind a place where a line ends: the text up to there has the lines before it (`lines-take`), the text from there on the others (`lines-drop`), and the place is found
--- line by line (`end-step`); the lines of a text make it up (`lines-joined`).
+-- Lines before and behind a place where a line ends: the text up to there has the lines before it (`lines-take`), the
+-- text from there on the others (`lines-drop`), and the place is found line by line (`end-step`); the lines of a text
+-- make it up (`lines-joined`).
 -- What `par` hands to the reader, and what it takes for queries, rest on these.
 use mathlib.Core.Path.{_≡_, refl, ap, _∙_}
 use mathlib.Core.Logic.{⊎-elim}
@@ -80,11 +81,13 @@ end-step x at k = ⊎-elim inside outside (below? at (length x))
 
     inside : at < length x → at + lengthTo (suc k) (drop at x) ≡ behind + lengthTo k (drop behind x)
     inside l =
-        omega (arith, ap (λ (ls : List (List ℕ)). length (flatten (take (suc k) ls))) (lines-from x at l), length-append (lineFrom x at) (flatten (take k (linesOf (drop behind x)))))
+        let lines = ap (λ (ls : List (List ℕ)). length (flatten (take (suc k) ls))) (lines-from x at l) in
+        omega (arith, lines, length-append (lineFrom x at) (flatten (take k (linesOf (drop behind x)))))
 
     -- the end of the text has no line
     none : (i j : ℕ) → length x ≤ i → lengthTo j (drop i x) ≡ 0
-    none i j l = ap (lengthTo j) (drop-of-length-le x l) ∙ ap (λ (ls : List (List ℕ)). length (flatten ls)) (take-nil j)
+    none i j l =
+        ap (lengthTo j) (drop-of-length-le x l) ∙ ap (λ (ls : List (List ℕ)). length (flatten ls)) (take-nil j)
 
     outside : length x ≤ at → at + lengthTo (suc k) (drop at x) ≡ behind + lengthTo k (drop behind x)
     outside l =

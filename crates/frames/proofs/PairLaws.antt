@@ -1,5 +1,6 @@
--- Inside a line: it has half as many bytes as characters (`half-length`), pair by pair it is right (`pair-ok`, `last-ok`, `none-ok`) and makes bytes (`pair-bytes`, `no-bytes`), and the
--- line of bytes is written byte by byte (`byte-apart`).
+-- Inside a line: it has half as many bytes as characters (`half-length`), pair by pair it is right (`pair-ok`,
+-- `last-ok`, `none-ok`) and makes bytes (`pair-bytes`, `no-bytes`), and the line of bytes is written byte by byte
+-- (`byte-apart`).
 -- The functions that test, read and write one line rest on these.
 use mathlib.Core.Path.{_≡_, refl, sym, ap, _∙_}
 use mathlib.Core.Bool.{false, _&&_}
@@ -32,7 +33,9 @@ module _ (l : List ℕ) (i : ℕ) where
       let k : length l ≤ suc i = omega arith in
       drop-cons l i 0 (omega arith) ∙ ap (λ (y : List ℕ). getD l i 0 ∷ y) (drop-of-length-le l k)
 
-  pub pair-ok : i + 1 < length l → lineOk (drop i l) ≡ ((isDigit (getD l i 0) && isDigit (getD l (i + 1) 0)) && lineOk (drop (i + 2) l))
+  pub pair-ok :
+      i + 1 < length l
+      → lineOk (drop i l) ≡ ((isDigit (getD l i 0) && isDigit (getD l (i + 1) 0)) && lineOk (drop (i + 2) l))
   pair-ok h = ap lineOk (pair-apart h)
 
   pub last-ok : i + 1 ≡ length l → lineOk (drop i l) ≡ eqb (getD l i 0) lineFeed
@@ -42,16 +45,20 @@ module _ (l : List ℕ) (i : ℕ) where
   none-ok h = ap lineOk (drop-of-length-le l h)
 
   pub pair-bytes :
-      i + 1 < length l → lineBytes (drop i l) ≡ (16 * digitValue (getD l i 0) + digitValue (getD l (i + 1) 0)) ∷ lineBytes (drop (i + 2) l)
+      i + 1 < length l
+      → lineBytes (drop i l)
+      ≡ (16 * digitValue (getD l i 0) + digitValue (getD l (i + 1) 0)) ∷ lineBytes (drop (i + 2) l)
   pair-bytes h = ap lineBytes (pair-apart h)
 
 -- the line of bytes from i on: the digits of the first one, and the rest
 pub byte-apart :
     (bytes : List ℕ) (i : ℕ) → i < length bytes
-    → lineOf (drop i bytes) ≡ digitOf (getD bytes i 0 / 16) ∷ digitOf (getD bytes i 0 % 16) ∷ lineOf (drop (i + 1) bytes)
+    → lineOf (drop i bytes)
+    ≡ digitOf (getD bytes i 0 / 16) ∷ digitOf (getD bytes i 0 % 16) ∷ lineOf (drop (i + 1) bytes)
 byte-apart bytes i l =
+    let b = getD bytes i 0 in
     ap lineOf (drop-cons bytes i 0 l)
-    ∙ ap (λ (k : ℕ). digitOf (getD bytes i 0 / 16) ∷ digitOf (getD bytes i 0 % 16) ∷ lineOf (drop k bytes)) (sym (add-one i))
+    ∙ ap (λ (k : ℕ). digitOf (b / 16) ∷ digitOf (b % 16) ∷ lineOf (drop k bytes)) (sym (add-one i))
 
 -- a single character makes no byte
 pub no-bytes : (l : List ℕ) → length l ≤ 1 → lineBytes l ≡ []

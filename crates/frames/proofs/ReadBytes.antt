@@ -13,15 +13,20 @@ use Rattle.frames.proofs.DigitLaws.{decimal, letter, below, between, ab
 
 -- a digit's value is below 16
 digit-small : (c : ℕ) → digitValue c ≤ 15
-digit-small c =
-    ⊎-elim (λ l. omega (arith, below c l .value))
-    (λ a.
-    ⊎-elim (λ l. let h : c ≤ 57 = omega arith in omega (arith, decimal c a h .value))
-    (λ d.
-    ⊎-elim (λ l. let h : 57 < c = omega arith in omega (arith, between c h l .value))
-    (λ e.
-    ⊎-elim (λ l. let h : c ≤ 70 = omega arith in omega (arith, letter c e h .value))
-    (λ f. let h : 70 < c = omega arith in omega (arith, above c h .value)) (below? c 71)) (below? c 65)) (below? c 58)) (below? c 48)
+digit-small c = ⊎-elim (λ l. omega (arith, below c l .value)) from-48 (below? c 48)
+  where
+    from-65 : 65 ≤ c → digitValue c ≤ 15
+    from-65 a =
+        ⊎-elim (λ l. let h : c ≤ 70 = omega arith in omega (arith, letter c a h .value))
+        (λ b. let h : 70 < c = omega arith in omega (arith, above c h .value)) (below? c 71)
+
+    from-58 : 58 ≤ c → digitValue c ≤ 15
+    from-58 a =
+        ⊎-elim (λ l. let h : 57 < c = omega arith in omega (arith, between c h l .value)) from-65 (below? c 65)
+
+    from-48 : 48 ≤ c → digitValue c ≤ 15
+    from-48 a =
+        ⊎-elim (λ l. let h : c ≤ 57 = omega arith in omega (arith, decimal c a h .value)) from-58 (below? c 58)
 
 pub line-small : (l : List ℕ) → Bytes (lineBytes l)
 line-small [] i = omega arith

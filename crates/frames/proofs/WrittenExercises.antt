@@ -1,4 +1,5 @@
--- Every valid block can be read from its text: `read-written`. Its frames make it up, their lines pass every condition of the reader, and so it stands in the buffer again.
+-- Every valid block can be read from its text: `read-written`. Its frames make it up, their lines pass every condition
+-- of the reader, and so it stands in the buffer again.
 -- It shows that the reader refuses no valid block's text, given the room.
 use mathlib.Core.Path.{_≡_, refl, sym, ap, ap₂, _∙_, subst}
 use mathlib.Core.Bool.{true}
@@ -16,19 +17,20 @@ use Rattle.basics.proofs.ByteLists.{bytes-take, bytes-drop}
 use Rattle.refusals.specs.Answers.{told, verdict, outcome}
 use Rattle.refusals.proofs.Verdicts.{verdict-behind}
 use Rattle.blocks.specs.Layout.{headLength, blockLength, frameCount, frameLength}
-use Rattle.blocks.specs.Validity.{Headed, Sized, Valid, blockConditions}
-use Rattle.blocks.proofs.Accepted.{head-ok, valid-accepted}
+use Rattle.blocks.specs.Validity.{contentConditions, Headed, Valid}
+use Rattle.blocks.proofs.Accepted.{head-ok, content-accepted}
 use Rattle.blocks.proofs.FrameLaws.{frameAt, frames-all, frames-rise, same-length, head-alone}
 use Rattle.frames.specs.Lines.{lineOk, lineBytes, lineOf}
-use Rattle.frames.specs.Reading.{headOf, blockOf, linesOk, linesFit, readConditions, frameConditions, contentConditions, readExercise}
+use Rattle.frames.specs.Reading.{headOf, blockOf, linesOk, linesFit}
+use Rattle.frames.specs.Reading.{readConditions, frameConditions, readExercise}
 use Rattle.frames.specs.Writing.{framesFrom, framesOf, textOf}
-use Rattle.frames.proofs.AcceptedText.{content-decides}
 use Rattle.frames.proofs.WrittenLines.{AllBytes, written-ok, written-bytes, written-lines}
 
 frames-bytes : (head : List ℕ) (i k : ℕ) (rest : List ℕ) → Bytes rest → AllBytes (framesFrom head i k rest)
 frames-bytes head i zero rest small = tt
 frames-bytes head i (suc k) rest small =
-    (bytes-take (frameLength head i) rest small, frames-bytes head (suc i) k (drop (frameLength head i) rest) (bytes-drop (frameLength head i) rest small))
+    let f = frameLength head i in
+    (bytes-take f rest small, frames-bytes head (suc i) k (drop f rest) (bytes-drop f rest small))
 
 -- written frames: each line is right, and their bytes are the frames
 lines-right : (fs : List (List ℕ)) → AllBytes fs → linesOk (map lineOf fs) ≡ true
@@ -66,7 +68,8 @@ module _ (head : List ℕ) where
   frames-joined i zero (b ∷ rest) l = absurd (omega (arith, l, ap (frameAt head) (add-zero i)))
   frames-joined i (suc k) rest l =
       let f = frameLength head i in
-      ap (λ (x : List ℕ). take f rest ++ x) (frames-joined (suc i) k (drop f rest) (left-on i k rest l)) ∙ take-append-drop f rest
+      ap (λ (x : List ℕ). take f rest ++ x) (frames-joined (suc i) k (drop f rest) (left-on i k rest l))
+      ∙ take-append-drop f rest
 
   frames-fit :
       (i k : ℕ) (rest : List ℕ) → i + k ≡ frameCount head → Bytes rest → Left i k rest
@@ -74,9 +77,11 @@ module _ (head : List ℕ) where
   frames-fit i zero rest e small l = eq-eqb i (frameCount head) (omega arith)
   frames-fit i (suc k) rest e small l =
       let f = frameLength head i in
-      let long : length (lineBytes (lineOf (take f rest))) ≡ f = ap length (written-bytes (take f rest) (bytes-take f rest small)) ∙ length-take-le f rest (enough i k rest l) in
+      let n = length (lineBytes (lineOf (take f rest))) in
+      let back = written-bytes (take f rest) (bytes-take f rest small) in
+      let long : n ≡ f = ap length back ∙ length-take-le f rest (enough i k rest l) in
       and-intro (ltb i (frameCount head)) _ (lt-ltb i (frameCount head) (omega arith))
-      (and-intro (eqb (length (lineBytes (lineOf (take f rest)))) f) _ (eq-eqb (length (lineBytes (lineOf (take f rest)))) f long)
+      (and-intro (eqb n f) _ (eq-eqb n f long)
       (frames-fit (suc i) k (drop f rest) (omega arith) (bytes-drop f rest small) (left-on i k rest l)))
 
 module _ (b : List ℕ) (v : Valid b) (small : Bytes b) where
@@ -103,7 +108,8 @@ module _ (b : List ℕ) (v : Valid b) (small : Bytes b) where
   left : Left head 0 (frameCount head) rest
   unfolding frameAt
   left =
-      omega (arith, ap (frameAt head) (zero-add (frameCount head)), frames-all head, long, length-drop headLength b, v .sized .head .long)
+      let all = ap (frameAt head) (zero-add (frameCount head)) in
+      omega (arith, all, frames-all head, long, length-drop headLength b, v .sized .head .long)
 
   all-bytes : AllBytes (framesOf b)
   all-bytes =
@@ -121,19 +127,23 @@ module _ (b : List ℕ) (v : Valid b) (small : Bytes b) where
       ∙ take-append-drop headLength b
 
   frames-pass : (room : ℕ) → length b ≤ room → verdict (frameConditions lines room) ≡ told tt
-  unfolding readConditions
+  unfolding frameConditions
   frames-pass room l =
-      rw (lines-right (framesOf b) all-bytes, head-back, eq-eqb (length head) headLength five, head-ok head head-right, frames-fit head 0 (frameCount head) rest (zero-add (frameCount head)) (bytes-drop headLength b small) left, le-leb (blockLength head) room (omega (arith, long)))
+      let right = lines-right (framesOf b) all-bytes in
+      let ten = eq-eqb (length head) headLength five in
+      let count = frameCount head in
+      let fit = frames-fit head 0 count rest (zero-add count) (bytes-drop headLength b small) left in
+      let short = le-leb (blockLength head) room (omega (arith, long)) in
+      rw (right, head-back, ten, head-ok head head-right, fit, short)
 
-  content-passes : (room : ℕ) → verdict (contentConditions lines room) ≡ told tt
-  content-passes room =
-      sym (content-decides lines room (subst Sized (sym block-back) (v .sized)))
-      ∙ ap (λ (x : List ℕ). verdict (blockConditions x)) block-back ∙ valid-accepted b v
+  content-passes : verdict (contentConditions (blockOf lines)) ≡ told tt
+  content-passes = content-accepted (blockOf lines) (subst Valid (sym block-back) v)
 
   passes : (room : ℕ) → length b ≤ room → verdict (readConditions lines room) ≡ told tt
   unfolding readConditions
   passes room l =
-      verdict-behind (frameConditions lines room) (contentConditions lines room) (frames-pass room l) ∙ content-passes room
+      verdict-behind (frameConditions lines room) (contentConditions (blockOf lines)) (frames-pass room l)
+      ∙ content-passes
 
   pub read-written :
       (out : List ℕ) → length b ≤ length out → readExercise (textOf b) out ≡ outcome (told (length b)) (atFront b out)

@@ -1,5 +1,5 @@
--- Text as lines (`linesOf`), and a line as bytes: whether it is pairs of digits with a line feed (`lineOk`), the bytes of its pairs (`lineBytes`), and the line that
--- bytes are written as (`lineOf`).
+-- Text as lines (`linesOf`), and a line as bytes: whether it is pairs of digits with a line feed (`lineOk`), the bytes
+-- of its pairs (`lineBytes`), and the line that bytes are written as (`lineOf`).
 -- The reader and all that `par` prints are stated with these.
 use Prim.Native.Nat.{ℕ, _+_, _-_, _*_, _/_, _%_}
 use mathlib.Core.Bool.{Bool, true, false, cond, _&&_, _||_}

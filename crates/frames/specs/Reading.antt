@@ -1,17 +1,21 @@
--- Reading an exercise, as a public call: `readExercise` is the answer with the final contents of the lent buffer, for every text.
--- `readConditions` are the numbers in the reader's order, over the text's lines; `readingOf` gives the document's answer for each case of the enum.
+-- Reading an exercise from its lines: `readExercise` is the answer with the final contents of the lent buffer, for
+-- every text. `readConditions` are the numbers in the reader's order, over the text's lines; `readingOf` gives the
+-- document's answer for each case of the enum. The public call of `text_calls`, and opening an exercise in `par`, are
+-- stated so.
+use mathlib.Core.Path.{_≡_}
 use Prim.Native.Nat.{ℕ, suc}
 use mathlib.Core.Bool.{Bool, true, _&&_}
-use mathlib.Core.List.{List, [], _∷_, flatMap, tail}
+use mathlib.Core.List.{List, [], _∷_, _++_, flatMap, tail}
 use lib.Dec.{leb, ltb, eqb}
-use lib.ListN.{length, take, drop}
+use lib.ListN.{length}
 use Rattle.basics.specs.Lists.{atFront}
 use Rattle.refusals.specs.Answers.{Answer, refused, told, Condition, _unless_, verdict, Outcome, outcome, guarded}
-use Rattle.refusals.specs.Refusals.{refusalNumber}
+use Rattle.refusals.specs.Refusals.{refusalNumber, verdictOf}
 use Rattle.blocks.specs.Layout.{headLength, blockLength, frameCount, frameLength}
-use Rattle.blocks.specs.Validity.{headOk, mapOk, termsOk, boundOk}
+use Rattle.blocks.specs.Validity.{headOk, contentConditions}
 use Rattle.frames.specs.Lines.{linesOf, lineOk, lineBytes}
 use Rattle.frames.specs.Places.{firstLine}
+use Rattle.frames.specs.declared.reading.Heading.{Heading}
 use Rattle.frames.specs.declared.reading.Reading.{Reading}
 use Rattle.frames.specs.declared.reading.Reading.the-variants.{Done, Refused}
 
@@ -42,25 +46,28 @@ linesFit head i [] = eqb i (frameCount head)
 linesFit head i (l ∷ ls) =
     ltb i (frameCount head) && (eqb (length (lineBytes l)) (frameLength head i) && linesFit head (suc i) ls)
 
--- "The reader's order is 1, 2 (head line), 3, 2 (others), 11, 5, 6, 7"; `room` is the length of the buffer
-unfoldable pub readConditions : List (List ℕ) → ℕ → List Condition
-readConditions ls room =
+-- what turns the head back: 2 for its line, 3
+abbrev pub headConditions : List (List ℕ) → List Condition
+headConditions ls = 2 unless headLineOk ls ∷ 3 unless headOk (headOf ls) ∷ []
+
+-- the numbers of the lines, the head and the room for the block; `room` is the length of the buffer
+unfoldable pub frameConditions : List (List ℕ) → ℕ → List Condition
+frameConditions ls room =
     1 unless linesOk ls
-    ∷ 2 unless headLineOk ls
-    ∷ 3 unless headOk (headOf ls)
-    ∷ 2 unless linesFit (headOf ls) 0 (tail ls)
-    ∷ 11 unless leb (blockLength (headOf ls)) room
-    ∷ 5 unless mapOk (blockOf ls)
-    ∷ 6 unless termsOk (blockOf ls)
-    ∷ 7 unless boundOk (blockOf ls)
-    ∷ []
+    ∷ (headConditions ls
+    ++ (2 unless linesFit (headOf ls) 0 (tail ls) ∷ 11 unless leb (blockLength (headOf ls)) room ∷ []))
 
--- those on lines, head and room, and those on what the block holds
-abbrev pub frameConditions : List (List ℕ) → ℕ → List Condition
-frameConditions ls room = take 5 (readConditions ls room)
+-- "The reader's order is 1, 2 (head line), 3, 2 (others), 11, 5, 6, 7"
+unfoldable pub readConditions : List (List ℕ) → ℕ → List Condition
+readConditions ls room = frameConditions ls room ++ contentConditions (blockOf ls)
 
-abbrev pub contentConditions : List (List ℕ) → ℕ → List Condition
-contentConditions ls room = drop 5 (readConditions ls room)
+-- what is told of the head line of some lines: whether it is right, how long it is, what turns the head back, and the
+-- head where nothing does
+pub record HeadRead (ls : List (List ℕ)) (r : Heading) : Type 0 where
+  pub right : r .ok ≡ lineOk (firstLine ls)
+  pub onward : r .next ≡ length (firstLine ls)
+  pub judged : verdictOf (r .verdict) ≡ verdict (headConditions ls)
+  pub decoded : verdict (headConditions ls) ≡ told tt → r .head ≡ headOf ls
 
 -- the block stands at the front of the buffer
 unfoldable pub readExercise : List ℕ → List ℕ → Outcome ℕ

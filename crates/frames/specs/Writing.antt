@@ -9,7 +9,8 @@ use Rattle.frames.specs.Lines.{lineOf}
 -- k frames from frame i on, cut from what stands there
 abbrev pub framesFrom : List ℕ → ℕ → ℕ → List ℕ → List (List ℕ)
 framesFrom head i zero rest = []
-framesFrom head i (suc k) rest = take (frameLength head i) rest ∷ framesFrom head (suc i) k (drop (frameLength head i) rest)
+framesFrom head i (suc k) rest =
+    take (frameLength head i) rest ∷ framesFrom head (suc i) k (drop (frameLength head i) rest)
 
 -- the head, and the frames behind it
 abbrev pub framesOf : List ℕ → List (List ℕ)

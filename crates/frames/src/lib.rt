@@ -4,6 +4,7 @@ pub mod lines;
 pub mod reader;
 mod reading;
 
+pub use reading::Heading;
 pub use reading::Reading;
-pub use reading::decode_head;
-pub use reading::read_exercise;
+pub use reading::read_head;
+pub use reading::read_text;

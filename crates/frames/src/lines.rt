@@ -14,7 +14,8 @@ use basics::and;
 // The character that ends a line.
 const LINE_FEED: u8 = 10;
 
-// What stands at a place of a text: whether the line there is pairs of digits with a line feed, how many bytes its pairs make, and the place behind it.
+// What stands at a place of a text: whether the line there is pairs of digits with a line feed, how many bytes its
+// pairs make, and the place behind it.
 pub struct Line {
     pub ok: bool,
     pub bytes: usize,
@@ -75,7 +76,8 @@ pub fn line_at(text: &[u8], at: usize) -> Line
 // Writes the bytes of a line from `to` on, and gives the place behind them.
 pub fn decode_line(line: &[u8], out: &mut [u8], to: usize) -> usize
     requires { ⌜ to + length (lineBytes (now line)) ≤ length (now out) ⌝ }
-    ensures { λ at. ⌜ (at ≡ to + length (lineBytes (now (line .entry)))) × (now (out .exit) ≡ sets (now (out .entry)) to (lineBytes (now (line .entry)))) ⌝ }
+    ensures { λ at. ⌜ (at ≡ to + length (lineBytes (now (line .entry))))
+        × (now (out .exit) ≡ sets (now (out .entry)) to (lineBytes (now (line .entry)))) ⌝ }
 {
     let mut at = to;
     let mut i: usize = 0;
@@ -90,7 +92,8 @@ pub fn decode_line(line: &[u8], out: &mut [u8], to: usize) -> usize
 // Writes bytes as a line at the front of `out`, and gives its length.
 pub fn encode_line(bytes: &[u8], out: &mut [u8]) -> usize
     requires { ⌜ length (lineOf (now bytes)) ≤ length (now out) ⌝ }
-    ensures { λ at. ⌜ (at ≡ length (lineOf (now (bytes .entry)))) × (now (out .exit) ≡ atFront (lineOf (now (bytes .entry))) (now (out .entry))) ⌝ }
+    ensures { λ at. ⌜ (at ≡ length (lineOf (now (bytes .entry))))
+        × (now (out .exit) ≡ atFront (lineOf (now (bytes .entry))) (now (out .entry))) ⌝ }
 {
     let mut at: usize = 0;
     let mut i: usize = 0;

@@ -1,4 +1,4 @@
-// Reading an exercise from its text.
+// Reading an exercise from its text: its head line first, then the whole of it.
 ghost use mathlib.Core.Path.{_≡_};
 ghost use mathlib.Core.Bool.{true};
 ghost use Prim.Native.Nat.{_≤_};
@@ -8,12 +8,16 @@ ghost use Rattle.refusals.specs.Answers.{verdict, outcome};
 ghost use Rattle.refusals.specs.Refusals.{verdictOf};
 ghost use Rattle.blocks.specs.Validity.{Headed};
 ghost use Rattle.frames.specs.Lines.{linesOf};
-ghost use Rattle.frames.specs.Reading.{readingOf, headOf, blockOf, linesOk, headLineOk, linesFit, frameConditions, readExercise};
+ghost use Rattle.frames.specs.Reading.{readingOf, headOf, blockOf, linesOk, headLineOk, linesFit, HeadRead};
+ghost use Rattle.frames.specs.Reading.{frameConditions, readExercise};
 use super::lines::decode_line;
 use super::lines::line_end;
 use super::reader::read_line;
 use basics::copy;
 use blocks::layout;
+use blocks::layout::BLOCK_ROOM;
+use blocks::layout::HEAD_LENGTH;
+use blocks::layout::Head;
 use refusals::Refusal;
 use refusals::Verdict;
 
@@ -21,6 +25,15 @@ use refusals::Verdict;
 pub enum Reading {
     Done(usize),
     Refused(Refusal),
+}
+
+// The head line of a text: whether it is pairs of digits with a line feed, and the place behind it; what turns its head
+// back, and the head's bytes where nothing does.
+pub struct Heading {
+    pub ok: bool,
+    pub next: usize,
+    pub verdict: Verdict,
+    pub head: Head,
 }
 
 // Whether each line of a text is pairs of digits with a line feed.
@@ -38,7 +51,8 @@ fn lines_ok(text: &[u8]) -> bool
     true
 }
 
-// Whether the lines from `from` on are as many as the head demands, each of its frame's length. Digits are not tested again: two characters make a byte, whatever they are.
+// Whether the lines from `from` on are as many as the head demands, each of its frame's length. Digits are not tested
+// again: two characters make a byte, whatever they are.
 fn lines_fit(head: &[u8], text: &[u8], from: usize) -> bool
     requires { ⌜ Headed (now head) ⌝ }
     ensures { λ r. ⌜ r ≡ linesFit (now (head .entry)) 0 (linesOf (drop from (now (text .entry)))) ⌝ }
@@ -60,40 +74,62 @@ fn lines_fit(head: &[u8], text: &[u8], from: usize) -> bool
     i == count
 }
 
-// Whether the head line of a text has ten digits.
-fn head_line_ok(text: &[u8]) -> bool
-    ensures { λ r. ⌜ r ≡ headLineOk (linesOf (now (text .entry))) ⌝ }
-{
-    let line = read_line(text, 0);
-    line.bytes == layout::HEAD_LENGTH
-}
-
 // The bytes of the head line.
-pub fn decode_head(text: &[u8]) -> [u8; 5]
+fn decode_head(text: &[u8]) -> Head
     requires { ⌜ headLineOk (linesOf (now text)) ≡ true ⌝ }
     ensures { λ r. ⌜ r ≡ headOf (linesOf (now (text .entry))) ⌝ }
 {
-    let mut head = [0u8; layout::HEAD_LENGTH];
+    let mut head = [0u8; HEAD_LENGTH];
     let end = line_end(text, 0);
     decode_line(&text[..end], &mut head, 0);
     head
 }
 
-// The lines and the head of a text, and the room for its block: 1, 2 for the head line, 3, 2 for the others, 11.
-fn check_lines(text: &[u8], room: usize) -> Verdict
+// The head line of a text. Its head is refused with 2 or 3.
+pub fn read_head(text: &[u8]) -> Heading
+    ensures { λ r. ⌜ HeadRead (linesOf (now (text .entry))) r ⌝ }
+{
+    let line = read_line(text, 0);
+    let ok = line.ok;
+    let next = line.next;
+    if line.bytes != HEAD_LENGTH {
+        let verdict = Verdict::Refused(Refusal::Line);
+        let head = [0u8; HEAD_LENGTH];
+        return Heading {
+            ok,
+            next,
+            verdict,
+            head,
+        };
+    }
+    let head = decode_head(text);
+    let mut verdict = Verdict::Accepted;
+    if !blocks::validity::head_ok(&head) {
+        verdict = Verdict::Refused(Refusal::Head);
+    }
+    Heading {
+        ok,
+        next,
+        verdict,
+        head,
+    }
+}
+
+// The lines of a text, whose head line has been read, and the room for its block: 1, what turns the head back, 2 for
+// the other lines, 11.
+fn check_lines(text: &[u8], heading: Heading, room: usize) -> Verdict
+    requires { ⌜ HeadRead (linesOf (now text)) heading ⌝ }
     ensures { λ r. ⌜ verdictOf r ≡ verdict (frameConditions (linesOf (now (text .entry))) room) ⌝ }
 {
     if !lines_ok(text) {
         return Verdict::Refused(Refusal::Character);
     }
-    if !head_line_ok(text) {
-        return Verdict::Refused(Refusal::Line);
+    let judged = heading.verdict;
+    if let Verdict::Refused(refusal) = judged {
+        return Verdict::Refused(refusal);
     }
-    let head = decode_head(text);
-    if !blocks::validity::head_ok(&head) {
-        return Verdict::Refused(Refusal::Head);
-    }
-    if !lines_fit(&head, text, line_end(text, 0)) {
+    let head = heading.head;
+    if !lines_fit(&head, text, heading.next) {
         return Verdict::Refused(Refusal::Line);
     }
     if room < layout::block_length(&head) {
@@ -105,7 +141,8 @@ fn check_lines(text: &[u8], room: usize) -> Verdict
 // Writes the bytes of all lines of a text at the front of `out`, and gives their number.
 fn decode_lines(text: &[u8], out: &mut [u8]) -> usize
     requires { ⌜ length (blockOf (linesOf (now text))) ≤ length (now out) ⌝ }
-    ensures { λ n. ⌜ (n ≡ length (blockOf (linesOf (now (text .entry))))) × (now (out .exit) ≡ atFront (blockOf (linesOf (now (text .entry)))) (now (out .entry))) ⌝ }
+    ensures { λ n. ⌜ (n ≡ length (blockOf (linesOf (now (text .entry)))))
+        × (now (out .exit) ≡ atFront (blockOf (linesOf (now (text .entry)))) (now (out .entry))) ⌝ }
 {
     let mut at: usize = 0;
     let mut to: usize = 0;
@@ -117,17 +154,18 @@ fn decode_lines(text: &[u8], out: &mut [u8]) -> usize
     to
 }
 
-// Reads an exercise from its text: its block is written at the front of `out`. Refused with 1, 2 (head line), 3, 2 (other lines), 11, 5, 6, 7, in this order.
-pub fn read_exercise(text: &[u8], out: &mut [u8]) -> Reading
+// Reads an exercise from its text, whose head line has been read: its block is written at the front of `out`.
+pub fn read_text(text: &[u8], heading: Heading, out: &mut [u8]) -> Reading
+    requires { ⌜ HeadRead (linesOf (now text)) heading ⌝ }
     ensures { λ r. ⌜ outcome (readingOf r) (now (out .exit)) ≡ readExercise (now (text .entry)) (now (out .entry)) ⌝ }
 {
-    let checked = check_lines(text, out.len());
+    let checked = check_lines(text, heading, out.len());
     if let Verdict::Refused(refusal) = checked {
         return Reading::Refused(refusal);
     }
-    let mut block = [0u8; layout::BLOCK_ROOM];
+    let mut block = [0u8; BLOCK_ROOM];
     let length = decode_lines(text, &mut block);
-    let content = blocks::validity::check(&block[..length]);
+    let content = blocks::validity::check_content(&block[..length]);
     if let Verdict::Refused(refusal) = content {
         return Reading::Refused(refusal);
     }

@@ -9,7 +9,8 @@ use c_answers::Length;
 // Reads an exercise from its text; the length is that of its block, which then stands at the front of `out`.
 #[no_mangle]
 pub extern "C" fn mikjuqan_read_exercise(text: &[u8], out: &mut [u8]) -> Length
-    ensures { λ r. ⌜ (let o = readExercise (now (text .entry)) (now (out .entry)) in (r ≡ lengthOf (o .answer)) × (now (out .exit) ≡ o .out)) ⌝ }
+    ensures { λ r. ⌜ (let o = readExercise (now (text .entry)) (now (out .entry))
+        in (r ≡ lengthOf (o .answer)) × (now (out .exit) ≡ o .out)) ⌝ }
 {
     let reading = engine::read_exercise(text, out);
     c_answers::read(reading)
@@ -27,7 +28,8 @@ pub extern "C" fn mikjuqan_check_block(block: &[u8]) -> u32
 // Relabels a block; the length is that of the relabelled one, which then stands at the front of `out`.
 #[no_mangle]
 pub extern "C" fn mikjuqan_relabel_block(block: &[u8], out: &mut [u8]) -> Length
-    ensures { λ r. ⌜ (let o = relabelExercise (now (block .entry)) (now (out .entry)) in (r ≡ lengthOf (o .answer)) × (now (out .exit) ≡ o .out)) ⌝ }
+    ensures { λ r. ⌜ (let o = relabelExercise (now (block .entry)) (now (out .entry))
+        in (r ≡ lengthOf (o .answer)) × (now (out .exit) ≡ o .out)) ⌝ }
 {
     let relabelling = engine::relabel_block(block, out);
     c_answers::relabelled(relabelling)

@@ -2,9 +2,10 @@
 ghost use mathlib.Core.Path.{_≡_};
 ghost use Rattle.run_calls.specs.Replaying.{replayRun};
 ghost use Rattle.search_calls.specs.Searching.{findPlan};
-ghost use Rattle.c_answers.specs.Numbers.{runEndOf, planOf};
-use c_answers::Plan;
-use c_answers::RunEnd;
+ghost use Rattle.c_answers.specs.Numbers.{replayNumbersOf, searchNumbersOf};
+use c_answers::ReplayNumbers;
+use c_answers::SearchNumbers;
+use queries::Limits;
 
 // How the replay of a list ends; the state there then stands at the front of `out`.
 #[no_mangle]
@@ -13,26 +14,27 @@ pub extern "C" fn mikjuqan_replay_run(
     start: &[u8],
     list: &[u8],
     out: &mut [u8],
-) -> RunEnd
-    ensures { λ r. ⌜ (let o = replayRun (now (block .entry)) (now (start .entry)) (now (list .entry)) (now (out .entry)) in (r ≡ runEndOf (o .answer)) × (now (out .exit) ≡ o .out)) ⌝ }
+) -> ReplayNumbers
+    ensures { λ r. ⌜ (let o = replayRun (now (block .entry)) (now (start .entry)) (now (list .entry)) (now (out .entry))
+        in (r ≡ replayNumbersOf (o .answer)) × (now (out .exit) ≡ o .out)) ⌝ }
 {
     let replay = engine::replay_run(block, start, list, out);
     c_answers::replayed(replay)
 }
 
-// The answer of a search; a plan that is found then stands at the front of `plan`. Demand 3 is in the contract of `engine::find_plan`, whose answer and buffer these are.
+// The answer of a search; a plan that is found then stands at the front of `plan`. Demand 3 is in the contract of
+// `engine::find_plan`, whose answer and buffer these are.
 #[no_mangle]
 pub extern "C" fn mikjuqan_find_plan(
     block: &[u8],
     start: &[u8],
-    steps: usize,
-    cost: u32,
-    visits: u32,
+    limits: Limits,
     table: &[u32],
     plan: &mut [u8],
-) -> Plan
-    ensures { λ r. ⌜ (let o = findPlan (now (block .entry)) (now (start .entry)) steps cost visits (now (table .entry)) (now (plan .entry)) in (r ≡ planOf (o .answer)) × (now (plan .exit) ≡ o .out)) ⌝ }
+) -> SearchNumbers
+    ensures { λ r. ⌜ (let o = findPlan (now (block .entry)) (now (start .entry)) limits (now (table .entry))
+        (now (plan .entry)) in (r ≡ searchNumbersOf (o .answer)) × (now (plan .exit) ≡ o .out)) ⌝ }
 {
-    let search = engine::find_plan(block, start, steps, cost, visits, table, plan);
+    let search = engine::find_plan(block, start, limits, table, plan);
     c_answers::searched(search)
 }

@@ -16,7 +16,8 @@ pub extern "C" fn mikjuqan_apply_rule(
     state: &[u8],
     out: &mut [u8],
 ) -> Decision
-    ensures { λ r. ⌜ (let o = applyRule (now (block .entry)) rule (now (state .entry)) (now (out .entry)) in (r ≡ appliedOf (o .answer)) × (now (out .exit) ≡ o .out)) ⌝ }
+    ensures { λ r. ⌜ (let o = applyRule (now (block .entry)) rule (now (state .entry)) (now (out .entry))
+        in (r ≡ appliedOf (o .answer)) × (now (out .exit) ≡ o .out)) ⌝ }
 {
     let application = engine::apply_rule(block, rule, state, out);
     c_answers::applied(application)
@@ -39,7 +40,8 @@ pub extern "C" fn mikjuqan_first_predecessor(
     state: &[u8],
     out: &mut [u8],
 ) -> Decision
-    ensures { λ r. ⌜ (let o = stepBackFrom (now (block .entry)) rule (now (state .entry)) from-first (now (out .entry)) in (r ≡ decisionOf (o .answer)) × (now (out .exit) ≡ o .out)) ⌝ }
+    ensures { λ r. ⌜ (let o = stepBackFrom (now (block .entry)) rule (now (state .entry)) from-first (now (out .entry))
+        in (r ≡ decisionOf (o .answer)) × (now (out .exit) ≡ o .out)) ⌝ }
 {
     let predecessor = engine::first_predecessor(block, rule, state, out);
     c_answers::stepped_back(predecessor)
@@ -54,7 +56,10 @@ pub extern "C" fn mikjuqan_next_predecessor(
     earlier: &[u8],
     out: &mut [u8],
 ) -> Decision
-    ensures { λ r. ⌜ (let o = stepBackFrom (now (block .entry)) rule (now (state .entry)) (after (now (earlier .entry))) (now (out .entry)) in (r ≡ decisionOf (o .answer)) × (now (out .exit) ≡ o .out)) ⌝ }
+    ensures { λ r. ⌜
+        (let o = stepBackFrom (now (block .entry)) rule (now (state .entry)) (after (now (earlier .entry)))
+        (now (out .entry))
+        in (r ≡ decisionOf (o .answer)) × (now (out .exit) ≡ o .out)) ⌝ }
 {
     let predecessor = engine::next_predecessor(block, rule, state, earlier, out);
     c_answers::stepped_back(predecessor)

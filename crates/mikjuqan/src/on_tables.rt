@@ -9,7 +9,8 @@ use c_answers::Entry;
 // 0 where the table was filled, or the number that the call is refused with.
 #[no_mangle]
 pub extern "C" fn mikjuqan_fill_table(block: &[u8], table: &mut [u32]) -> u32
-    ensures { λ r. ⌜ (let o = fillTable (now (block .entry)) (now (table .entry)) in (r ≡ refusalOf (o .answer)) × (now (table .exit) ≡ o .out)) ⌝ }
+    ensures { λ r. ⌜ (let o = fillTable (now (block .entry)) (now (table .entry))
+        in (r ≡ refusalOf (o .answer)) × (now (table .exit) ≡ o .out)) ⌝ }
 {
     let filling = engine::fill_table(block, table);
     c_answers::filled(filling)

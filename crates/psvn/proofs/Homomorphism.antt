@@ -1,6 +1,7 @@
--- Relabelling goes with matching and with applying: a rule that takes s to t takes the relabelled s to the relabelled t in the relabelled block
--- (`applies-relabelled`, `step-relabelled`), and a goal that s meets is met by the relabelled s (`meets-relabelled`). All rests on one lemma about
--- the label that a term gives (`given-relabelled`). Tables rest on this.
+-- Relabelling goes with matching and with applying: a rule that takes s to t takes the relabelled s to the relabelled t
+-- in the relabelled block (`applies-relabelled`, `step-relabelled`), and a goal that s meets is met by the relabelled s
+-- (`meets-relabelled`). All rests on one lemma about the label that a term gives (`given-relabelled`). Tables rest on
+-- this.
 use mathlib.Core.Path.{_≡_, refl, sym, ap, _∙_}
 use mathlib.Core.Bool.{true}
 use mathlib.Core.List.{List}
@@ -18,12 +19,14 @@ use Rattle.blocks.specs.Layout.{positions, rules, goals, labelCount, mapAt, lef
 use Rattle.blocks.specs.Validity.{boundIn, Valid}
 use Rattle.psvn.specs.Rules.{bound, given, matches, rewritten, applies, step, goalMet, meets}
 use Rattle.psvn.specs.Relabelling.{relabelTerm, relabelBlock, relabelState}
-use Rattle.blocks.proofs.TermCases.{View, label, variable, dash, refused, view, is-label, is-variable, is-dash, is-refused}
+use Rattle.blocks.proofs.TermCases.{View, label, variable, dash, refused, view, is-label, is-variable, is-dash}
+use Rattle.blocks.proofs.TermCases.{is-refused}
 use Rattle.blocks.proofs.Accepted.{map-below, left-side, right-side, goal-side, right-bound, side-term}
 use Rattle.blocks.proofs.StateLaws.{abstract-count-low}
 use Rattle.psvn.proofs.Matching.{at-position, at-all}
 use Rattle.psvn.proofs.Making.{rewritten-at}
-use Rattle.psvn.proofs.Relabelled.{positions-relabelled, goals-relabelled, left-relabelled, right-relabelled, goal-relabelled, relabelled-label}
+use Rattle.psvn.proofs.Relabelled.{positions-relabelled, goals-relabelled, left-relabelled, right-relabelled}
+use Rattle.psvn.proofs.Relabelled.{goal-relabelled, relabelled-label}
 
 -- relabelling a byte, by what it stands for
 pub relabel-label : (φ : ℕ → ℕ) (t : ℕ) → t < 16 → relabelTerm φ t ≡ φ t
@@ -116,7 +119,8 @@ module _
       matches-relabelled : matches n side s ≡ true → matches n side′ s′ ≡ true
       matches-relabelled m =
           at-all n side′ s′ (λ i l.
-          carried i l ∙ ap (φ i) (at-position n side s m i l) ∙ sym (given-relabelled i (side i) l (ok i l) (self-bound i l))
+          carried i l ∙ ap (φ i) (at-position n side s m i l)
+          ∙ sym (given-relabelled i (side i) l (ok i l) (self-bound i l))
           ∙ ap (λ (t : ℕ). given n side′ s′ i (termOf t)) (sym (mapped i l)))
 
       rewritten-relabelled :
@@ -126,7 +130,8 @@ module _
           → tabulate n (λ i. φ i (getD (rewritten n side right s) i 0)) ≡ rewritten n side′ right′ s′
       unfolding rewritten
       rewritten-relabelled right right′ okr bd q =
-          tabulate-ext n (λ i. φ i (getD (rewritten n side right s) i 0)) (λ i. given n side′ s′ i (termOf (right′ i))) (λ k l.
+          tabulate-ext n (λ i. φ i (getD (rewritten n side right s) i 0)) (λ i. given n side′ s′ i (termOf (right′ i)))
+          (λ k l.
           ap (φ k) (rewritten-at n side right s k l)
           ∙ sym (given-relabelled k (right k) l (okr k l) (bd k l))
           ∙ ap (λ (t : ℕ). given n side′ s′ k (termOf t)) (sym (q k l)))
@@ -146,29 +151,37 @@ module _ (b : List ℕ) (v : Valid b) where
   unfolding applies
   applies-relabelled r lr s h =
       rw (positions-relabelled b)
-      (matches-relabelled (positions b) (labelCount b) (mapAt b) map-small (map-alike b) (leftOf b r) (leftOf (relabelBlock b) r)
-      (side-term b (leftOf b r) (left-side b v r lr)) (left-relabelled b r lr) s (relabelState b s) (relabelled-label b s) h)
+      (matches-relabelled (positions b) (labelCount b) (mapAt b) map-small (map-alike b) (leftOf b r)
+      (leftOf (relabelBlock b) r)
+      (side-term b (leftOf b r) (left-side b v r lr)) (left-relabelled b r lr) s (relabelState b s)
+      (relabelled-label b s) h)
 
   pub step-relabelled :
       (r : ℕ) → r < rules b → (s : List ℕ) → relabelState b (step b r s) ≡ step (relabelBlock b) r (relabelState b s)
   unfolding step relabelState
   step-relabelled r lr s =
       rw (positions-relabelled b)
-      (rewritten-relabelled (positions b) (labelCount b) (mapAt b) map-small (map-alike b) (leftOf b r) (leftOf (relabelBlock b) r)
-      (side-term b (leftOf b r) (left-side b v r lr)) (left-relabelled b r lr) s (relabelState b s) (relabelled-label b s)
-      (rightOf b r) (rightOf (relabelBlock b) r) (side-term b (rightOf b r) (right-side b v r lr)) (right-bound b v r lr) (right-relabelled b r lr))
+      (rewritten-relabelled (positions b) (labelCount b) (mapAt b) map-small (map-alike b) (leftOf b r)
+      (leftOf (relabelBlock b) r)
+      (side-term b (leftOf b r) (left-side b v r lr)) (left-relabelled b r lr) s (relabelState b s)
+      (relabelled-label b s)
+      (rightOf b r) (rightOf (relabelBlock b) r) (side-term b (rightOf b r) (right-side b v r lr))
+      (right-bound b v r lr) (right-relabelled b r lr))
 
   goal-met-relabelled :
       (g : ℕ) → g < goals b → (s : List ℕ) → goalMet b g s ≡ true → goalMet (relabelBlock b) g (relabelState b s) ≡ true
   unfolding goalMet
   goal-met-relabelled g lg s h =
       rw (positions-relabelled b)
-      (matches-relabelled (positions b) (labelCount b) (mapAt b) map-small (map-alike b) (goalOf b g) (goalOf (relabelBlock b) g)
-      (side-term b (goalOf b g) (goal-side b v g lg)) (goal-relabelled b g lg) s (relabelState b s) (relabelled-label b s) h)
+      (matches-relabelled (positions b) (labelCount b) (mapAt b) map-small (map-alike b) (goalOf b g)
+      (goalOf (relabelBlock b) g)
+      (side-term b (goalOf b g) (goal-side b v g lg)) (goal-relabelled b g lg) s (relabelState b s)
+      (relabelled-label b s) h)
 
   pub meets-relabelled : (s : List ℕ) → meets b s ≡ true → meets (relabelBlock b) (relabelState b s) ≡ true
   unfolding meets
   meets-relabelled s h =
       let k = first-holds (λ g. goalMet b g s) (goals b) h in
-      some-intro (λ g. goalMet (relabelBlock b) g (relabelState b s)) (goals (relabelBlock b)) _ (omega (arith, k .0, goals-relabelled b))
+      some-intro (λ g. goalMet (relabelBlock b) g (relabelState b s)) (goals (relabelBlock b)) _
+      (omega (arith, k .0, goals-relabelled b))
       (goal-met-relabelled _ (k .0) s (k .1))

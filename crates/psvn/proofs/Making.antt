@@ -1,5 +1,6 @@
--- What a side makes of a state, its length and position by position (`rewritten-length`, `rewritten-at`, `given-other`); and a state matches a side exactly where the side makes it of itself
--- (`matches-itself`, `itself-matches`). The theorems on predecessors, and matching on words, rest on these.
+-- What a side makes of a state, its length and position by position (`rewritten-length`, `rewritten-at`,
+-- `given-other`); and a state matches a side exactly where the side makes it of itself (`matches-itself`,
+-- `itself-matches`). The theorems on predecessors, and matching on words, rest on these.
 use mathlib.Core.Path.{_≡_, sym, ap, _∙_}
 use mathlib.Core.Bool.{true}
 use mathlib.Core.List.{List}

@@ -1,5 +1,6 @@
--- Matching, in the document's words and both ways: a state matches a side exactly where its label equals each constant and positions with the same
--- variable hold equal labels (`matched`, `matching`); a dash tests nothing. This is what `matches` means to a reader; proofs go by its positions (`at-position`, `at-all`).
+-- Matching, in the document's words and both ways: a state matches a side exactly where its label equals each constant
+-- and positions with the same variable hold equal labels (`matched`, `matching`); a dash tests nothing. This is what
+-- `matches` means to a reader; proofs go by its positions (`at-position`, `at-all`).
 use mathlib.Core.Path.{_≡_, refl, sym, ap, _∙_}
 use mathlib.Core.Bool.{Bool, true}
 use mathlib.Core.List.{List}
@@ -11,7 +12,8 @@ use borrow.Author.Tests.{eq-eqb, eqb-true}
 use Rattle.basics.proofs.Bounded.{all-at, all-intro, first-holds, some-intro}
 use Rattle.blocks.specs.Terms.{termOf}
 use Rattle.psvn.specs.Rules.{bound, given, agrees, matches}
-use Rattle.blocks.proofs.TermCases.{View, label, variable, dash, refused, view, is-label, is-variable, is-dash, is-refused}
+use Rattle.blocks.proofs.TermCases.{View, label, variable, dash, refused, view, is-label, is-variable, is-dash}
+use Rattle.blocks.proofs.TermCases.{is-refused}
 
 pub record Matched (n : ℕ) (side : ℕ → ℕ) (s : List ℕ) : Type 0 where
   pub constant : (i : ℕ) → i < n → side i < 16 → getD s i 0 ≡ side i

@@ -1,6 +1,9 @@
--- Ranks: a rank is below the number of states, and rank and state undo one another, for abstract states (`rank-below`, `unrank-rank`, `unrank-abstract`, `rank-unrank`; their
--- number is K to the power n) and for states (`state-rank-below`, `unrank-state-rank`, `unrank-state-ok`, `state-rank-unrank`; L to the power n, `state-count-power`). The rank order of states is the order of their
--- labels, position 0 deciding first (`state-rank-before`, `before-state-rank`), and states of one rank are equal (`same-state-rank`). Tables and predecessors rest on these.
+-- Ranks: a rank is below the number of states, and rank and state undo one another, for abstract states (`rank-below`,
+-- `unrank-rank`, `unrank-abstract`, `rank-unrank`; their number is K to the power n) and for states
+-- (`state-rank-below`, `unrank-state-rank`, `unrank-state-ok`, `state-rank-unrank`; L to the power n,
+-- `state-count-power`). The rank order of states is the order of their labels, position 0 deciding first
+-- (`state-rank-before`, `before-state-rank`), and states of one rank are equal (`same-state-rank`). Tables and
+-- predecessors rest on these.
 use mathlib.Core.Path.{_≡_, refl, sym}
 use mathlib.Core.Bool.{true}
 use mathlib.Core.List.{List}
@@ -12,7 +15,8 @@ use Rattle.blocks.specs.Layout.{positions, labels, abstracts, labelCount, abstr
 use Rattle.blocks.specs.Validity.{Headed}
 use Rattle.blocks.specs.States.{stateOk, abstractOk}
 use Rattle.psvn.specs.Ranks.{rank, unrank, stateRank, unrankState, stateCount}
-use Rattle.blocks.proofs.StateLaws.{labelled-below, labelled-digits, digits-labelled, state-length, state-label, some-label, some-abstract}
+use Rattle.blocks.proofs.StateLaws.{labelled-below, labelled-digits, digits-labelled, state-length, state-label}
+use Rattle.blocks.proofs.StateLaws.{some-label, some-abstract}
 
 module _ (b : List ℕ) where
   pub states-span : span (abstractCount b) (positions b) ≡ abstractStates b
@@ -74,4 +78,5 @@ module _ (b : List ℕ) where
     pub same-state-rank : stateRank b u ≡ stateRank b v → u ≡ v
     unfolding stateRank
     same-state-rank =
-        value-injective (labelCount b) (positions b) u v (state-length b u ou) (state-length b v ov) (state-label b u ou) (state-label b v ov)
+        value-injective (labelCount b) (positions b) u v (state-length b u ou) (state-length b v ov)
+        (state-label b u ou) (state-label b v ov)

@@ -1,5 +1,6 @@
--- Relabelling twice changes nothing more, of a block (`relabel-twice`) and of a state (`relabel-state-twice`): the relabelled block's map is the identity (`identity-state`).
--- What a table promises of the relabelled block's own states rests on `identity-state`.
+-- Relabelling twice changes nothing more, of a block (`relabel-twice`) and of a state (`relabel-state-twice`): the
+-- relabelled block's map is the identity (`identity-state`). What a table promises of the relabelled block's own states
+-- rests on `identity-state`.
 use mathlib.Core.Path.{_≡_, refl, sym, ap, ap₂, _∙_}
 use mathlib.Core.Bool.{true}
 use mathlib.Core.List.{List, _∷_, _++_}
@@ -12,11 +13,15 @@ use Rattle.blocks.specs.Terms.{termOf, termOk}
 use Rattle.blocks.specs.Layout.{positions, rules, goals, labelCount, mapAt, leftOf, rightOf, goalOf, relabelHead}
 use Rattle.blocks.specs.Validity.{sideOk, Valid}
 use Rattle.blocks.specs.States.{stateOk}
-use Rattle.psvn.specs.Relabelling.{relabelTerm, relabelSide, relabelRule, relabelGoal, relabelRules, relabelGoals, relabelBlock, relabelState}
+use Rattle.psvn.specs.Relabelling.{relabelTerm, relabelSide, relabelRule, relabelGoal, relabelRules, relabelGoals}
+use Rattle.psvn.specs.Relabelling.{relabelBlock, relabelState}
 use Rattle.blocks.proofs.TermCases.{View, label, variable, dash, refused, view, is-label}
 use Rattle.blocks.proofs.Accepted.{map-below, left-side, right-side, goal-side, side-term}
 use Rattle.blocks.proofs.StateLaws.{state-length, state-label}
-use Rattle.psvn.proofs.Relabelled.{positions-relabelled, abstracts-relabelled, rules-relabelled, goals-relabelled, label-count-relabelled, map-relabelled, cost-relabelled, left-relabelled, right-relabelled, goal-relabelled, relabelled-labels, relabelled-label}
+use Rattle.psvn.proofs.Relabelled.{positions-relabelled, abstracts-relabelled, rules-relabelled}
+use Rattle.psvn.proofs.Relabelled.{goals-relabelled, label-count-relabelled, map-relabelled, cost-relabelled}
+use Rattle.psvn.proofs.Relabelled.{left-relabelled, right-relabelled, goal-relabelled, relabelled-labels}
+use Rattle.psvn.proofs.Relabelled.{relabelled-label}
 use Rattle.psvn.proofs.Homomorphism.{relabel-label, relabel-other, map-small}
 use Rattle.psvn.proofs.Stepping.{relabelled-state, abstract-states}
 
@@ -47,19 +52,22 @@ module _ (b : List ℕ) (v : Valid b) where
       go (label a) =
           let k : t < labelCount b i = ltb-true t (labelCount b i) (rw (is-label t a) at ok) in
           rw (relabel-label (mapAt b i) t a)
-          (relabel-label (mapAt (relabelBlock b) i) (mapAt b i t) (map-small b v i t l k) ∙ map-relabelled b i (mapAt b i t) (map-below b v i t k))
+          (relabel-label (mapAt (relabelBlock b) i) (mapAt b i t) (map-small b v i t l k)
+          ∙ map-relabelled b i (mapAt b i t) (map-below b v i t k))
       go (variable a c) = other a
       go (dash e) = other (omega arith)
       go (refused a c) = other (omega arith)
 
   -- and so do the sides, the rules and the goals
   side-twice :
-      (side side′ : ℕ → ℕ) → sideOk b side ≡ true → ((i : ℕ) → i < positions b → side′ i ≡ relabelTerm (mapAt b i) (side i))
+      (side side′ : ℕ → ℕ) → sideOk b side ≡ true
+      → ((i : ℕ) → i < positions b → side′ i ≡ relabelTerm (mapAt b i) (side i))
       → relabelSide (relabelBlock b) side′ ≡ relabelSide b side
   unfolding relabelSide
   side-twice side side′ ok mapped =
       rw (positions-relabelled b)
-      (tabulate-ext (positions b) (λ i. relabelTerm (mapAt (relabelBlock b) i) (side′ i)) (λ i. relabelTerm (mapAt b i) (side i)) (λ i l.
+      (tabulate-ext (positions b) (λ i. relabelTerm (mapAt (relabelBlock b) i) (side′ i))
+      (λ i. relabelTerm (mapAt b i) (side i)) (λ i l.
       ap (relabelTerm (mapAt (relabelBlock b) i)) (mapped i l) ∙ term-fixed i (side i) l (side-term b side ok i l)))
 
   rule-twice : (r : ℕ) → r < rules b → relabelRule (relabelBlock b) r ≡ relabelRule b r

@@ -1,6 +1,7 @@
--- The relabelled block, part by part: the lengths of what relabelling writes, the head and the map, and the cost and the terms of each rule and goal
--- (`cost-relabelled`, `left-relabelled`, `right-relabelled`, `goal-relabelled`); and the relabelled state, its length and label by label (`relabelled-labels`, `relabelled-label`).
--- The theorems on relabelling rest on these.
+-- The relabelled block, part by part: the lengths of what relabelling writes, the head and the map, and the cost and
+-- the terms of each rule and goal (`cost-relabelled`, `left-relabelled`, `right-relabelled`, `goal-relabelled`); and
+-- the relabelled state, its length and label by label (`relabelled-labels`, `relabelled-label`). The theorems on
+-- relabelling rest on these.
 use mathlib.Core.Path.{_≡_, refl, sym, ap, ap₂, _∙_}
 use mathlib.Core.List.{List, [], _∷_, _++_}
 use Prim.Native.Nat.{ℕ, suc, _+_, _*_, _≤_, _<_}
@@ -10,8 +11,11 @@ use lib.ListN.{length, getD, length-append, List·getD-append}
 use lib.Seq.{getD-append-add}
 use Rattle.basics.specs.Lists.{tabulate}
 use Rattle.basics.proofs.Lists.{length-tabulate, getD-tabulate, length-joined, getD-joined}
-use Rattle.blocks.specs.Layout.{headByte, positions, labels, abstracts, rules, goals, labelCount, abstractCount, abstractStates, headLength, mapByte, mapAt, ruleWidth, ruleAt, leftAt, rightAt, goalAt, blockLength, costOf, leftOf, rightOf, goalOf, relabelHead, relabelledLength}
-use Rattle.psvn.specs.Relabelling.{relabelTerm, relabelSide, relabelRule, relabelGoal, relabelRules, relabelGoals, relabelBlock, relabelState}
+use Rattle.blocks.specs.Layout.{headByte, positions, labels, abstracts, rules, goals, labelCount, abstractCount}
+use Rattle.blocks.specs.Layout.{abstractStates, headLength, mapByte, mapAt, ruleWidth, ruleAt, leftAt, rightAt, goalAt}
+use Rattle.blocks.specs.Layout.{blockLength, costOf, leftOf, rightOf, goalOf, relabelHead, relabelledLength}
+use Rattle.psvn.specs.Relabelling.{relabelTerm, relabelSide, relabelRule, relabelGoal, relabelRules, relabelGoals}
+use Rattle.psvn.specs.Relabelling.{relabelBlock, relabelState}
 use Rattle.blocks.proofs.Offsets.{relabel-head-length}
 
 module _ (b : List ℕ) where
@@ -46,7 +50,14 @@ module _ (b : List ℕ) where
   relabelled-length =
       let rs = relabelRules b in
       let gs = relabelGoals b in
-      omega (arith, length-append (relabelHead b) (rs ++ gs), length-append rs gs, relabel-head-length b, rules-length, goals-length)
+      omega (
+        arith,
+        length-append (relabelHead b) (rs ++ gs),
+        length-append rs gs,
+        relabel-head-length b,
+        rules-length,
+        goals-length,
+      )
 
   pub relabelled-long : headLength ≤ length (relabelBlock b)
   unfolding relabelledLength
@@ -123,7 +134,8 @@ module _ (b : List ℕ) where
 
   -- byte k of rule r, and of goal g
   rule-byte :
-      (r k : ℕ) → r < rules b → k < ruleWidth b → getD (relabelBlock b) (ruleAt (relabelBlock b) r + k) 0 ≡ getD (relabelRule b r) k 0
+      (r k : ℕ) → r < rules b → k < ruleWidth b
+      → getD (relabelBlock b) (ruleAt (relabelBlock b) r + k) 0 ≡ getD (relabelRule b r) k 0
   rule-byte r k lr lk =
       let rs = relabelRules b in
       let j = r * ruleWidth b + k in
@@ -134,7 +146,8 @@ module _ (b : List ℕ) where
       ∙ getD-joined (relabelRule b) (ruleWidth b) (rules b) (λ r l. rule-width r) r k lr lk
 
   goal-byte :
-      (g i : ℕ) → g < goals b → i < positions b → getD (relabelBlock b) (goalAt (relabelBlock b) g + i) 0 ≡ getD (relabelGoal b g) i 0
+      (g i : ℕ) → g < goals b → i < positions b
+      → getD (relabelBlock b) (goalAt (relabelBlock b) g + i) 0 ≡ getD (relabelGoal b g) i 0
   goal-byte g i lg li =
       let rs = relabelRules b in
       let gs = relabelGoals b in
@@ -143,7 +156,8 @@ module _ (b : List ℕ) where
       ap (λ (k : ℕ). getD (relabelBlock b) k 0) e ∙ body-byte j ∙ getD-append-add rs gs (g * positions b + i) 0
       ∙ getD-joined (relabelGoal b) (positions b) (goals b) (λ g l. goal-length g) g i lg li
 
-  side-byte : (side : ℕ → ℕ) (i : ℕ) → i < positions b → getD (relabelSide b side) i 0 ≡ relabelTerm (mapAt b i) (side i)
+  side-byte :
+      (side : ℕ → ℕ) (i : ℕ) → i < positions b → getD (relabelSide b side) i 0 ≡ relabelTerm (mapAt b i) (side i)
   unfolding relabelSide
   side-byte side i l = getD-tabulate (positions b) (λ i. relabelTerm (mapAt b i) (side i)) i l
 
@@ -155,10 +169,12 @@ module _ (b : List ℕ) where
   pub cost-relabelled : (r : ℕ) → r < rules b → costOf (relabelBlock b) r ≡ costOf b r
   unfolding costOf relabelRule ruleWidth
   cost-relabelled r lr =
-      ap (λ (k : ℕ). getD (relabelBlock b) k 0) (sym (add-zero (ruleAt (relabelBlock b) r))) ∙ rule-byte r 0 lr (omega arith)
+      ap (λ (k : ℕ). getD (relabelBlock b) k 0) (sym (add-zero (ruleAt (relabelBlock b) r)))
+      ∙ rule-byte r 0 lr (omega arith)
 
   pub left-relabelled :
-      (r : ℕ) → r < rules b → (i : ℕ) → i < positions b → leftOf (relabelBlock b) r i ≡ relabelTerm (mapAt b i) (leftOf b r i)
+      (r : ℕ) → r < rules b → (i : ℕ) → i < positions b
+      → leftOf (relabelBlock b) r i ≡ relabelTerm (mapAt b i) (leftOf b r i)
   unfolding leftAt relabelRule
   left-relabelled r lr i li =
       let left = relabelSide b (leftOf b r) in
@@ -168,19 +184,22 @@ module _ (b : List ℕ) where
       ∙ side-byte (leftOf b r) i li
 
   pub right-relabelled :
-      (r : ℕ) → r < rules b → (i : ℕ) → i < positions b → rightOf (relabelBlock b) r i ≡ relabelTerm (mapAt b i) (rightOf b r i)
+      (r : ℕ) → r < rules b → (i : ℕ) → i < positions b
+      → rightOf (relabelBlock b) r i ≡ relabelTerm (mapAt b i) (rightOf b r i)
   unfolding leftAt rightAt relabelRule
   right-relabelled r lr i li =
       let left = relabelSide b (leftOf b r) in
       let k = length left + i in
       let n = side-length (leftOf b r) in
-      let e : ruleAt (relabelBlock b) r + 1 + positions (relabelBlock b) + i ≡ ruleAt (relabelBlock b) r + suc k = omega (arith, n, positions-relabelled) in
+      let e : ruleAt (relabelBlock b) r + 1 + positions (relabelBlock b) + i ≡ ruleAt (relabelBlock b) r + suc k =
+      omega (arith, n, positions-relabelled) in
       ap (λ (k : ℕ). getD (relabelBlock b) k 0) e ∙ rule-byte r (suc k) lr (wide-enough k (omega arith))
       ∙ getD-append-add left (relabelSide b (rightOf b r)) i 0
       ∙ side-byte (rightOf b r) i li
 
   pub goal-relabelled :
-      (g : ℕ) → g < goals b → (i : ℕ) → i < positions b → goalOf (relabelBlock b) g i ≡ relabelTerm (mapAt b i) (goalOf b g i)
+      (g : ℕ) → g < goals b → (i : ℕ) → i < positions b
+      → goalOf (relabelBlock b) g i ≡ relabelTerm (mapAt b i) (goalOf b g i)
   unfolding relabelGoal
   goal-relabelled g lg i li = goal-byte g i lg li ∙ side-byte (goalOf b g) i li
 

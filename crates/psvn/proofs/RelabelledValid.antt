@@ -1,5 +1,5 @@
--- A relabelled valid block is valid (`relabelled-valid`): its terms are right, and the terms bound before are still bound.
--- So whatever holds of every valid block holds of the relabelled one; tables and their fill rest on this.
+-- A relabelled valid block is valid (`relabelled-valid`): its terms are right, and the terms bound before are still
+-- bound. So whatever holds of every valid block holds of the relabelled one; tables and their fill rest on this.
 use mathlib.Core.Path.{_≡_, ap, ap₂, _∙_}
 use mathlib.Core.Bool.{true, _&&_, false≢true}
 use mathlib.Core.List.{List}
@@ -10,12 +10,18 @@ use borrow.Author.Tests.{ltb-true, lt-ltb}
 use Rattle.basics.proofs.Truth.{and-intro}
 use Rattle.basics.proofs.Bounded.{all-intro}
 use Rattle.blocks.specs.Terms.{termOf, termOk}
-use Rattle.blocks.specs.Layout.{positions, abstracts, rules, goals, labelCount, abstractCount, mapByte, mapAt, leftOf, rightOf, goalOf}
-use Rattle.blocks.specs.Validity.{sideOk, ruleTermsOk, goalTermsOk, mapOk, termsOk, boundIn, ruleBound, boundOk, Sizes, Headed, Valid}
+use Rattle.blocks.specs.Layout.{positions, abstracts, rules, goals, labelCount, abstractCount, mapByte, mapAt, leftOf}
+use Rattle.blocks.specs.Layout.{rightOf, goalOf}
+use Rattle.blocks.specs.Validity.{sideOk, ruleTermsOk, goalTermsOk, mapOk, termsOk, boundIn, ruleBound, boundOk, Sizes}
+use Rattle.blocks.specs.Validity.{Headed, Valid}
 use Rattle.psvn.specs.Relabelling.{relabelTerm, relabelBlock}
-use Rattle.blocks.proofs.TermCases.{View, label, variable, dash, refused, view, is-label, is-variable, is-dash, is-refused}
+use Rattle.blocks.proofs.TermCases.{View, label, variable, dash, refused, view, is-label, is-variable, is-dash}
+use Rattle.blocks.proofs.TermCases.{is-refused}
 use Rattle.blocks.proofs.Accepted.{map-below, left-side, right-side, goal-side, right-bound, side-term}
-use Rattle.psvn.proofs.Relabelled.{positions-relabelled, labels-relabelled, abstracts-relabelled, rules-relabelled, goals-relabelled, label-count-relabelled, abstract-states-relabelled, block-length-relabelled, map-byte-relabelled, left-relabelled, right-relabelled, goal-relabelled, relabelled-long}
+use Rattle.psvn.proofs.Relabelled.{positions-relabelled, labels-relabelled, abstracts-relabelled}
+use Rattle.psvn.proofs.Relabelled.{rules-relabelled, goals-relabelled, label-count-relabelled}
+use Rattle.psvn.proofs.Relabelled.{abstract-states-relabelled, block-length-relabelled, map-byte-relabelled}
+use Rattle.psvn.proofs.Relabelled.{left-relabelled, right-relabelled, goal-relabelled, relabelled-long}
 use Rattle.psvn.proofs.Homomorphism.{relabel-label, relabel-other, bound-in-relabelled, map-small, map-alike}
 
 module _ (b : List ℕ) (v : Valid b) where
@@ -28,14 +34,16 @@ module _ (b : List ℕ) (v : Valid b) where
       go : View t → termOk (abstractCount b i) (termOf (relabelTerm (mapAt b i) t)) ≡ true
       go (label a) =
           let k : t < labelCount b i = ltb-true t (labelCount b i) (rw (is-label t a) at ok) in
-          rw (relabel-label (mapAt b i) t a, is-label (mapAt b i t) (map-small b v i t l k)) (lt-ltb _ _ (map-below b v i t k))
+          rw (relabel-label (mapAt b i) t a, is-label (mapAt b i t) (map-small b v i t l k))
+          (lt-ltb _ _ (map-below b v i t k))
       go (variable a c) = rw (relabel-other (mapAt b i) t a, is-variable t a c)
       go (dash e) = rw (relabel-other (mapAt b i) t (omega arith), is-dash t e)
       go (refused a c) = absurd (false≢true (rw (is-refused t a c) at ok))
 
   -- and so is a relabelled side
   side-relabelled :
-      (side side′ : ℕ → ℕ) → sideOk b side ≡ true → ((i : ℕ) → i < positions b → side′ i ≡ relabelTerm (mapAt b i) (side i))
+      (side side′ : ℕ → ℕ) → sideOk b side ≡ true
+      → ((i : ℕ) → i < positions b → side′ i ≡ relabelTerm (mapAt b i) (side i))
       → sideOk (relabelBlock b) side′ ≡ true
   unfolding sideOk
   side-relabelled side side′ ok mapped =
@@ -99,7 +107,8 @@ module _ (b : List ℕ) (v : Valid b) where
       rw (positions-relabelled b)
       (all-intro (λ i. boundIn (positions b) (leftOf B r) (termOf (rightOf B r i))) (positions b) (λ i k.
       ap (λ (t : ℕ). boundIn (positions b) (leftOf B r) (termOf t)) (right-relabelled b r l i k)
-      ∙ bound-in-relabelled (positions b) (labelCount b) (mapAt b) (map-small b v) (map-alike b) (leftOf b r) (leftOf B r)
+      ∙ bound-in-relabelled (positions b) (labelCount b) (mapAt b) (map-small b v) (map-alike b) (leftOf b r)
+      (leftOf B r)
       (side-term b (leftOf b r) (left-side b v r l)) (left-relabelled b r l) i (rightOf b r i) k
       (side-term b (rightOf b r) (right-side b v r l) i k) (right-bound b v r l i k)))))
 

@@ -1,6 +1,7 @@
--- Laws of lists of rule numbers: one rule more at the end (`run-more`, `cost-more`, `in-turn-more`), rules that apply in turn one by one (`in-turn-at`, `in-turn-intro`), and the
--- last state (`run-length`, `run-state`); a list reaches a goal exactly where its numbers are those of rules, they apply in turn and the last state meets a goal
--- (`reaches-run`, `run-reaches`). Replay rests on these.
+-- Laws of lists of rule numbers: one rule more at the end (`run-more`, `cost-more`, `in-turn-more`), rules that apply
+-- in turn one by one (`in-turn-at`, `in-turn-intro`), and the last state (`run-length`, `run-state`); a list reaches a
+-- goal exactly where its numbers are those of rules, they apply in turn and the last state meets a goal (`reaches-run`,
+-- `run-reaches`). Replay rests on these.
 use mathlib.Core.Path.{_≡_, refl, sym, ap, _∙_}
 use mathlib.Core.Bool.{Bool, true, _&&_, and-assoc, and-comm}
 use mathlib.Core.List.{List, [], _∷_, _++_}

@@ -1,5 +1,6 @@
--- States stay states: applying a rule keeps a valid state valid (`step-state`; n labels it has in any case: `step-length`), the relabelled state of a valid state is an abstract one
--- (`relabelled-state`), and the abstract states are those of the relabelled block (`abstract-states`). Runs, searches and tables rest on these.
+-- States stay states: applying a rule keeps a valid state valid (`step-state`; n labels it has in any case:
+-- `step-length`), the relabelled state of a valid state is an abstract one (`relabelled-state`), and the abstract
+-- states are those of the relabelled block (`abstract-states`). Runs, searches and tables rest on these.
 use mathlib.Core.Path.{_≡_, refl, ap}
 use mathlib.Core.Bool.{Bool, true, _&&_}
 use mathlib.Core.List.{List}
@@ -15,11 +16,13 @@ use Rattle.blocks.specs.Validity.{boundIn, Valid}
 use Rattle.blocks.specs.States.{labelled, stateOk, abstractOk}
 use Rattle.psvn.specs.Rules.{bound, given, step}
 use Rattle.psvn.specs.Relabelling.{relabelBlock, relabelState}
-use Rattle.blocks.proofs.TermCases.{View, label, variable, dash, refused, view, is-label, is-variable, is-dash, is-refused}
+use Rattle.blocks.proofs.TermCases.{View, label, variable, dash, refused, view, is-label, is-variable, is-dash}
+use Rattle.blocks.proofs.TermCases.{is-refused}
 use Rattle.blocks.proofs.Accepted.{map-below, right-side, right-bound, side-term}
 use Rattle.blocks.proofs.StateLaws.{state-label, labelled-intro}
 use Rattle.psvn.proofs.Making.{rewritten-at, rewritten-length}
-use Rattle.psvn.proofs.Relabelled.{positions-relabelled, label-count-relabelled, relabelled-labels, relabelled-label}
+use Rattle.psvn.proofs.Relabelled.{positions-relabelled, label-count-relabelled, relabelled-labels}
+use Rattle.psvn.proofs.Relabelled.{relabelled-label}
 
 -- the label that a bound term gives is below the count at its position
 module _
@@ -71,5 +74,6 @@ abstract-states b u =
     let n = positions b in
     rw (positions-relabelled b)
     (ap (λ (t : Bool). eqb (length u) n && t)
-    (all-ext (λ i. ltb (getD u i 0) (labelCount (relabelBlock b) i)) (λ i. ltb (getD u i 0) (abstractCount b i)) n (λ i l.
+    (all-ext (λ i. ltb (getD u i 0) (labelCount (relabelBlock b) i)) (λ i. ltb (getD u i 0) (abstractCount b i)) n
+    (λ i l.
     ap (ltb (getD u i 0)) (label-count-relabelled b i))))

@@ -1,5 +1,6 @@
--- Ranks, position 0 highest: of an abstract state (`rank`, base K; `unrank` gives the state of a rank) and of a state (`stateRank`, base L; `unrankState`).
--- Tables have one entry per rank of an abstract state; predecessors are told in the rank order of states.
+-- Ranks, position 0 highest: of an abstract state (`rank`, base K; `unrank` gives the state of a rank) and of a state
+-- (`stateRank`, base L; `unrankState`). Tables have one entry per rank of an abstract state; predecessors are told in
+-- the rank order of states.
 use Prim.Native.Nat.{ℕ}
 use mathlib.Core.List.{List}
 use Rattle.basics.specs.Digits.{valueTo, digits, span}

@@ -35,7 +35,8 @@ relabelRules b = joined (rules b) (relabelRule b)
 abbrev pub relabelGoals : List ℕ → List ℕ
 relabelGoals b = joined (goals b) (relabelGoal b)
 
--- the relabelled exercise: L and K both the old K, the identity map, every constant sent through the map, all else as before
+-- the relabelled exercise: L and K both the old K, the identity map, every constant sent through the map, all else as
+-- before
 unfoldable pub relabelBlock : List ℕ → List ℕ
 relabelBlock b = relabelHead b ++ (relabelRules b ++ relabelGoals b)
 

@@ -1,5 +1,6 @@
--- Matching and applying: one notion, the label that a term gives at a position (`given`), says when a side matches and what a rule writes.
--- A rule applies (`applies`), makes a state (`step`) and so leads from one state to another (`leads`); a goal is met (`goalMet`), and some goal is (`meets`).
+-- Matching and applying: one notion, the label that a term gives at a position (`given`), says when a side matches and
+-- what a rule writes. A rule applies (`applies`), makes a state (`step`) and so leads from one state to another
+-- (`leads`); a goal is met (`goalMet`), and some goal is (`meets`).
 use Prim.Native.Nat.{ℕ}
 use mathlib.Core.Bool.{Bool, _&&_}
 use mathlib.Core.List.{List}
@@ -12,7 +13,8 @@ use Rattle.blocks.specs.Layout.{positions, goals, leftOf, rightOf, goalOf}
 use Rattle.blocks.specs.declared.terms.Term.{Term}
 use Rattle.blocks.specs.declared.terms.Term.the-variants.{Label, Variable, Dash, Refused}
 
--- the label that the side binds the variable v to: that of the first position where v stands; 0 if it stands nowhere, as no right variable of an accepted block does
+-- the label that the side binds the variable v to: that of the first position where v stands; 0 if it stands nowhere,
+-- as no right variable of an accepted block does
 unfoldable pub bound : ℕ → (ℕ → ℕ) → List ℕ → ℕ → ℕ
 bound n side s v = getD s (first n (λ j. eqb (side j) v)) 0
 

@@ -1,5 +1,5 @@
--- Lists of rule numbers from a state: whether their rules apply in turn (`applyInTurn`), the last state (`run`), their cost (`totalCost`), and whether they reach a goal (`reaches`).
--- Replay, tables and the search are stated with these.
+-- Lists of rule numbers from a state: whether their rules apply in turn (`applyInTurn`), the last state (`run`), their
+-- cost (`totalCost`), and whether they reach a goal (`reaches`). Replay, tables and the search are stated with these.
 use Prim.Native.Nat.{ℕ, _+_, _<_}
 use mathlib.Core.Bool.{Bool, true, _&&_}
 use mathlib.Core.List.{List, [], _∷_}
@@ -27,7 +27,8 @@ abbrev pub totalCost : List ℕ → List ℕ → ℕ
 totalCost b [] = 0
 totalCost b (r ∷ rs) = costOf b r + totalCost b rs
 
--- the list reaches a goal from s: its numbers are those of rules, they apply in turn, and the last state, s itself for the empty list, meets a goal
+-- the list reaches a goal from s: its numbers are those of rules, they apply in turn, and the last state, s itself for
+-- the empty list, meets a goal
 abbrev pub reaches : List ℕ → List ℕ → List ℕ → Bool
 reaches b s [] = meets b s
 reaches b s (r ∷ rs) = ltb r (rules b) && (applies b r s && reaches b (step b r s) rs)

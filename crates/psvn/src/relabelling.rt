@@ -8,7 +8,8 @@ ghost use Rattle.basics.specs.Lists.{atFront};
 ghost use Rattle.blocks.specs.Terms.{termOf, termOk};
 ghost use Rattle.blocks.specs.Layout.{positions, rules, labelCount, mapAt, sideAt};
 ghost use Rattle.blocks.specs.Validity.{Sized, Valid, sideOk};
-ghost use Rattle.psvn.specs.Relabelling.{relabelTerm, relabelSide, relabelRule, relabelRules, relabelGoals, relabelBlock};
+ghost use Rattle.psvn.specs.Relabelling.{relabelTerm, relabelSide, relabelRule, relabelRules, relabelGoals};
+ghost use Rattle.psvn.specs.Relabelling.{relabelBlock};
 use blocks::labels::byte_of;
 use blocks::layout;
 use blocks::terms::Term;
@@ -16,7 +17,8 @@ use blocks::terms::decode;
 
 // A term's byte at position i, its constant sent through the map.
 fn relabel_term(block: &[u8], i: usize, byte: u8) -> u8
-    requires { ⌜ Sized (now block) × (i < positions (now block)) × (termOk (labelCount (now block) i) (termOf byte) ≡ true) ⌝ }
+    requires { ⌜ Sized (now block) × (i < positions (now block)) ×
+        (termOk (labelCount (now block) i) (termOf byte) ≡ true) ⌝ }
     ensures { λ r. ⌜ r ≡ relabelTerm (mapAt (now (block .entry)) i) byte ⌝ }
 {
     let term = decode(byte);
@@ -30,8 +32,11 @@ fn relabel_term(block: &[u8], i: usize, byte: u8) -> u8
 
 // Writes the relabelled side that begins at `from`, from `to` on, and gives the place behind it.
 fn relabel_side(block: &[u8], from: usize, out: &mut [u8], to: usize) -> usize
-    requires { ⌜ Sized (now block) × (from + positions (now block) ≤ length (now block)) × (sideOk (now block) (sideAt (now block) from) ≡ true) × (to + positions (now block) ≤ length (now out)) ⌝ }
-    ensures { λ at. ⌜ (at ≡ to + positions (now (block .entry))) × (now (out .exit) ≡ sets (now (out .entry)) to (relabelSide (now (block .entry)) (sideAt (now (block .entry)) from))) ⌝ }
+    requires { ⌜ Sized (now block) × (from + positions (now block) ≤ length (now block)) ×
+        (sideOk (now block) (sideAt (now block) from) ≡ true) × (to + positions (now block) ≤ length (now out)) ⌝ }
+    ensures { λ at. ⌜ (at ≡ to + positions (now (block .entry))) ×
+        (now (out .exit) ≡ sets (now (out .entry)) to
+        (relabelSide (now (block .entry)) (sideAt (now (block .entry)) from))) ⌝ }
 {
     let n = layout::positions(block);
     let mut i: usize = 0;
@@ -44,8 +49,10 @@ fn relabel_side(block: &[u8], from: usize, out: &mut [u8], to: usize) -> usize
 
 // Writes the relabelled rule r from `to` on, and gives the place behind it.
 fn relabel_rule(block: &[u8], r: usize, out: &mut [u8], to: usize) -> usize
-    requires { ⌜ Valid (now block) × (r < rules (now block)) × (to + length (relabelRule (now block) r) ≤ length (now out)) ⌝ }
-    ensures { λ at. ⌜ (at ≡ to + length (relabelRule (now (block .entry)) r)) × (now (out .exit) ≡ sets (now (out .entry)) to (relabelRule (now (block .entry)) r)) ⌝ }
+    requires { ⌜ Valid (now block) × (r < rules (now block)) ×
+        (to + length (relabelRule (now block) r) ≤ length (now out)) ⌝ }
+    ensures { λ at. ⌜ (at ≡ to + length (relabelRule (now (block .entry)) r)) ×
+        (now (out .exit) ≡ sets (now (out .entry)) to (relabelRule (now (block .entry)) r)) ⌝ }
 {
     out[to] = layout::cost(block, r);
     let middle = relabel_side(block, layout::left_at(block, r), out, to + 1);
@@ -55,7 +62,8 @@ fn relabel_rule(block: &[u8], r: usize, out: &mut [u8], to: usize) -> usize
 // Writes the relabelled rules from `to` on, and gives the place behind them.
 fn relabel_rules(block: &[u8], out: &mut [u8], to: usize) -> usize
     requires { ⌜ Valid (now block) × (to + length (relabelRules (now block)) ≤ length (now out)) ⌝ }
-    ensures { λ at. ⌜ (at ≡ to + length (relabelRules (now (block .entry)))) × (now (out .exit) ≡ sets (now (out .entry)) to (relabelRules (now (block .entry)))) ⌝ }
+    ensures { λ at. ⌜ (at ≡ to + length (relabelRules (now (block .entry)))) ×
+        (now (out .exit) ≡ sets (now (out .entry)) to (relabelRules (now (block .entry)))) ⌝ }
 {
     let rules = layout::rules(block);
     let mut at = to;

@@ -7,16 +7,17 @@ ghost use Rattle.blocks.specs.Terms.{termOf};
 ghost use Rattle.blocks.specs.Layout.{positions, rules, goals, sideAt};
 ghost use Rattle.blocks.specs.Validity.{Sized};
 ghost use Rattle.psvn.specs.Rules.{given, matches, rewritten, applies, step, same, leads, goalMet, meets};
+use basics::first_of;
 use blocks::labels::ConcreteLabel;
 use blocks::layout;
-use blocks::layout::first_of;
 use blocks::terms::Term;
 use blocks::terms::decode;
 
 // The label that a term's byte gives at position i of a state, under the side at `at`.
 fn label_given(block: &[u8], at: usize, state: &[u8], i: usize, byte: u8) -> ConcreteLabel
     requires { ⌜ (at + length (now state) ≤ length (now block)) × (i < length (now state)) ⌝ }
-    ensures { λ r. ⌜ r .0 ≡ given (length (now (state .entry))) (sideAt (now (block .entry)) at) (now (state .entry)) i (termOf byte) ⌝ }
+    ensures { λ r. ⌜ r .0 ≡ given (length (now (state .entry))) (sideAt (now (block .entry)) at) (now (state .entry)) i
+        (termOf byte) ⌝ }
 {
     let term = decode(byte);
     match term {
@@ -52,10 +53,14 @@ fn side_matches(block: &[u8], at: usize, state: &[u8]) -> bool
     true
 }
 
-// Writes the state that the right side at `right` makes of a state under the left side at `left`, at the front of `out`.
+// Writes the state that the right side at `right` makes of a state under the left side at `left`, at the front of
+// `out`.
 fn rewrite(block: &[u8], left: usize, right: usize, state: &[u8], out: &mut [u8])
-    requires { ⌜ (left + length (now state) ≤ length (now block)) × (right + length (now state) ≤ length (now block)) × (length (now state) ≤ length (now out)) ⌝ }
-    ensures { λ _. ⌜ now (out .exit) ≡ atFront (rewritten (length (now (state .entry))) (sideAt (now (block .entry)) left) (sideAt (now (block .entry)) right) (now (state .entry))) (now (out .entry)) ⌝ }
+    requires { ⌜ (left + length (now state) ≤ length (now block)) × (right + length (now state) ≤ length (now block)) ×
+        (length (now state) ≤ length (now out)) ⌝ }
+    ensures { λ _. ⌜ now (out .exit) ≡
+        atFront (rewritten (length (now (state .entry))) (sideAt (now (block .entry)) left)
+        (sideAt (now (block .entry)) right) (now (state .entry))) (now (out .entry)) ⌝ }
 {
     let n = state.len();
     let mut i = 0;
@@ -69,8 +74,11 @@ fn rewrite(block: &[u8], left: usize, right: usize, state: &[u8], out: &mut [u8]
 
 // Whether the right side at `right` makes `new` of `old` under the left side at `left`.
 fn makes(block: &[u8], left: usize, right: usize, old: &[u8], new: &[u8]) -> bool
-    requires { ⌜ (left + length (now old) ≤ length (now block)) × (right + length (now old) ≤ length (now block)) × (length (now new) ≡ length (now old)) ⌝ }
-    ensures { λ r. ⌜ r ≡ same (length (now (old .entry))) (rewritten (length (now (old .entry))) (sideAt (now (block .entry)) left) (sideAt (now (block .entry)) right) (now (old .entry))) (now (new .entry)) ⌝ }
+    requires { ⌜ (left + length (now old) ≤ length (now block)) × (right + length (now old) ≤ length (now block)) ×
+        (length (now new) ≡ length (now old)) ⌝ }
+    ensures { λ r. ⌜ r ≡ same (length (now (old .entry)))
+        (rewritten (length (now (old .entry))) (sideAt (now (block .entry)) left) (sideAt (now (block .entry)) right)
+        (now (old .entry))) (now (new .entry)) ⌝ }
 {
     let n = old.len();
     let mut i = 0;
@@ -95,7 +103,8 @@ pub fn applies(block: &[u8], r: usize, state: &[u8]) -> bool
 
 // Writes the state that rule r makes of a state at the front of `out`.
 pub fn step(block: &[u8], r: usize, state: &[u8], out: &mut [u8])
-    requires { ⌜ Sized (now block) × (r < rules (now block)) × (length (now state) ≡ positions (now block)) × (positions (now block) ≤ length (now out)) ⌝ }
+    requires { ⌜ Sized (now block) × (r < rules (now block)) × (length (now state) ≡ positions (now block)) ×
+        (positions (now block) ≤ length (now out)) ⌝ }
     ensures { λ _. ⌜ now (out .exit) ≡ atFront (step (now (block .entry)) r (now (state .entry))) (now (out .entry)) ⌝ }
 {
     let left = layout::left_at(block, r);
@@ -105,7 +114,8 @@ pub fn step(block: &[u8], r: usize, state: &[u8], out: &mut [u8])
 
 // Whether rule r takes the state `old` to `new`.
 pub fn leads(block: &[u8], r: usize, old: &[u8], new: &[u8]) -> bool
-    requires { ⌜ Sized (now block) × (r < rules (now block)) × (length (now old) ≡ positions (now block)) × (length (now new) ≡ positions (now block)) ⌝ }
+    requires { ⌜ Sized (now block) × (r < rules (now block)) × (length (now old) ≡ positions (now block)) ×
+        (length (now new) ≡ positions (now block)) ⌝ }
     ensures { λ answer. ⌜ answer ≡ leads (now (block .entry)) r (now (old .entry)) (now (new .entry)) ⌝ }
 {
     let left = layout::left_at(block, r);

@@ -1,4 +1,5 @@
--- What an accepting verdict on the conditions of a call says: on a block and a state (`state-accepted`), and on a rule and the room for a state beside them (`apply-accepted`).
+-- What an accepting verdict on the conditions of a call says: on a block and a state (`state-accepted`), and on a rule
+-- and the room for a state beside them (`apply-accepted`).
 -- All calls that take a state rest on these once they have refused what is to be refused.
 use mathlib.Core.Path.{_≡_}
 use mathlib.Core.Bool.{true}

@@ -1,5 +1,5 @@
--- Applying a rule, as a public call: `applyRule` is the answer with the final contents of the lent buffer, for every input.
--- `applicationOf` gives the document's answer for each case of the enum.
+-- Applying a rule, as a public call: `applyRule` is the answer with the final contents of the lent buffer, for every
+-- input. `applicationOf` gives the document's answer for each case of the enum.
 use Prim.Native.Nat.{ℕ}
 use mathlib.Core.Bool.{cond}
 use mathlib.Core.List.{List, [], _∷_, _++_}

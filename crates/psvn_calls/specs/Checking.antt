@@ -1,5 +1,5 @@
--- Checking a block (`checkBlock`, a public call), and the conditions on a block and a state together (`stateConditions`).
--- The calls that take a state begin with these conditions.
+-- Checking a block (`checkBlock`, a public call), and the conditions on a block and a state together
+-- (`stateConditions`). The calls that take a state begin with these conditions.
 use Prim.Native.Nat.{ℕ}
 use mathlib.Core.List.{List, [], _∷_, _++_}
 use Rattle.refusals.specs.Answers.{Answer, Condition, _unless_, verdict}

@@ -1,5 +1,5 @@
--- Relabelling a block, as a public call: `relabelExercise` is the answer with the final contents of the lent buffer, for every input.
--- `relabellingOf` gives the document's answer for each case of the enum.
+-- Relabelling a block, as a public call: `relabelExercise` is the answer with the final contents of the lent buffer,
+-- for every input. `relabellingOf` gives the document's answer for each case of the enum.
 use Prim.Native.Nat.{ℕ}
 use mathlib.Core.List.{List, [], _∷_, _++_}
 use lib.Dec.{leb}

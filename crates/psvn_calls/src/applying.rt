@@ -31,10 +31,11 @@ pub fn check_application(block: &[u8], rule: usize, state: &[u8], room: usize) -
     Verdict::Accepted
 }
 
-// Applies a rule: writes the new state at the front of `out` and is done, or the rule does not apply and nothing is written.
-// Refused with 3 to 7, 8, 9, 11.
+// Applies a rule: writes the new state at the front of `out` and is done, or the rule does not apply and nothing is
+// written. Refused with 3 to 7, 8, 9, 11.
 pub fn apply_rule(block: &[u8], rule: usize, state: &[u8], out: &mut [u8]) -> Application
-    ensures { λ r. ⌜ outcome (applicationOf r) (now (out .exit)) ≡ applyRule (now (block .entry)) rule (now (state .entry)) (now (out .entry)) ⌝ }
+    ensures { λ r. ⌜ outcome (applicationOf r) (now (out .exit)) ≡
+        applyRule (now (block .entry)) rule (now (state .entry)) (now (out .entry)) ⌝ }
 {
     let checked = check_application(block, rule, state, out.len());
     if let Verdict::Refused(refusal) = checked {

@@ -13,7 +13,8 @@ pub enum Relabelling {
 
 // Writes the relabelled block at the front of `out`. Refused with 3 to 7, 11; 11 measures the relabelled block.
 pub fn relabel_block(block: &[u8], out: &mut [u8]) -> Relabelling
-    ensures { λ r. ⌜ outcome (relabellingOf r) (now (out .exit)) ≡ relabelExercise (now (block .entry)) (now (out .entry)) ⌝ }
+    ensures { λ r. ⌜ outcome (relabellingOf r) (now (out .exit)) ≡
+        relabelExercise (now (block .entry)) (now (out .entry)) ⌝ }
 {
     let checked = blocks::validity::check(block);
     if let Verdict::Refused(refusal) = checked {

@@ -1,4 +1,3 @@
--- The laws of query lines and of printed lines.
--- The proofs of the functions that answer a query rest on them.
-pub mod PrintedLengths
+-- The laws of what a search is asked.
+-- The search call, and the answers to records, rest on them.
 pub mod QueryLaws

@@ -1,3 +1,3 @@
--- The definitions of a query line and its answer.
--- What a query asks, the search that it asks for, and the line that answers it.
+-- The definitions of what a search is asked.
+-- What turns a query back is stated with these.
 pub mod Queries

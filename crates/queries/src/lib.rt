@@ -1,11 +1,33 @@
-// A query line and its answer line, or the line of a refusal.
-mod answering;
-mod numbers;
-mod refusing;
+// What a search is asked, from which state and within which limits, and what turns it back.
+ghost use mathlib.Core.Path.{_≡_};
+ghost use Rattle.refusals.specs.Answers.{verdict};
+ghost use Rattle.refusals.specs.Refusals.{verdictOf};
+ghost use Rattle.blocks.specs.Validity.{Headed};
+ghost use Rattle.queries.specs.Queries.{queryConditions};
+use refusals::Refusal;
+use refusals::Verdict;
 
-pub use answering::Answered;
-pub use answering::answer;
-pub use refusing::refuse;
+// The largest step limit.
+pub const LONGEST_PLAN: usize = 64;
 
-// Room for every line: two digits for each of at most 74 bytes, and the line feed.
-pub const LINE_ROOM: usize = 149;
+// The limits of a search: the most steps and the highest cost of a plan, and the most visits.
+#[repr(C)]
+pub struct Limits {
+    pub steps: usize,
+    pub cost: u32,
+    pub visits: u32,
+}
+
+// Whether a search may be asked for: refused with 8 for the start, with 10 for the step limit.
+pub fn check_query(block: &[u8], start: &[u8], limits: Limits) -> Verdict
+    requires { ⌜ Headed (now block) ⌝ }
+    ensures { λ r. ⌜ verdictOf r ≡ verdict (queryConditions (now (block .entry)) (now (start .entry)) limits) ⌝ }
+{
+    if !blocks::states::state_ok(block, start) {
+        return Verdict::Refused(Refusal::State);
+    }
+    if LONGEST_PLAN < limits.steps {
+        return Verdict::Refused(Refusal::Limit);
+    }
+    Verdict::Accepted
+}

@@ -1,5 +1,6 @@
--- Parts written one after another: what a part adds (`part-adds`), which stays while others are written (`added-kept`); none of them (`parts-none`), and one position more, whose row is
--- a part (`part-more`) or adds nothing (`plain-more`). The loop over positions, and the change of a rule, rest on these.
+-- Parts written one after another: what a part adds (`part-adds`), which stays while others are written (`added-kept`);
+-- none of them (`parts-none`), and one position more, whose row is a part (`part-more`) or adds nothing (`plain-more`).
+-- The loop over positions, and the change of a rule, rest on these.
 use mathlib.Core.Path.{_≡_, refl, sym, ap, ap₂, _∙_, subst}
 use mathlib.Core.Bool.{false}
 use mathlib.Core.List.{List}
@@ -40,7 +41,8 @@ part-adds :
 unfolding partAdds
 part-adds {p = p} {at = at} {changes₁ = changes₁} l part w =
     let shift : getD changes₁ at 0 % 64 ≡ 4 * p = omega (arith, part .shift) in
-    ap (λ (y : ℕ). getD changes₁ (at + 1 + w / 2 ^ y % 16) 0) shift ∙ ap (λ (x : ℕ). getD changes₁ (at + 1 + x) 0) (digit-shift w p)
+    ap (λ (y : ℕ). getD changes₁ (at + 1 + w / 2 ^ y % 16) 0) shift
+    ∙ ap (λ (x : ℕ). getD changes₁ (at + 1 + x) 0) (digit-shift w p)
     ∙ part .adds (digit w p) (digit-lt w p)
 
 module _ {rows : List ℕ} {first r : ℕ} where
@@ -57,7 +59,8 @@ module _ {rows : List ℕ} {first r : ℕ} where
   pub parts-as :
       {p p′ count : ℕ} {changes₀ changes₁ : List ℕ} → p ≡ p′ → PartsPlaced rows first r p count changes₀ changes₁
       → PartsPlaced rows first r p′ count changes₀ changes₁
-  parts-as {count = count} {changes₀ = changes₀} {changes₁ = changes₁} = subst (λ (p : ℕ). PartsPlaced rows first r p count changes₀ changes₁)
+  parts-as {count = count} {changes₀ = changes₀} {changes₁ = changes₁} =
+      subst (λ (p : ℕ). PartsPlaced rows first r p count changes₀ changes₁)
 
   module _ {p count : ℕ} {changes₀ changes₁ : List ℕ} (parts : PartsPlaced rows first r p count changes₀ changes₁) where
     pub part-more :
@@ -70,11 +73,14 @@ module _ {rows : List ℕ} {first r : ℕ} where
           few = omega (arith, parts .few);
           added = λ w.
               ap (addedTo changes₂ r w) (add-one count)
-              ∙ ap₂ _+_ (added-kept changes₁ changes₂ r w count (λ k a c. part .changes .before k (omega arith)) ∙ parts .added w) (part-adds l part w)
+              ∙ ap₂ _+_
+              (added-kept changes₁ changes₂ r w count (λ k a c. part .changes .before k (omega arith)) ∙ parts .added w)
+              (part-adds l part w)
               ∙ ap (total (λ k. entry rows k (digit w k))) (sym (add-one p));
           changes =
               outside-then (parts .changes)
-              (outside-within (changePlace r + 1) (changePlace r + 273) (omega arith) (omega (arith, parts .few)) (part .changes));
+              (outside-within (changePlace r + 1) (changePlace r + 273) (omega arith) (omega (arith, parts .few))
+              (part .changes));
         }
 
     pub plain-more : isPart rows first p ≡ false → PartsPlaced rows first r (p + 1) count changes₀ changes₁
@@ -85,7 +91,8 @@ module _ {rows : List ℕ} {first r : ℕ} where
           few = omega (arith, parts .few);
           added = λ w.
               let none =
-              eqb-true (entry rows p (digit w p)) 0 (all-at (λ x. eqb (entry rows p x) 0) 16 (not-false _ (parted .1)) (digit w p) (digit-lt w p)) in
+              eqb-true (entry rows p (digit w p)) 0
+              (all-at (λ x. eqb (entry rows p x) 0) 16 (not-false _ (parted .1)) (digit w p) (digit-lt w p)) in
               let sum : ℕ → ℕ = total (λ k. entry rows k (digit w k)) in
               parts .added w ∙ sym (add-zero (sum p)) ∙ ap (λ (y : ℕ). sum p + y) (sym none) ∙ ap sum (sym (add-one p));
           changes = parts .changes;

@@ -1,6 +1,7 @@
--- Rows folded into the constant: none of them (`folded-none`), some after others (`folded-then`), and the row of a position whose left term is a constant (`row-folded`);
--- and the constant folded into a row, which leaves none (`constant-folded`).
--- Folded rows with no constant left are balanced for the states that match the left side (`balanced-folded`). The functions that fold, and the rank after a rule, rest on these.
+-- Rows folded into the constant: none of them (`folded-none`), some after others (`folded-then`), and the row of a
+-- position whose left term is a constant (`row-folded`); and the constant folded into a row, which leaves none
+-- (`constant-folded`). Folded rows with no constant left are balanced for the states that match the left side
+-- (`balanced-folded`). The functions that fold, and the rank after a rule, rest on these.
 use mathlib.Core.Path.{_≡_, refl, sym, ap, _∙_}
 use mathlib.Core.Logic.{⊎-elim}
 use mathlib.Core.Bool.{true}
@@ -22,7 +23,8 @@ use Rattle.rank_changes.proofs.RowSums.{total-one, total-added}
 
 -- the rows fall by d, by which the constant grows
 moved :
-    (constant rows rows′ d : ℕ) → rows % 16384 ≡ (rows′ + d) % 16384 → ((constant + d) % 16384 + rows′) % 16384 ≡ (constant + rows) % 16384
+    (constant rows rows′ d : ℕ) → rows % 16384 ≡ (rows′ + d) % 16384
+    → ((constant + d) % 16384 + rows′) % 16384 ≡ (constant + rows) % 16384
 moved constant rows rows′ d e = omega arith
 
 -- the weights with what is added
@@ -32,7 +34,8 @@ with-weights :
 with-weights weights constant rows rows′ e = omega arith
 
 module _ (n : ℕ) (left : ℕ → ℕ) where
-  pub folded-none : {rows : List ℕ} {constant : ℕ} → Low rows → constant < 16384 → Folded n left rows constant rows constant
+  pub folded-none :
+      {rows : List ℕ} {constant : ℕ} → Low rows → constant < 16384 → Folded n left rows constant rows constant
   folded-none low l = record { sum = λ s small m. refl; low = low; constant-low = l }
 
   pub folded-then :
@@ -42,7 +45,8 @@ module _ (n : ℕ) (left : ℕ → ℕ) where
       record { sum = λ s small m. g .sum s small m ∙ f .sum s small m; low = g .low; constant-low = g .constant-low }
 
   pub row-folded :
-      {rows rows′ : List ℕ} (constant p : ℕ) → p < n → (c : ConcreteLabel) (x : ℕ) → termOf (left p) ≡ Label c → x ≡ c .0 → RowCleared p rows rows′
+      {rows rows′ : List ℕ} (constant p : ℕ) → p < n → (c : ConcreteLabel) (x : ℕ) → termOf (left p) ≡ Label c
+      → x ≡ c .0 → RowCleared p rows rows′
       → Folded n left rows constant rows′ ((constant + entry rows p x) % 16384)
   row-folded {rows} {rows′} constant p l c x e f cleared =
       record {
@@ -64,15 +68,18 @@ module _ (n : ℕ) (left : ℕ → ℕ) where
           omega (arith, ap (entry rows p) (label-is s m), cleared .none (getD s p 0) (small p l))
 
       kept :
-          (s : List ℕ) → ((p : ℕ) → p < n → getD s p 0 < 16) → (k : ℕ) → k < n → (k ≡ p → ⊥) → entryOf rows s k ≡ entryOf rows′ s k
+          (s : List ℕ) → ((p : ℕ) → p < n → getD s p 0 < 16) → (k : ℕ) → k < n → (k ≡ p → ⊥)
+          → entryOf rows s k ≡ entryOf rows′ s k
       kept s small k m q =
           let x = small k m in
-          ⊎-elim (λ h. sym (cleared .rows .before (16 * k + getD s k 0) (omega arith))) (λ h. sym (cleared .rows .behind (16 * k + getD s k 0) (omega arith)))
+          ⊎-elim (λ h. sym (cleared .rows .before (16 * k + getD s k 0) (omega arith)))
+          (λ h. sym (cleared .rows .behind (16 * k + getD s k 0) (omega arith)))
           (below? k p)
 
   -- a state has one label at position p, and so the constant is added once
   pub constant-folded :
-      {rows₀ rows₁ rows₂ : List ℕ} {constant₀ constant₁ : ℕ} (p : ℕ) → p < n → Folded n left rows₀ constant₀ rows₁ constant₁
+      {rows₀ rows₁ rows₂ : List ℕ} {constant₀ constant₁ : ℕ} (p : ℕ) → p < n
+      → Folded n left rows₀ constant₀ rows₁ constant₁
       → RowAdded (λ _. constant₁) p 16 rows₁ rows₂ → Folded n left rows₀ constant₀ rows₂ 0
   constant-folded p l folded added =
       record {
@@ -84,12 +91,14 @@ module _ (n : ℕ) (left : ℕ → ℕ) where
   -- the weights of the labels that the right side's terms give, for a state that matches
   pub balanced-folded :
       {right : ℕ → ℕ} {singles rows₀ rows₁ : List ℕ} {constant₀ i : ℕ} → Balanced n left right singles rows₀ constant₀ i
-      → Folded n left rows₀ constant₀ rows₁ 0 → (s : List ℕ) → ((p : ℕ) → p < n → getD s p 0 < 16) → matches n left s ≡ true
+      → Folded n left rows₀ constant₀ rows₁ 0 → (s : List ℕ) → ((p : ℕ) → p < n → getD s p 0 < 16)
+      → matches n left s ≡ true
       → (total (entryOf singles s) n + total (entryOf rows₁ s) n) % 16384
       ≡ total (λ k. entry singles k (given n left s k (termOf (right k)))) i % 16384
-  balanced-folded {singles = singles} {rows₀ = rows₀} {rows₁ = rows₁} {constant₀ = constant₀} balanced folded s small m =
-      with-weights (total (entryOf singles s) n) constant₀ (total (entryOf rows₀ s) n) (total (entryOf rows₁ s) n) (folded .sum s small m)
-      ∙ balanced .sum s small
+  balanced-folded {singles = singles} {rows₀ = rows₀} {rows₁ = rows₁} {constant₀ = constant₀} balanced folded s low m =
+      with-weights (total (entryOf singles s) n) constant₀ (total (entryOf rows₀ s) n) (total (entryOf rows₁ s) n)
+      (folded .sum s low m)
+      ∙ balanced .sum s low
 
 -- the same by other names
 pub folded-as :

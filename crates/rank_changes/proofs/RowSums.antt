@@ -1,6 +1,7 @@
--- Sums over rows: sums of equal numbers are equal (`total-ext`), and a sum grows with one of its numbers (`total-one`). A row grows entry by entry (`added-none`, `added-more`), and with
--- it the sum (`total-added`); entries stay low (`low-set`). Rows begun are balanced (`balanced-none`), and so they are with one term more, which is a constant (`constant-more`) or takes
--- its label from a position (`row-more`; a right variable's is one: `source-below`). Making rows, folding them, and the rank after a rule rest on these.
+-- Sums over rows: equal for equal numbers (`total-ext`), growing with one of them (`total-one`). A row grows entry by
+-- entry (`added-none`, `added-more`), and the sum with it (`total-added`); entries stay low (`low-set`). Rows begun
+-- are balanced (`balanced-none`), also with one term more, a constant (`constant-more`) or one with a position's label
+-- (`row-more`; a right variable's: `source-below`). Making and folding rows, and the rank after a rule, rest on these.
 use mathlib.Core.Path.{_≡_, refl, sym, ap, ap₂, _∙_}
 use mathlib.Core.Logic.{⊎-elim}
 use mathlib.Core.Bool.{true}
@@ -48,7 +49,13 @@ low-set {rows} low at v l h =
     record {
       len = length-set rows at v ∙ low .len;
       each = λ k m.
-          ⊎-elim (λ e. omega (arith, getD-set-same rows at v 0 (omega (arith, low .len)), ap (λ (j : ℕ). getD (set rows at v) j 0) e))
+          ⊎-elim
+          (λ e.
+          omega (
+            arith,
+            getD-set-same rows at v 0 (omega (arith, low .len)),
+            ap (λ (j : ℕ). getD (set rows at v) j 0) e,
+          ))
           (λ q. omega (arith, getD-set-other rows at k v 0 (λ e. q (sym e)), low .each k m)) (same? at k);
     }
 
@@ -77,36 +84,47 @@ module _ {d : ℕ → ℕ} {p : ℕ} where
 
   -- the sum grows by what is added for the label at position p
   pub total-added :
-      {rows₀ rows₁ : List ℕ} → RowAdded d p 16 rows₀ rows₁ → (n : ℕ) → p < n → (s : List ℕ) → ((k : ℕ) → k < n → getD s k 0 < 16)
+      {rows₀ rows₁ : List ℕ} → RowAdded d p 16 rows₀ rows₁ → (n : ℕ) → p < n → (s : List ℕ)
+      → ((k : ℕ) → k < n → getD s k 0 < 16)
       → total (entryOf rows₁ s) n % 16384 ≡ (total (entryOf rows₀ s) n + d (getD s p 0)) % 16384
   total-added {rows₀} {rows₁} added n l s small =
       total-one (entryOf rows₀ s) (entryOf rows₁ s) p (d (getD s p 0)) n l kept
-      (ap (λ (y : ℕ). y % 16384) (added .sum (getD s p 0) (small p l)) ∙ mod-mod (entryOf rows₀ s p + d (getD s p 0)) 16384)
+      (ap (λ (y : ℕ). y % 16384) (added .sum (getD s p 0) (small p l))
+      ∙ mod-mod (entryOf rows₀ s p + d (getD s p 0)) 16384)
     where
       kept : (k : ℕ) → k < n → (k ≡ p → ⊥) → entryOf rows₁ s k ≡ entryOf rows₀ s k
       kept k m q =
           let x = small k m in
-          ⊎-elim (λ h. added .rows .before (16 * k + getD s k 0) (omega arith)) (λ h. added .rows .behind (16 * k + getD s k 0) (omega arith))
+          ⊎-elim (λ h. added .rows .before (16 * k + getD s k 0) (omega arith))
+          (λ h. added .rows .behind (16 * k + getD s k 0) (omega arith))
           (below? k p)
 
 -- the rows begun take all weights away
 begun-sum :
-    (singles rows s : List ℕ) → ((k : ℕ) → getD singles k 0 ≤ 16384) → RowsBegun singles rows → (n : ℕ) → n ≤ 16 → ((p : ℕ) → p < n → getD s p 0 < 16)
+    (singles rows s : List ℕ) → ((k : ℕ) → getD singles k 0 ≤ 16384) → RowsBegun singles rows → (n : ℕ) → n ≤ 16
+    → ((p : ℕ) → p < n → getD s p 0 < 16)
     → (total (entryOf singles s) n + total (entryOf rows s) n) % 16384 ≡ 0
 begun-sum singles rows s low begun zero l small = refl
 begun-sum singles rows s low begun (suc n) l small =
     let k = 16 * n + getD s n 0 in
     let x = small n (omega arith) in
-    omega (arith, begun-sum singles rows s low begun n (omega arith) (λ p m. small p (omega arith)), low k, begun .taken k (omega arith))
+    omega (
+      arith,
+      begun-sum singles rows s low begun n (omega arith) (λ p m. small p (omega arith)),
+      low k,
+      begun .taken k (omega arith),
+    )
 
 -- what is given grows by d, and so does the constant, or the sum of the rows
 with-constant :
-    (weights constant rows given d given′ : ℕ) → (weights + constant + rows) % 16384 ≡ given % 16384 → given′ ≡ given + d
+    (weights constant rows given d given′ : ℕ) → (weights + constant + rows) % 16384 ≡ given % 16384
+    → given′ ≡ given + d
     → (weights + (constant + d) % 16384 + rows) % 16384 ≡ given′ % 16384
 with-constant weights constant rows given d given′ e f = omega arith
 
 with-row :
-    (weights constant rows rows′ given d given′ : ℕ) → (weights + constant + rows) % 16384 ≡ given % 16384 → given′ ≡ given + d
+    (weights constant rows rows′ given d given′ : ℕ) → (weights + constant + rows) % 16384 ≡ given % 16384
+    → given′ ≡ given + d
     → rows′ % 16384 ≡ (rows + d) % 16384 → (weights + constant + rows′) % 16384 ≡ given′ % 16384
 with-row weights constant rows rows′ given d given′ e f g =
     let x = weights + constant in
@@ -116,7 +134,8 @@ with-row weights constant rows rows′ given d given′ e f g =
 
 -- the first left position of a right variable is a position
 pub source-below :
-    {n : ℕ} {left right : ℕ → ℕ} {i : ℕ} → Bound n left right → i < n → (v from : ℕ) → termOf (right i) ≡ Variable v → from ≡ first n (λ j. eqb (left j) v)
+    {n : ℕ} {left right : ℕ → ℕ} {i : ℕ} → Bound n left right → i < n → (v from : ℕ) → termOf (right i) ≡ Variable v
+    → from ≡ first n (λ j. eqb (left j) v)
     → from < n
 source-below {n} {left} {right} {i} bound l v from e f =
     let some-left : some n (λ j. eqb (left j) v) ≡ true = ap (boundIn n left) (sym e) ∙ bound .at i l in
@@ -147,8 +166,10 @@ module _ (n : ℕ) (left right : ℕ → ℕ) (singles : List ℕ) (few : n ≤ 
     constant-more c x e f =
         record {
           sum = λ s small.
-              with-constant (total (entryOf singles s) n) constant (total (entryOf rows s) n) _ (entry singles i x) _ (b .sum s small)
-              (more s (entry singles i x) (ap (λ t. entry singles i (given n left s i t)) e ∙ ap (entry singles i) (sym f)));
+              with-constant (total (entryOf singles s) n) constant (total (entryOf rows s) n) _ (entry singles i x) _
+              (b .sum s small)
+              (more s (entry singles i x)
+              (ap (λ t. entry singles i (given n left s i t)) e ∙ ap (entry singles i) (sym f)));
           low = b .low;
           constant-low = omega arith;
         }
@@ -160,8 +181,9 @@ module _ (n : ℕ) (left right : ℕ → ℕ) (singles : List ℕ) (few : n ≤ 
         record {
           sum = λ s small.
               let d = entry singles i (getD s p 0) in
-              with-row (total (entryOf singles s) n) constant (total (entryOf rows s) n) (total (entryOf rows′ s) n) _ d _ (b .sum s small)
-              (more s d (ap (entry singles i) (source .label s))) (total-added added n l s small);
+              with-row (total (entryOf singles s) n) constant (total (entryOf rows s) n) (total (entryOf rows′ s) n)
+              _ d _ (b .sum s small) (more s d (ap (entry singles i) (source .label s)))
+              (total-added added n l s small);
           low = added .low;
           constant-low = b .constant-low;
         }
@@ -169,5 +191,7 @@ module _ (n : ℕ) (left right : ℕ → ℕ) (singles : List ℕ) (few : n ≤ 
 -- the same by other names
 pub balanced-as :
     {n n′ l l′ s s′ constant : ℕ} {singles rows : List ℕ} (b : List ℕ) → n ≡ n′ → l ≡ l′ → s ≡ s′
-    → Balanced n (sideAt b l) (sideAt b s) singles rows constant n → Balanced n′ (sideAt b l′) (sideAt b s′) singles rows constant n′
-balanced-as {constant = constant} {singles = singles} {rows = rows} = named (λ n l s. Balanced n l s singles rows constant n)
+    → Balanced n (sideAt b l) (sideAt b s) singles rows constant n
+    → Balanced n′ (sideAt b l′) (sideAt b s′) singles rows constant n′
+balanced-as {constant = constant} {singles = singles} {rows = rows} =
+    named (λ n l s. Balanced n l s singles rows constant n)

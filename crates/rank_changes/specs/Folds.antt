@@ -1,5 +1,5 @@
--- What folding rows into the constant leaves: a row that adds nothing (`RowCleared`), and for every state that matches the left side the same sum (`Folded`).
--- The functions that fold are stated with these.
+-- What folding rows into the constant leaves: a row that adds nothing (`RowCleared`), and for every state that matches
+-- the left side the same sum (`Folded`). The functions that fold are stated with these.
 use mathlib.Core.Path.{_≡_}
 use mathlib.Core.Bool.{true}
 use mathlib.Core.List.{List}
@@ -16,7 +16,9 @@ pub record RowCleared (p : ℕ) (rows₀ rows₁ : List ℕ) : Type 0 where
   pub low : Low rows₁
 
 -- the constant and the rows add the same to the rank of a state that matches the left side, modulo 16,384
-pub record Folded (n : ℕ) (left : ℕ → ℕ) (rows₀ : List ℕ) (constant₀ : ℕ) (rows₁ : List ℕ) (constant₁ : ℕ) : Type 0 where
+pub record Folded
+    (n : ℕ) (left : ℕ → ℕ) (rows₀ : List ℕ) (constant₀ : ℕ) (rows₁ : List ℕ) (constant₁ : ℕ)
+    : Type 0 where
   pub sum :
       (s : List ℕ) → ((p : ℕ) → p < n → getD s p 0 < 16) → matches n left s ≡ true
       → (constant₁ + total (entryOf rows₁ s) n) % 16384 ≡ (constant₀ + total (entryOf rows₀ s) n) % 16384

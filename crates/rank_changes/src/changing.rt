@@ -5,7 +5,7 @@ ghost use lib.ListN.{length};
 ghost use Rattle.blocks.specs.Layout.{rules};
 ghost use Rattle.blocks.specs.Validity.{Valid};
 ghost use Rattle.words.specs.Changes.{changesLength};
-ghost use Rattle.compiling.specs.PlacingWeights.{Singles};
+ghost use Rattle.compiling.specs.PlacingWeights.{SinglesPlaced};
 ghost use Rattle.rank_changes.specs.Changes.{PairsCopied, ChangePlaced, ChangesPlaced};
 use super::folding::fold_terms;
 use super::parts::add_constant;
@@ -18,6 +18,7 @@ use compiling::Singles;
 use words::changes::CHANGE;
 use words::changes::Changes;
 use words::changes::FIRST_CHANGE;
+use words::ranking::WEIGHTS;
 use words::ranking::Weights;
 
 // Copies the weights of pairs to the front.
@@ -26,7 +27,7 @@ pub fn copy_pairs(pairs: &Weights, changes: &mut Changes)
     ensures { λ _. ⌜ PairsCopied (now (pairs .entry)) (now (changes .exit)) ⌝ }
 {
     let mut k: usize = 0;
-    while k < 2048 {
+    while k < WEIGHTS {
         changes[k] = pairs[k];
         k += 1;
     }
@@ -34,7 +35,7 @@ pub fn copy_pairs(pairs: &Weights, changes: &mut Changes)
 
 // Writes the change of rule r.
 fn place_change(block: &[u8], singles: &Singles, changes: &mut Changes, r: usize)
-    requires { ⌜ Valid (now block) × (r < rules (now block)) × Singles (now block) (now singles) ×
+    requires { ⌜ Valid (now block) × (r < rules (now block)) × SinglesPlaced (now block) (now singles) ×
         (length (now changes) ≡ changesLength) ⌝ }
     ensures { λ _. ⌜ ChangePlaced (now (block .entry)) r (now (changes .entry)) (now (changes .exit)) ⌝ }
 {
@@ -52,7 +53,7 @@ fn place_change(block: &[u8], singles: &Singles, changes: &mut Changes, r: usize
 
 // Writes the changes of all rules.
 pub fn place_rule_changes(block: &[u8], singles: &Singles, changes: &mut Changes)
-    requires { ⌜ Valid (now block) × Singles (now block) (now singles) ×
+    requires { ⌜ Valid (now block) × SinglesPlaced (now block) (now singles) ×
         (length (now changes) ≡ changesLength) ⌝ }
     ensures { λ _. ⌜ ChangesPlaced (now (block .entry)) (now (changes .entry)) (now (changes .exit)) ⌝ }
 {

@@ -41,7 +41,7 @@ fn place_changes(block: &[u8], pairs: &Weights, changes: &mut Changes)
 
 // Compiles an accepted block: its code with the sets of its rules, and the changes of ranks behind the weights of
 // pairs.
-pub fn compile(block: &[u8], code: &mut Code, changes: &mut Changes)
+pub fn compile_for_search(block: &[u8], code: &mut Code, changes: &mut Changes)
     requires { ⌜ Valid (now block) × (length (now code) ≡ codeLength) ×
         (length (now changes) ≡ changesLength) ⌝ }
     ensures { λ _. ⌜ Compiled (now (block .entry)) (now (code .exit)) (now (changes .exit)) ⌝ }

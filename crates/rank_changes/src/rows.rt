@@ -6,7 +6,6 @@ ghost use lib.ListN.{length, getD};
 ghost use Rattle.blocks.specs.Layout.{sideAt};
 ghost use Rattle.rank_changes.specs.Rows.{entry, Low, Bound, RowsBegun, RowAdded, Balanced};
 use basics::wide;
-use blocks::layout;
 use blocks::terms::Term;
 use blocks::terms::decode;
 use compiling::Singles;
@@ -22,7 +21,7 @@ fn begin_rows(singles: &Singles, rows: &mut Rows)
     ensures { λ _. ⌜ RowsBegun (now (singles .entry)) (now (rows .exit)) ⌝ }
 {
     let mut k: usize = 0;
-    while k < 256 {
+    while k < ROWS {
         rows[k] = (16384 - singles[k]) % 16384;
         k += 1;
     }
@@ -64,7 +63,7 @@ fn add_term(
     match term {
         Term::Label(label) => (constant + singles[16 * i + wide(label.0)]) % 16384,
         Term::Variable(v) => {
-            let p = layout::first_of(bytes, left, n, v);
+            let p = basics::first_of(bytes, left, n, v);
             add_row(singles, i, rows, p);
             constant
         }

@@ -1,4 +1,5 @@
--- Laws of `verdict`: what an accepting verdict says of its conditions, and conditions that stand behind others; and of `guarded`: what an outcome says of the verdict behind it.
+-- Laws of `verdict`: what an accepting verdict says of its conditions, and conditions that stand behind others; and of
+-- `guarded`: what an outcome says of the verdict behind it.
 -- The proofs of all that refuses rest on these.
 use mathlib.Core.Path.{_≡_, refl, sym, ap}
 use mathlib.Core.Bool.{Bool, true, false}

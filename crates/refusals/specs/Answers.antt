@@ -1,5 +1,6 @@
--- What a public call gives, in the document's terms: an answer (`Answer`), the conditions that turn the call back (`Condition`, `verdict`),
--- and the answer with the final contents of the buffer that was lent (`Outcome`, `guarded`). Every public contract names a value made of these.
+-- What a public call gives, in the document's terms: an answer (`Answer`), the conditions that turn the call back
+-- (`Condition`, `verdict`), and the answer with the final contents of the buffer that was lent (`Outcome`, `guarded`).
+-- Every public contract names a value made of these.
 use Prim.Native.Nat.{ℕ}
 use mathlib.Core.Bool.{Bool, cond}
 use mathlib.Core.List.{List, [], _∷_}
@@ -14,7 +15,8 @@ infix 68 _unless_
 pub data Condition : Type 0 where
   _unless_ : ℕ → Bool → Condition
 
--- "The lowest number wins": the conditions stand in the order of their numbers (the reader's in its own order), and the first that fails gives its number
+-- "The lowest number wins": the conditions stand in the order of their numbers (the reader's in its own order), and
+-- the first that fails gives its number
 abbrev pub verdict : List Condition → Answer (Unit {0})
 verdict [] = told tt
 verdict (number unless holds ∷ conditions) = cond holds (verdict conditions) (refused number)

@@ -3,7 +3,8 @@
 use Prim.Native.Nat.{ℕ}
 use Rattle.refusals.specs.Answers.{Answer, refused, told}
 use Rattle.refusals.specs.declared.Refusal.{Refusal}
-use Rattle.refusals.specs.declared.Refusal.the-variants.{Character, Line, Head, Length, Map, Term, Unbound, State, Rule, Limit, Buffer, TableShort, TableFails}
+use Rattle.refusals.specs.declared.Refusal.the-variants.{Character, Line, Head, Length, Map, Term, Unbound}
+use Rattle.refusals.specs.declared.Refusal.the-variants.{State, Rule, Limit, Buffer, TableShort, TableFails}
 use Rattle.refusals.specs.declared.Verdict.{Verdict}
 use Rattle.refusals.specs.declared.Verdict.the-variants.{Accepted, Refused}
 

@@ -1,6 +1,6 @@
--- What an allowance changes: with one of v visits the search answers as with none where that makes at most v visits (`upto-enough`), and else 'spent' after v
--- (`upto-spent`). Shown part by part: visits are only added (`visit-rises`), and each part with the allowance is the part without, or stops (`visit-held`).
--- The promises on 'spent' rest on these.
+-- What an allowance changes: with one of v visits the search answers as with none where that makes at most v visits
+-- (`upto-enough`), and else 'spent' after v (`upto-spent`). Shown part by part: visits are only added (`visit-rises`),
+-- and each part with the allowance is the part without, or stops (`visit-held`). The promises on 'spent' rest on these.
 use mathlib.Core.Path.{_≡_, refl, ap, subst, sym}
 use mathlib.Core.Logic.{_⊎_, inl, inr}
 use mathlib.Core.Bool.{Bool, true, false}
@@ -10,7 +10,9 @@ use native.Mathlib.Omega.{arith}
 use lib.Dec.{leb, ltb}
 use borrow.Author.Tests.{ltb-true, ltb-false}
 use Rattle.rounds.specs.Systems.{System, Estimate, mark, at}
-use Rattle.rounds.specs.Rounds.{free, upto, Progress, on, hit, stop, Answer, noPlan, spent, visits, Offer, cut, over, due, andThen, behind, takeUp, conclude, capped, begin, arrive, Visitor, offer, extend, visit, round, rounds, roundsFrom, search}
+use Rattle.rounds.specs.Rounds.{free, upto, Progress, on, hit, stop, Answer, noPlan, spent, visits, Offer, cut}
+use Rattle.rounds.specs.Rounds.{over, due, andThen, behind, takeUp, conclude, capped, begin, arrive, Visitor}
+use Rattle.rounds.specs.Rounds.{offer, extend, visit, round, rounds, roundsFrom, search}
 
 -- the visits used
 unfoldable pub used : Progress → ℕ
@@ -121,8 +123,10 @@ held-arrive v false b g u o k m l e held rise =
 
 module _ (Y : System) (h : Y .State → Estimate) (T : ℕ) where
   extend-rises :
-      (next : Visitor (Y .State)) → ((seen : List (Y .State)) (s : Y .State) (g u : ℕ) (o : Estimate) → u ≤ used (next seen s g u o))
-      → (seen : List (Y .State)) (s : Y .State) (g k i u : ℕ) (o : Estimate) → u ≤ used (extend Y h T next seen s g k i u o)
+      (next : Visitor (Y .State))
+      → ((seen : List (Y .State)) (s : Y .State) (g u : ℕ) (o : Estimate) → u ≤ used (next seen s g u o))
+      → (seen : List (Y .State)) (s : Y .State) (g k i u : ℕ) (o : Estimate)
+      → u ≤ used (extend Y h T next seen s g k i u o)
   unfolding extend
   extend-rises next rise seen s g zero i u o = used-on u o
   extend-rises next rise seen s g (suc k) i u o =
@@ -131,12 +135,18 @@ module _ (Y : System) (h : Y .State → Estimate) (T : ℕ) where
       (λ w q. extend-rises next rise _ s g k (suc i) w q)
 
   pub visit-rises :
-      (d : ℕ) (seen : List (Y .State)) (s : Y .State) (g u : ℕ) (o : Estimate) → u < used (visit Y h free T d seen s g u o)
+      (d : ℕ) (seen : List (Y .State)) (s : Y .State) (g u : ℕ) (o : Estimate)
+      → u < used (visit Y h free T d seen s g u o)
   unfolding visit
   visit-rises zero seen s g u o = rises-arrive (Y .goal s) g u o on used-on
   visit-rises (suc d) seen s g u o =
       rises-arrive (Y .goal s) g u o _
       (extend-rises (visit Y h free T d) (λ ss t c x y. omega (arith, visit-rises d ss t c x y)) seen s g (Y .rules) 0)
+
+  visit-keeps :
+      (d : ℕ) (seen : List (Y .State)) (s : Y .State) (g u : ℕ) (o : Estimate)
+      → u ≤ used (visit Y h free T d seen s g u o)
+  visit-keeps d seen s g u o = omega (arith, visit-rises d seen s g u o)
 
   extend-held :
       (v : ℕ) (next other : Visitor (Y .State))
@@ -161,8 +171,8 @@ module _ (Y : System) (h : Y .State → Estimate) (T : ℕ) where
   visit-held v (suc d) seen s g u o l =
       held-arrive v (ltb u v) (Y .goal s) g u o _ _ l refl
       (λ w q m. extend-held v (visit Y h (upto v) T d) (visit Y h free T d) (λ ss t c x y. visit-held v d ss t c x y)
-      (λ ss t c x y. omega (arith, visit-rises d ss t c x y)) seen s g (Y .rules) 0 w q m)
-      (extend-rises (visit Y h free T d) (λ ss t c x y. omega (arith, visit-rises d ss t c x y)) seen s g (Y .rules) 0)
+      (visit-keeps d) seen s g (Y .rules) 0 w q m)
+      (extend-rises (visit Y h free T d) (visit-keeps d) seen s g (Y .rules) 0)
 
 -- ---- the rounds
 
@@ -189,9 +199,13 @@ held-conclude :
     → ((T w : ℕ) → w ≤ visits (m T w)) → HeldAnswer v (conclude x k) (conclude y m)
 unfolding Held HeldAnswer conclude
 held-conclude v x y k m (inl e) held rise =
-    subst (λ (z : Progress). HeldAnswer v (conclude z k) (conclude y m)) (sym (e .1)) (conclude-from v y k m (e .0) held)
+    subst (λ (z : Progress). HeldAnswer v (conclude z k) (conclude y m)) (sym (e .1))
+    (conclude-from v y k m (e .0) held)
 held-conclude v x y k m (inr e) held rise =
-    inr (omega (arith, conclude-rises y m (used y) (omega arith) rise, e .0), ap (λ (z : Progress). conclude z k) (e .1))
+    inr (
+      omega (arith, conclude-rises y m (used y) (omega arith) rise, e .0),
+      ap (λ (z : Progress). conclude z k) (e .1),
+    )
 
 capped-rises : (b : Bool) (u : ℕ) (k : ℕ → Answer) → u ≤ visits (k u) → u ≤ visits (capped b u k)
 unfolding visits capped
@@ -206,7 +220,8 @@ held-capped v true u k m l held = held
 held-capped v false u k m l held = inl (l, refl)
 
 held-begin :
-    (v : ℕ) (e : Estimate) (k m : ℕ → Answer) → ((T : ℕ) → HeldAnswer v (k T) (m T)) → HeldAnswer v (begin e k) (begin e m)
+    (v : ℕ) (e : Estimate) (k m : ℕ → Answer) → ((T : ℕ) → HeldAnswer v (k T) (m T))
+    → HeldAnswer v (begin e k) (begin e m)
 unfolding HeldAnswer visits begin
 held-begin v mark k m held = inl (omega arith, refl)
 held-begin v (at T) k m held = held T

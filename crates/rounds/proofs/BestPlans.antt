@@ -1,6 +1,6 @@
--- Every answer of the search is right (`search-right`): a plan found is the best, 'no plan' leaves none within the limits, 'spent' has no visit left.
--- A threshold is never above the cost of an open list that reaches a goal (`raised`), and the next one is higher (`higher`).
--- What is promised of the search rests on these.
+-- Every answer of the search is right (`search-right`): a plan found is the best, 'no plan' leaves none within the
+-- limits, 'spent' has no visit left. A threshold is never above the cost of an open list that reaches a goal
+-- (`raised`), and the next one is higher (`higher`). What is promised of the search rests on these.
 use mathlib.Core.Path.{_≡_, refl, sym, _∙_}
 use mathlib.Core.Logic.{_⊎_, inl, inr}
 use mathlib.Core.Bool.{Bool, true, false}
@@ -11,8 +11,9 @@ use lib.Dec.{leb}
 use borrow.Author.Tests.{leb-true, leb-false}
 use Rattle.rounds.specs.Systems.{System, Estimate, mark, at, Within, Lawful, Passing}
 use Rattle.rounds.specs.OpenLists.{totalCost, Open, Reaches}
-use Rattle.rounds.specs.Rounds.{Allowance, allows, Progress, on, hit, stop, Answer, found, noPlan, spent, conclude, capped, begin, rounds, roundsFrom, search}
-use Rattle.rounds.specs.Promises.{Floor, Best}
+use Rattle.rounds.specs.Rounds.{Allowance, allows, Progress, on, hit, stop, Answer, found, noPlan, spent}
+use Rattle.rounds.specs.Rounds.{conclude, capped, begin, rounds, roundsFrom, search}
+use Rattle.rounds.specs.Promises.{Floor, BestPlan}
 use Rattle.rounds.proofs.OpenListLaws.{Trail, open-trail, trail-open, trail-run}
 use Rattle.rounds.proofs.EstimateLaws.{mark-at, at-injective, within-mono}
 use Rattle.rounds.proofs.ListSets.{Short}
@@ -22,7 +23,7 @@ use Rattle.rounds.proofs.ReachingLists.{visited-trail, visited-cost, ed
 module _ (Y : System) (D : ℕ) (s : Y .State) where
   -- what an answer says
   abbrev pub Right : Allowance → ℕ → Answer → Type 0
-  Right A B (found u p c) = (c ≡ totalCost Y p) × Best Y D s B p
+  Right A B (found u p c) = (c ≡ totalCost Y p) × BestPlan Y D s B p
   Right A B (noPlan u) = Floor Y D s (suc B)
   Right A B (spent u) = allows A u ≡ false
 
@@ -36,8 +37,8 @@ module _ (Y : System) (h : Y .State → Estimate) (D : ℕ) (s : Y .State) (T : 
       go (inr (p, f, l, w, e)) = omega (arith, at-injective n f e, edge-above Y h T (s ∷ []) s 0 p f w)
 
 module _
-    (Y : System) (h : Y .State → Estimate) {Good : Y .State → Type 0} (L : Lawful Y Good) (P : Passing Y Good h) (D : ℕ)
-    (s : Y .State) (good : Good s) where
+    (Y : System) (h : Y .State → Estimate) {Legal : Y .State → Type 0} (L : Lawful Y Legal) (P : Passing Y Legal h) (D : ℕ)
+    (s : Y .State) (good : Legal s) where
   module _ (T : ℕ) where
     -- an open list that reaches a goal: visited, or an edge at no more than its cost
     met : (q : List ℕ) → Open Y D s q → Reaches Y s q → Hits Y h T (s ∷ []) s 0 q ⊎ EdgeUnder Y h T (s ∷ []) s 0 q
@@ -66,7 +67,7 @@ module _
     -- a plan that a round finds at a threshold that is no higher than the floor is the best
     struck :
         (B : ℕ) (p : List ℕ) (c : ℕ) → T ≤ B → Floor Y D s T → Struck Y h T (s ∷ []) s 0 (Short D) p c
-        → (c ≡ totalCost Y p) × Best Y D s B p
+        → (c ≡ totalCost Y p) × BestPlan Y D s B p
     struck B p c l fl a =
         let (t, v, g) = a .hits in
         let tr : Trail Y (s ∷ []) s p t = visited-trail Y h T L (s ∷ []) s 0 p t v in
@@ -98,7 +99,8 @@ module _
       capped-right true u k e fl r = r (leb-true T B e)
       capped-right false u k e fl r = λ q o w. omega (arith, fl q o w, leb-false T B e)
 
-  rounds-right : (A : Allowance) (B n T u : ℕ) → suc B ≤ n + T → Floor Y D s T → Right Y D s A B (rounds Y h A D B s n T u)
+  rounds-right :
+      (A : Allowance) (B n T u : ℕ) → suc B ≤ n + T → Floor Y D s T → Right Y D s A B (rounds Y h A D B s n T u)
   unfolding rounds
   rounds-right A B zero T u l fl = λ q o w. omega (arith, fl q o w)
   rounds-right A B (suc n) T u l fl =
@@ -119,7 +121,8 @@ module _
       mark-at j (sym e ∙ x)
 
   begin-right :
-      (A : Allowance) (B : ℕ) (e : Estimate) → h s ≡ e → (k : ℕ → Answer) → ((T : ℕ) → Floor Y D s T → Right Y D s A B (k T))
+      (A : Allowance) (B : ℕ) (e : Estimate) → h s ≡ e → (k : ℕ → Answer)
+      → ((T : ℕ) → Floor Y D s T → Right Y D s A B (k T))
       → Right Y D s A B (begin e k)
   unfolding begin
   begin-right A B mark e k r = λ q o w. absurd (none-start e q w)

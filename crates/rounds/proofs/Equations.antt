@@ -1,6 +1,7 @@
--- The rounds' equations, a law for each branch of a program: a visit that is due (`visit-stop`, `visit-goal`, `visit-leaf`, `visit-more`), what a rule offers
--- (`offer-none`, `offer-seen`, `offer-mark`, `offer-over`, `offer-due`), one rule and then the others (`extend-none` to `extend-stop`), a round and then the others
--- (`rounds-above` to `rounds-on`). Code that searches rests on these; beside them it unfolds only `begin`, `conclude`, `round`, `search` and `lower`.
+-- The rounds' equations, a law for each branch of a program: a visit that is due (`visit-stop` to
+-- `visit-more`), what a rule offers (`offer-none` to `offer-due`), one rule and then the others
+-- (`extend-none` to `extend-stop`), a round and then the others (`rounds-above` to `rounds-on`). Code that
+-- searches rests on these; beside them it unfolds only `begin`, `conclude`, `round`, `search` and `lower`.
 use mathlib.Core.Path.{_≡_, refl, ap, ap₂, _∙_}
 use mathlib.Core.Bool.{Bool, true, false}
 use mathlib.Core.Option.{none, some}
@@ -8,7 +9,9 @@ use mathlib.Core.List.{List, [], _∷_}
 use Prim.Native.Nat.{ℕ, zero, suc, _+_}
 use lib.Dec.{leb}
 use Rattle.rounds.specs.Systems.{System, Lawful, Estimate, mark, at, plus, lower}
-use Rattle.rounds.specs.Rounds.{occurs, Allowance, allows, Progress, on, hit, stop, found, noPlan, spent, Offer, cut, over, due, judge, weigh, andThen, behind, takeUp, arrive, conclude, capped, Visitor, offered, offer, extend, visit, round, roundsFrom}
+use Rattle.rounds.specs.Rounds.{occurs, Allowance, allows, Progress, on, hit, stop, found, noPlan, spent, Offer}
+use Rattle.rounds.specs.Rounds.{cut, over, due, judge, weigh, andThen, behind, takeUp, arrive, conclude, capped}
+use Rattle.rounds.specs.Rounds.{Answer, Visitor, offered, offer, extend, visit, round, roundsFrom}
 use Rattle.rounds.proofs.ReachingLists.{offer-judge}
 use Rattle.rounds.proofs.RoundCounts.{rounds-again}
 
@@ -26,7 +29,8 @@ module _ (a b : Bool) (g u : ℕ) (o : Estimate) (k : ℕ → Estimate → Progr
   unfolding arrive
   arrive-on e f = ap₂ (λ (x y : Bool). arrive x y g u o k) e f
 
-module _ (Y : System) (h : Y .State → Estimate) (A : Allowance) (T : ℕ) (seen : List (Y .State)) (s : Y .State) (g : ℕ) where
+module _
+    (Y : System) (h : Y .State → Estimate) (A : Allowance) (T : ℕ) (seen : List (Y .State)) (s : Y .State) (g : ℕ) where
   -- ---- a visit
 
   pub visit-stop : (d u : ℕ) (o : Estimate) → allows A u ≡ false → visit Y h A T d seen s g u o ≡ stop u
@@ -40,7 +44,8 @@ module _ (Y : System) (h : Y .State → Estimate) (A : Allowance) (T : ℕ) (see
   visit-goal zero u o e f = arrive-goal (allows A u) (Y .goal s) g u o _ e f
   visit-goal (suc d) u o e f = arrive-goal (allows A u) (Y .goal s) g u o _ e f
 
-  pub visit-leaf : (u : ℕ) (o : Estimate) → allows A u ≡ true → Y .goal s ≡ false → visit Y h A T 0 seen s g u o ≡ on (suc u) o
+  pub visit-leaf :
+      (u : ℕ) (o : Estimate) → allows A u ≡ true → Y .goal s ≡ false → visit Y h A T 0 seen s g u o ≡ on (suc u) o
   unfolding visit
   visit-leaf u o e f = arrive-on (allows A u) (Y .goal s) g u o _ e f
 
@@ -59,10 +64,12 @@ module _ (Y : System) (h : Y .State → Estimate) (T : ℕ) (seen : List (Y .Sta
 
   pub offer-seen : (r : ℕ) (t : Y .State) → Y .step r s ≡ some t → occurs Y t seen ≡ true → offer Y h T seen s g r ≡ cut
   unfolding offer
-  offer-seen r t e f = ap (offered Y h T seen (g + Y .cost r)) e ∙ ap (λ (b : Bool). weigh b T t (plus (g + Y .cost r) (h t))) f
+  offer-seen r t e f =
+      ap (offered Y h T seen (g + Y .cost r)) e ∙ ap (λ (b : Bool). weigh b T t (plus (g + Y .cost r) (h t))) f
 
   pub offer-mark :
-      (r : ℕ) (t : Y .State) → Y .step r s ≡ some t → h t ≡ mark → occurs Y t seen ≡ false → offer Y h T seen s g r ≡ cut
+      (r : ℕ) (t : Y .State) → Y .step r s ≡ some t → h t ≡ mark → occurs Y t seen ≡ false
+      → offer Y h T seen s g r ≡ cut
   unfolding offer
   offer-mark r t e f x =
       ap (offered Y h T seen (g + Y .cost r)) e
@@ -96,7 +103,8 @@ module _ (Y : System) (h : Y .State → Estimate) (T : ℕ) (seen : List (Y .Sta
     taken-up x = handed-on (takeUp x i (λ t. next (t ∷ seen) t (g + Y .cost i)) u o)
 
     pub extend-cut :
-        offer Y h T seen s g i ≡ cut → extend Y h T next seen s g (suc k) i u o ≡ extend Y h T next seen s g k (suc i) u o
+        offer Y h T seen s g i ≡ cut
+        → extend Y h T next seen s g (suc k) i u o ≡ extend Y h T next seen s g k (suc i) u o
     unfolding extend andThen takeUp handed-on taken-up
     extend-cut e = ap taken-up e
 
@@ -131,24 +139,25 @@ module _ (Y : System) (h : Y .State → Estimate) (T : ℕ) (seen : List (Y .Sta
       extend-stop w f = extend-due (stop w) f
 
 module _
-    (Y : System) (h : Y .State → Estimate) {Good : Y .State → Type 0} (L : Lawful Y Good) (A : Allowance) (D B : ℕ)
+    (Y : System) (h : Y .State → Estimate) {Legal : Y .State → Type 0} (L : Lawful Y Legal) (A : Allowance) (D B : ℕ)
     (s : Y .State) where
   -- ---- a round, then the others
 
   module _ (T u : ℕ) where
-    by-limit :
-        (b : Bool) → leb T B ≡ b
-        → roundsFrom Y h A D B s T u ≡ capped b u (λ w. conclude (round Y h A D s T w) (roundsFrom Y h A D B s))
-    by-limit b e =
-        rounds-again Y h L A D B s T u
-        ∙ ap (λ (c : Bool). capped c u (λ w. conclude (round Y h A D s T w) (roundsFrom Y h A D B s))) e
+    -- the round at T after w visits, and the others
+    abbrev round-then : ℕ → Answer
+    round-then w = conclude (round Y h A D s T w) (roundsFrom Y h A D B s)
+
+    by-limit : (b : Bool) → leb T B ≡ b → roundsFrom Y h A D B s T u ≡ capped b u round-then
+    by-limit b e = rounds-again Y h L A D B s T u ∙ ap (λ (c : Bool). capped c u round-then) e
 
     pub rounds-above : leb T B ≡ false → roundsFrom Y h A D B s T u ≡ noPlan u
     unfolding capped
     rounds-above e = by-limit false e
 
     module _ (e : leb T B ≡ true) where
-      by-round : (x : Progress) → round Y h A D s T u ≡ x → roundsFrom Y h A D B s T u ≡ conclude x (roundsFrom Y h A D B s)
+      by-round :
+          (x : Progress) → round Y h A D s T u ≡ x → roundsFrom Y h A D B s T u ≡ conclude x (roundsFrom Y h A D B s)
       unfolding capped
       by-round x f = by-limit true e ∙ ap (λ (y : Progress). conclude y (roundsFrom Y h A D B s)) f
 
@@ -165,6 +174,7 @@ module _
       unfolding conclude
       rounds-none w f = by-round (on w mark) f
 
-      pub rounds-on : (w n : ℕ) → round Y h A D s T u ≡ on w (at n) → roundsFrom Y h A D B s T u ≡ roundsFrom Y h A D B s n w
+      pub rounds-on :
+          (w n : ℕ) → round Y h A D s T u ≡ on w (at n) → roundsFrom Y h A D B s T u ≡ roundsFrom Y h A D B s n w
       unfolding conclude
       rounds-on w n f = by-round (on w (at n)) f

@@ -1,6 +1,6 @@
--- Estimates and figures: the mark is no number (`mark-at`), a figure that is a number comes from one (`number`), no cost adds nothing (`zero-plus`),
--- and one more figure lowers the least overshoot to it or not at all (`lower-within`, `lower-kept`, `lower-cases`).
--- What a round leaves, and which figures its lists have, rest on these.
+-- Estimates and figures: the mark is no number (`mark-at`), a figure that is a number comes from one (`number`), no
+-- cost adds nothing (`zero-plus`), and one more figure lowers the least overshoot to it or not at all (`lower-within`,
+-- `lower-kept`, `lower-cases`). What a round leaves, and which figures its lists have, rest on these.
 use mathlib.Core.Path.{_≡_, refl, ap}
 use mathlib.Core.Logic.{_⊎_, inl, inr, ⊎-elim}
 use Prim.Native.Nat.{ℕ, _+_, _≤_}

@@ -1,6 +1,7 @@
--- The lists of a round by their figures: it visits just the open lists whose prefixes all have a figure of at most the threshold (`visited-in`, `in-visited`),
--- and its edges are the fringe (`edge-fringe`, `fringe-edge`). So the next threshold is the least figure of the fringe (`next-least`, `next-threshold`).
--- These show the rounds to be the rounds of document 01; nothing else rests on them.
+-- The lists of a round by their figures: it visits just the open lists whose prefixes all have a figure of at most the
+-- threshold (`visited-in`, `in-visited`), and its edges are the fringe (`edge-fringe`, `fringe-edge`). So the next
+-- threshold is the least figure of the fringe (`next-least`, `next-threshold`). These show the rounds to be the rounds
+-- of document 01; nothing else rests on them.
 use mathlib.Core.Path.{_≡_, refl, ap, subst, sym, _∙_}
 use mathlib.Core.Logic.{inl, inr}
 use mathlib.Core.Option.{some}
@@ -12,7 +13,7 @@ use lib.ListN.{length}
 use Rattle.rounds.specs.Systems.{System, Estimate, mark, at, plus, Within, Lawful}
 use Rattle.rounds.specs.OpenLists.{plusMaybe, Avoids, run, totalCost, Open, figure}
 use Rattle.rounds.specs.Rounds.{Allowance, on, Offer, cut, over, due, offer, round}
-use Rattle.rounds.specs.Promises.{InRound, Fringe, Least}
+use Rattle.rounds.specs.Promises.{InRound, Fringe, NextThreshold}
 use Rattle.rounds.proofs.OpenListLaws.{Trail, run-step, trail-open, open-trail, avoids-fresh, fresh-avoids}
 use Rattle.rounds.proofs.EstimateLaws.{within-mono, zero-plus, number}
 use Rattle.rounds.proofs.OneRound.{OnEdge, Visited, Edge, at-visited, at-edge, round-passed}
@@ -32,7 +33,8 @@ module _ (Y : System) (h : Y .State → Estimate) where
   figure-nil g s = ap (λ (n : ℕ). plus n (h s)) (omega arith)
 
   figure-cons :
-      (g r : ℕ) (s m : Y .State) (p : List ℕ) → Y .step r s ≡ some m → figureFrom g s (r ∷ p) ≡ figureFrom (g + Y .cost r) m p
+      (g r : ℕ) (s m : Y .State) (p : List ℕ) → Y .step r s ≡ some m
+      → figureFrom g s (r ∷ p) ≡ figureFrom (g + Y .cost r) m p
   figure-cons g r s m p e =
       ap (λ (n : ℕ). plusMaybe n h (run Y s (r ∷ p))) (omega arith)
       ∙ ap (plusMaybe (g + Y .cost r + totalCost Y p) h) (run-step Y r s m p e)
@@ -79,14 +81,16 @@ module _ (Y : System) (h : Y .State → Estimate) where
         (within (sym (figure-cons g r s m q (l .steps)))
         (visited-from (m ∷ seen) m (g + Y .cost r) p t a v′ q z (tail-eq-of-cons-eq e)))
 
-    in-step : (g r : ℕ) (s m : Y .State) (p : List ℕ) → Y .step r s ≡ some m → InFrom g s (r ∷ p) → InFrom (g + Y .cost r) m p
+    in-step :
+        (g r : ℕ) (s m : Y .State) (p : List ℕ) → Y .step r s ≡ some m → InFrom g s (r ∷ p) → InFrom (g + Y .cost r) m p
     unfolding InFrom
     in-step g r s m p e i q z f = within (figure-cons g r s m q e) (i (r ∷ q) z (ap (λ (l : List ℕ). r ∷ l) f))
 
     -- ---- the lists one rule past the round
 
     proper-step :
-        (g r : ℕ) (s m : Y .State) (p : List ℕ) → Y .step r s ≡ some m → ProperFrom g s (r ∷ p) → ProperFrom (g + Y .cost r) m p
+        (g r : ℕ) (s m : Y .State) (p : List ℕ) → Y .step r s ≡ some m → ProperFrom g s (r ∷ p)
+        → ProperFrom (g + Y .cost r) m p
     unfolding ProperFrom
     proper-step g r s m p e w q i z f = within (figure-cons g r s m q e) (w (r ∷ q) i z (ap (λ (l : List ℕ). r ∷ l) f))
 
@@ -104,7 +108,7 @@ module _ (Y : System) (h : Y .State → Estimate) where
     proper-nil g s [] i z f = absurd (nil≢cons f)
     proper-nil g s (j ∷ q) i z f = absurd (nil≢cons f)
 
-    module _ {Good : Y .State → Type 0} (L : Lawful Y Good) where
+    module _ {Legal : Y .State → Type 0} (L : Lawful Y Legal) where
       -- ---- open lists with such figures are visited, and edges
 
       -- the first rule of a trail, where the figure after it is a number
@@ -114,7 +118,8 @@ module _ (Y : System) (h : Y .State → Estimate) where
       leads seen s m r k e a x = record { steps = e; fresh = avoids-fresh Y L m seen a; rated = x }
 
       from-visited :
-          (seen : List (Y .State)) (s : Y .State) (g : ℕ) (p : List ℕ) (t : Y .State) → Trail Y seen s p t → InFrom g s p
+          (seen : List (Y .State)) (s : Y .State) (g : ℕ) (p : List ℕ) (t : Y .State) → Trail Y seen s p t
+          → InFrom g s p
           → Visited Y h T seen s g p t
       unfolding InFrom
       from-visited seen s g [] t w i = w
@@ -132,7 +137,8 @@ module _ (Y : System) (h : Y .State → Estimate) where
           → Edge Y h T seen s g p f → FringeFrom seen s g p f
       edge-from seen s g [] f a v = absurd v
       edge-from seen s g (r ∷ p) f a v =
-          go (offer Y h T seen s g r) (offer-sound Y h T seen s g r) v (λ m b w. edge-from (m ∷ seen) m (g + Y .cost r) p f b w)
+          go (offer Y h T seen s g r) (offer-sound Y h T seen s g r) v
+          (λ m b w. edge-from (m ∷ seen) m (g + Y .cost r) p f b w)
         where
           one :
               (m : Y .State) (k z : ℕ) → Leads Y h seen s r m k → z ≡ g + Y .cost r + k → T < z → z ≡ f
@@ -195,7 +201,8 @@ module _ (Y : System) (h : Y .State → Estimate) where
       at-start s w = within (sym (zero-plus (h s))) w
 
       pub visited-in :
-          (d : ℕ) (s : Y .State) (p : List ℕ) (t : Y .State) → Within (h s) T → length p ≤ d → Visited Y h T (s ∷ []) s 0 p t
+          (d : ℕ) (s : Y .State) (p : List ℕ) (t : Y .State) → Within (h s) T → length p ≤ d
+          → Visited Y h T (s ∷ []) s 0 p t
           → Open Y d s p × InRound Y h T s p
       unfolding InRound InFrom
       visited-in d s p t w l v = (
@@ -224,7 +231,8 @@ module _ (Y : System) (h : Y .State → Estimate) where
           }
 
       pub fringe-edge :
-          (d : ℕ) (s : Y .State) (p : List ℕ) (f : ℕ) → Within (h s) T → Fringe Y h T d s p f → Edge Y h T (s ∷ []) s 0 p f
+          (d : ℕ) (s : Y .State) (p : List ℕ) (f : ℕ) → Within (h s) T → Fringe Y h T d s p f
+          → Edge Y h T (s ∷ []) s 0 p f
       unfolding ProperFrom
       fringe-edge d s p f a v =
           let (t, e) = v .open-list .applies in
@@ -234,8 +242,9 @@ module _ (Y : System) (h : Y .State → Estimate) where
 
       -- what a round without a plan leaves is the least figure of the fringe
       pub next-least :
-          (A : Allowance) (d : ℕ) (s : Y .State) (u w : ℕ) (o : Estimate) → Within (h s) T → round Y h A d s T u ≡ on w o
-          → Least Y h T d s o
+          (A : Allowance) (d : ℕ) (s : Y .State) (u w : ℕ) (o : Estimate) → Within (h s) T
+          → round Y h A d s T u ≡ on w o
+          → NextThreshold Y h T d s o
       next-least A d s u w o a e =
           let y = round-passed Y h T L A d s u w o e in
           record {
@@ -247,13 +256,14 @@ module _ (Y : System) (h : Y .State → Estimate) where
 
 -- so it is in every round that the search comes to
 module _
-    (Y : System) (h : Y .State → Estimate) {Good : Y .State → Type 0} (L : Lawful Y Good) (D B : ℕ) (s : Y .State)
+    (Y : System) (h : Y .State → Estimate) {Legal : Y .State → Type 0} (L : Lawful Y Legal) (D B : ℕ) (s : Y .State)
     (A : Allowance) where
   pub start-within : (T u : ℕ) → RoundAt Y h D B s A T u → Within (h s) T
   start-within T u (first-round _ e) = within Y h T (sym e) (omega arith)
   start-within n w (further T u _ _ a l e) =
-      within-mono (h s) T n (start-within T u a) (omega (arith, higher Y h D s T n (round-passed Y h T L A D s u w (at n) e)))
+      within-mono (h s) T n (start-within T u a)
+      (omega (arith, higher Y h D s T n (round-passed Y h T L A D s u w (at n) e)))
 
   pub next-threshold :
-      (T u w : ℕ) (o : Estimate) → RoundAt Y h D B s A T u → round Y h A D s T u ≡ on w o → Least Y h T D s o
+      (T u w : ℕ) (o : Estimate) → RoundAt Y h D B s A T u → round Y h A D s T u ≡ on w o → NextThreshold Y h T D s o
   next-threshold T u w o a e = next-least Y h T L A D s u w o (start-within T u a) e

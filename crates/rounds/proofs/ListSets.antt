@@ -1,6 +1,7 @@
--- Sets of lists by length and first rule, as the parts of a round go through them: up to d rules (`Short`), rule i first (`Only`), a rule from i on first (`From`).
--- A list of the last has rule i first or a later rule (`from-split`), and those with rule i first come before the others (`only-sooner`).
--- What a round leaves, and what its log holds, rest on these.
+-- Sets of lists by length and first rule, as the parts of a round go through them: up to d
+-- rules (`Short`), rule i first (`Only`), a rule from i on first (`From`). A list of the last
+-- has rule i first or a later rule (`from-split`), and those with rule i first come before
+-- the others (`only-sooner`). What a round leaves, and what its log holds, rest on these.
 use mathlib.Core.Path.{_≡_}
 use mathlib.Core.Logic.{_⊎_, inl, inr, ⊎-elim}
 use mathlib.Core.List.{List, [], _∷_, head-eq-of-cons-eq}

@@ -1,5 +1,6 @@
--- A round's visits are as many as its log is long, and it finds a plan just where the log has ended (`log-counts`).
--- Shown part by part (`Counts`). With what the log holds, this shows what visits are counted of; nothing else rests on it.
+-- A round's visits are as many as its log is long, and it finds a plan just where
+-- the log has ended (`log-counts`). Shown part by part (`Counts`). With what the
+-- log holds, this shows what visits are counted of; nothing else rests on it.
 use mathlib.Core.Path.{_≡_, refl, sym}
 use mathlib.Core.Bool.{Bool, true, false, true≢false}
 use mathlib.Core.List.{List, [], _∷_}
@@ -7,8 +8,10 @@ use Prim.Native.Nat.{ℕ, zero, suc, _+_}
 use native.Mathlib.Omega.{arith}
 use lib.ListN.{length, length-append, length-map}
 use Rattle.rounds.specs.Systems.{System, Estimate, mark}
-use Rattle.rounds.specs.Rounds.{free, Progress, on, hit, stop, Offer, cut, over, due, andThen, behind, takeUp, arrive, Visitor, offer, extend, visit, round}
-use Rattle.rounds.specs.Logs.{Log, log, logAfter, logThen, logBehind, logTake, logArrive, logExtend, logVisit, roundLog}
+use Rattle.rounds.specs.Rounds.{free, Progress, on, hit, stop, Offer, cut, over, due, andThen, behind, takeUp}
+use Rattle.rounds.specs.Rounds.{arrive, Visitor, offer, extend, visit, round}
+use Rattle.rounds.specs.Logs.{Log, log, logAfter, logThen, logBehind, logTake, logArrive, logExtend, logVisit}
+use Rattle.rounds.specs.Logs.{roundLog}
 
 -- x adds to u visits as many as the log is long, and has a plan where the log has ended
 unfoldable pub Counts : ℕ → Progress → Log → Type 0
@@ -35,7 +38,8 @@ counts-take (over f) r next other u o c = counts-on u _
 counts-take (due t) r next other u o c = counts-behind u r (next t u o) (other t) (c t)
 
 counts-after :
-    (u w : ℕ) (x : Progress) (xs : List (List ℕ)) (l : Log) → w ≡ u + length xs → Counts w x l → Counts u x (logAfter xs l)
+    (u w : ℕ) (x : Progress) (xs : List (List ℕ)) (l : Log) → w ≡ u + length xs → Counts w x l
+    → Counts u x (logAfter xs l)
 unfolding Counts
 counts-after u w (on v o) xs (log ys b) e c = (omega (arith, length-append xs ys), c .1)
 counts-after u w (hit v p k) xs (log ys b) e c = (omega (arith, length-append xs ys), c .1)
@@ -61,7 +65,8 @@ counts-arrive false g u o k m n = counts-after u (suc u) (k (suc u) o) ([] ∷ [
 module _ (Y : System) (h : Y .State → Estimate) (T : ℕ) where
   extend-counts :
       (next : Visitor (Y .State)) (other : List (Y .State) → Y .State → ℕ → Log)
-      → ((seen : List (Y .State)) (s : Y .State) (g u : ℕ) (o : Estimate) → Counts u (next seen s g u o) (other seen s g))
+      → ((seen : List (Y .State)) (s : Y .State) (g u : ℕ) (o : Estimate)
+      → Counts u (next seen s g u o) (other seen s g))
       → (seen : List (Y .State)) (s : Y .State) (g k i u : ℕ) (o : Estimate)
       → Counts u (extend Y h T next seen s g k i u o) (logExtend Y h T other seen s g k i)
   unfolding extend logExtend
@@ -78,7 +83,8 @@ module _ (Y : System) (h : Y .State → Estimate) (T : ℕ) where
   visit-counts zero seen s g u o = counts-arrive (Y .goal s) g u o on _ counts-on
   visit-counts (suc d) seen s g u o =
       counts-arrive (Y .goal s) g u o _ _
-      (extend-counts (visit Y h free T d) (logVisit Y h T d) (λ ss t c x y. visit-counts d ss t c x y) seen s g (Y .rules) 0)
+      (extend-counts (visit Y h free T d) (logVisit Y h T d) (λ ss t c x y. visit-counts d ss t c x y) seen s g
+      (Y .rules) 0)
 
   -- a round with no allowance: its visits, and whether it finds a plan
   pub log-counts : (D : ℕ) (s : Y .State) (u : ℕ) → Counts u (round Y h free D s T u) (roundLog Y h T D s)

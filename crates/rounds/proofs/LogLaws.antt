@@ -1,5 +1,6 @@
--- The log of a round holds just the visited lists up to the first that meets a goal, each once, in the order by rule numbers: by what is offered (`log-says`), and by the
--- definitions alone (`log-exactly`; `log-at-round`, for the rounds of a search). Shown part by part (`Holds`).
+-- The log of a round holds just the visited lists up to the first that meets a goal, each once,
+-- in the order by rule numbers: by what is offered (`log-says`), and by the definitions alone
+-- (`log-exactly`; `log-at-round`, for the rounds of a search). Shown part by part (`Holds`).
 -- With the count of the log, this shows what visits are counted of; nothing else rests on it.
 use mathlib.Core.Path.{_≡_, refl, ap, subst, sym}
 use mathlib.Core.Logic.{_⊎_, inl, inr, _↔_}
@@ -11,9 +12,11 @@ use lib.ListN.{length}
 use Rattle.rounds.specs.Systems.{System, Estimate, Within, Lawful}
 use Rattle.rounds.specs.OpenLists.{Before, Sooner}
 use Rattle.rounds.specs.Rounds.{Allowance, Offer, cut, over, due, offer}
-use Rattle.rounds.specs.Logs.{Log, log, Member, Rising, logAfter, logThen, logBehind, logTake, logArrive, logExtend, logVisit, roundLog, Logged}
+use Rattle.rounds.specs.Logs.{Log, log, Member, Rising, logAfter, logThen, logBehind, logTake, logArrive}
+use Rattle.rounds.specs.Logs.{logExtend, logVisit, roundLog, Logged}
 use Rattle.rounds.proofs.OpenListLaws.{trail-run}
-use Rattle.rounds.proofs.ListSets.{Short, Only, From, only-from, later-from, from-split, from-none, from-short, only-sooner}
+use Rattle.rounds.proofs.ListSets.{Short, Only, From, only-from, later-from, from-split, from-none, from-short}
+use Rattle.rounds.proofs.ListSets.{only-sooner}
 use Rattle.rounds.proofs.OneRound.{OnDue, Visited, Hits, not-goal, visited-at, none-due, at-visited, due-rule}
 use Rattle.rounds.proofs.ReachingLists.{visited-trail}
 use Rattle.rounds.proofs.Demand.{RoundAt, before-antisym}
@@ -34,7 +37,8 @@ member-right p [] ys m = m
 member-right p (x ∷ xs) ys m = inr (member-right p xs ys m)
 
 member-map :
-    (r : ℕ) (p : List ℕ) (xs : List (List ℕ)) → Member p (map (λ q. r ∷ q) xs) → (q : List ℕ) × (p ≡ r ∷ q) × Member q xs
+    (r : ℕ) (p : List ℕ) (xs : List (List ℕ)) → Member p (map (λ q. r ∷ q) xs)
+    → (q : List ℕ) × (p ≡ r ∷ q) × Member q xs
 member-map r p [] m = absurd m
 member-map r p (x ∷ xs) (inl e) = (x, e, inl refl)
 member-map r p (x ∷ xs) (inr m) = let (q, e, n) = member-map r p xs m in (q, e, inr n)
@@ -76,7 +80,8 @@ module _ (Y : System) (h : Y .State → Estimate) (T : ℕ) where
 
   -- a log of just the lists of Q that are due, in order
   pub record Holds
-      (seen : List (Y .State)) (s : Y .State) (g : ℕ) (Q : List ℕ → Type 0) (xs : List (List ℕ)) (b : Bool) : Type 0 where
+      (seen : List (Y .State)) (s : Y .State) (g : ℕ) (Q : List ℕ → Type 0) (xs : List (List ℕ)) (b : Bool)
+      : Type 0 where
     pub sound : (p : List ℕ) → Member p xs → Due seen s g Q p
     pub complete : (p : List ℕ) → Due seen s g Q p → Member p xs
     pub ends : Ends seen s g Q b
@@ -100,7 +105,8 @@ module _ (Y : System) (h : Y .State → Estimate) (T : ℕ) where
         down r q f x = (x .0, visited-at Y h T seen s g i (due t) e r q (x .0) f (x .1), x .2)
 
         first :
-            (p : List ℕ) → ((q : List ℕ) → length q ≤ d → Hits Y h T (t ∷ seen) t (g + Y .cost i) q → Before p q) → (q : List ℕ)
+            (p : List ℕ) → ((q : List ℕ) → length q ≤ d → Hits Y h T (t ∷ seen) t (g + Y .cost i) q → Before p q)
+            → (q : List ℕ)
             → Only i d q → Hits Y h T seen s g q → Before (i ∷ p) q
         first p f [] w x = absurd w
         first p f (r ∷ q) w x = inr (sym (w .0), f q (w .1) (down r q (w .0) x))
@@ -109,7 +115,11 @@ module _ (Y : System) (h : Y .State → Estimate) (T : ℕ) where
         sound p m =
             let (q, f, n) = member-map i p xs m in
             let (x, (v, y), z) = a .sound q n in
-            subst (Due seen s g (Only i d)) (sym f) ((refl, x), (v, at-visited Y h T seen s g i (due t) e q v y), first q z)
+            subst (Due seen s g (Only i d)) (sym f) (
+              (refl, x),
+              (v, at-visited Y h T seen s g i (due t) e q v y),
+              first q z,
+            )
 
         last : (r : ℕ) (p q : List ℕ) → r ≡ i → Before (r ∷ p) (i ∷ q) → Before p q
         last r p q f (inl l) = absurd (omega arith)
@@ -156,7 +166,8 @@ module _ (Y : System) (h : Y .State → Estimate) (T : ℕ) where
     take-holds (due t) e next ih = behind-holds t e (next t) (ih t)
 
     after-holds :
-        (k : ℕ) (xs : List (List ℕ)) (l : Log) → Holds seen s g (Only i d) xs false → LogSays seen s g (From (suc i) k d) l
+        (k : ℕ) (xs : List (List ℕ)) (l : Log) → Holds seen s g (Only i d) xs false
+        → LogSays seen s g (From (suc i) k d) l
         → LogSays seen s g (From i (suc k) d) (logAfter xs l)
     unfolding LogSays
     after-holds k xs (log ys b) x y =
@@ -232,7 +243,8 @@ module _ (Y : System) (h : Y .State → Estimate) (T : ℕ) where
   extend-holds :
       (d : ℕ) (next : List (Y .State) → Y .State → ℕ → Log)
       → ((seen : List (Y .State)) (s : Y .State) (g : ℕ) → LogSays seen s g (Short d) (next seen s g))
-      → (seen : List (Y .State)) (s : Y .State) (g k i : ℕ) → LogSays seen s g (From i k d) (logExtend Y h T next seen s g k i)
+      → (seen : List (Y .State)) (s : Y .State) (g k i : ℕ)
+      → LogSays seen s g (From i k d) (logExtend Y h T next seen s g k i)
   unfolding logExtend
   extend-holds d next ih seen s g zero i = no-lists seen s g (From i zero d) (from-none i d)
   extend-holds d next ih seen s g (suc k) i =
@@ -240,12 +252,13 @@ module _ (Y : System) (h : Y .State → Estimate) (T : ℕ) where
       (take-holds seen s g i d (offer Y h T seen s g i) refl _ (λ t. ih (t ∷ seen) t (g + Y .cost i)))
       (extend-holds d next ih seen s g k (suc i))
 
-  module _ {Good : Y .State → Type 0} (L : Lawful Y Good) where
+  module _ {Legal : Y .State → Type 0} (L : Lawful Y Legal) where
     module _ (seen : List (Y .State)) (s : Y .State) (g : ℕ) where
       -- the list itself is visited first, and meets no goal; E holds its extensions among the lists of Q
       front-holds :
           (Q E : List ℕ → Type 0) → Q [] → (E [] → ⊥) → ((p : List ℕ) → E p → Q p)
-          → ((r : ℕ) (p : List ℕ) (t : Y .State) → Q (r ∷ p) → Visited Y h T seen s g (r ∷ p) t → E (r ∷ p)) → Y .goal s ≡ false
+          → ((r : ℕ) (p : List ℕ) (t : Y .State) → Q (r ∷ p) → Visited Y h T seen s g (r ∷ p) t → E (r ∷ p))
+          → Y .goal s ≡ false
           → (l : Log) → LogSays seen s g E l → LogSays seen s g Q (logAfter ([] ∷ []) l)
       unfolding LogSays
       front-holds Q E q0 e0 wide narrow e (log ys b) a =
@@ -308,7 +321,8 @@ module _ (Y : System) (h : Y .State → Estimate) (T : ℕ) where
         (no-lists seen s g (λ p. ⊥) (λ p w. w)))
     visit-holds (suc d) seen s g =
         arrive-holds seen s g (suc d) (Y .goal s) refl _
-        (λ e. front-holds seen s g (Short (suc d)) (From 0 (Y .rules) d) (omega arith) (λ w. w) (from-short 0 (Y .rules) d)
+        (λ e.
+        front-holds seen s g (Short (suc d)) (From 0 (Y .rules) d) (omega arith) (λ w. w) (from-short 0 (Y .rules) d)
         (λ r p t w v. (omega arith, omega (arith, due-rule Y h T L seen s g r _ v), omega arith)) e
         (logExtend Y h T (logVisit Y h T d) seen s g (Y .rules) 0)
         (extend-holds d (logVisit Y h T d) (λ ss t c. visit-holds d ss t c) seen s g (Y .rules) 0))
@@ -351,7 +365,8 @@ module _ (Y : System) (h : Y .State → Estimate) (T : ℕ) where
 
 -- so it is in every round that the search comes to
 pub log-at-round :
-    (Y : System) (h : Y .State → Estimate) {Good : Y .State → Type 0} (L : Lawful Y Good) (D B : ℕ) (s : Y .State)
-    (A : Allowance) (T u : ℕ) → RoundAt Y h D B s A T u → (xs : List (List ℕ)) (b : Bool) → roundLog Y h T D s ≡ log xs b
+    (Y : System) (h : Y .State → Estimate) {Legal : Y .State → Type 0} (L : Lawful Y Legal) (D B : ℕ) (s : Y .State)
+    (A : Allowance) (T u : ℕ) → RoundAt Y h D B s A T u → (xs : List (List ℕ)) (b : Bool)
+    → roundLog Y h T D s ≡ log xs b
     → ((p : List ℕ) → Member p xs ↔ Logged Y h T D s p) × Rising xs
 log-at-round Y h L D B s A T u a = log-exactly Y h T L D s (start-within Y h L D B s A T u a)

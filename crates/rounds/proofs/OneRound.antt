@@ -1,6 +1,7 @@
--- What a part of a round says of the lists that it goes through (`Says`, `visit-says`): where it goes on, none of them meets a goal and the least overshoot
--- is theirs (`Passed`); where it finds a plan, that is the first of them that meets a goal (`Struck`). Lists are `Visited`, or an `Edge`, by what is offered.
--- The answer, the next threshold and the log of a round rest on these.
+-- What a part of a round says of the lists that it goes through (`Says`, `visit-says`): where it goes on, none of them
+-- meets a goal and the least overshoot is theirs (`Passed`); where it finds a plan, that is the first of them that
+-- meets a goal (`Struck`). Lists are `Visited`, or an `Edge`, by what is offered. The answer, the next threshold and
+-- the log of a round rest on these.
 use mathlib.Core.Path.{_≡_, refl, ap, subst, sym, _∙_}
 use mathlib.Core.Logic.{_⊎_, inl, inr}
 use mathlib.Core.Bool.{Bool, true, false, true≢false}
@@ -11,9 +12,11 @@ use native.Mathlib.Omega.{arith}
 use lib.ListN.{length}
 use Rattle.rounds.specs.Systems.{System, Estimate, mark, at, Within, lower, Lawful}
 use Rattle.rounds.specs.OpenLists.{Before, totalCost}
-use Rattle.rounds.specs.Rounds.{Allowance, allows, Progress, on, hit, stop, Offer, cut, over, due, andThen, behind, takeUp, arrive, Visitor, offered, offer, extend, visit, round}
+use Rattle.rounds.specs.Rounds.{Allowance, allows, Progress, on, hit, stop, Offer, cut, over, due, andThen}
+use Rattle.rounds.specs.Rounds.{behind, takeUp, arrive, Visitor, offered, offer, extend, visit, round}
 use Rattle.rounds.proofs.EstimateLaws.{lower-within, lower-kept, lower-cases}
-use Rattle.rounds.proofs.ListSets.{Short, Only, From, only-from, later-from, from-split, from-none, from-short, only-sooner}
+use Rattle.rounds.proofs.ListSets.{Short, Only, From, only-from, later-from, from-split, from-none, from-short}
+use Rattle.rounds.proofs.ListSets.{only-sooner}
 
 -- what holds of the state that is offered for a visit
 abbrev pub OnDue : {S : Type 0} → Offer S → (S → Type 0) → Type 0
@@ -46,14 +49,18 @@ module _ (Y : System) (h : Y .State → Estimate) (T : ℕ) where
   not-goal seen s g e x = true≢false (sym (x .2) ∙ ap (Y .goal) (sym (x .1)) ∙ e)
 
   -- of the lists of Q none meets a goal; o was the least overshoot, and q is it now
-  pub record Passed (seen : List (Y .State)) (s : Y .State) (g : ℕ) (Q : List ℕ → Type 0) (o q : Estimate) : Type 0 where
+  pub record Passed
+      (seen : List (Y .State)) (s : Y .State) (g : ℕ) (Q : List ℕ → Type 0) (o q : Estimate)
+      : Type 0 where
     pub missed : (p : List ℕ) → Q p → Hits seen s g p → ⊥
     pub below : (p : List ℕ) (f : ℕ) → Q p → Edge seen s g p f → Within q f
     pub kept : (f : ℕ) → Within o f → Within q f
     pub attained : (q ≡ o) ⊎ ((p : List ℕ) × (f : ℕ) × Q p × Edge seen s g p f × (q ≡ at f))
 
   -- of the lists of Q that meet a goal p is the first
-  pub record Struck (seen : List (Y .State)) (s : Y .State) (g : ℕ) (Q : List ℕ → Type 0) (p : List ℕ) (c : ℕ) : Type 0 where
+  pub record Struck
+      (seen : List (Y .State)) (s : Y .State) (g : ℕ) (Q : List ℕ → Type 0) (p : List ℕ) (c : ℕ)
+      : Type 0 where
     pub inside : Q p
     pub hits : Hits seen s g p
     pub costs : c ≡ g + totalCost Y p
@@ -74,15 +81,19 @@ module _ (Y : System) (h : Y .State → Estimate) (T : ℕ) where
     after-on o q (on u z) a b =
         record {
           missed = λ p w. elim (from-split i k d p w) [ inl x ↦ a .missed p x | inr x ↦ b .missed p x ];
-          below = λ p f w e. elim (from-split i k d p w) [ inl x ↦ b .kept f (a .below p f x e) | inr x ↦ b .below p f x e ];
+          below =
+              λ p f w e.
+              elim (from-split i k d p w) [ inl x ↦ b .kept f (a .below p f x e) | inr x ↦ b .below p f x e ];
           kept = λ f w. b .kept f (a .kept f w);
           attained =
-              elim (b .attained) [ inl e ↦ was e | inr e ↦ inr (e .0, e .1, later-from i k d (e .0) (e .2), e .3, e .4) ];
+              elim (b .attained)
+              [ inl e ↦ was e | inr e ↦ inr (e .0, e .1, later-from i k d (e .0) (e .2), e .3, e .4) ];
         }
       where
         was : z ≡ q → (z ≡ o) ⊎ ((p : List ℕ) × (f : ℕ) × From i (suc k) d p × Edge seen s g p f × (z ≡ at f))
         was e =
-            elim (a .attained) [ inl f ↦ inl (e ∙ f) | inr f ↦ inr (f .0, f .1, only-from i k d (f .0) (f .2), f .3, e ∙ f .4) ]
+            elim (a .attained)
+            [ inl f ↦ inl (e ∙ f) | inr f ↦ inr (f .0, f .1, only-from i k d (f .0) (f .2), f .3, e ∙ f .4) ]
     after-on o q (hit u p c) a b =
         record {
           inside = later-from i k d p (b .inside);
@@ -103,39 +114,44 @@ module _ (Y : System) (h : Y .State → Estimate) (T : ℕ) where
           inside = only-from i k d p (a .inside);
           hits = a .hits;
           costs = a .costs;
-          first = λ x w y. elim (from-split i k d x w) [ inl v ↦ a .first x v y | inr v ↦ only-sooner i k d p x (a .inside) v .0 ];
+          first =
+              λ x w y.
+              elim (from-split i k d x w) [ inl v ↦ a .first x v y | inr v ↦ only-sooner i k d p x (a .inside) v .0 ];
         }
     after o (stop u) m a b = a
 
   -- ---- one rule
 
-  module _ (seen : List (Y .State)) (s : Y .State) (g i : ℕ) (x : Offer (Y .State)) (e : offer Y h T seen s g i ≡ x) where
-    pub visited-at :
-        (r : ℕ) (p : List ℕ) (t : Y .State) → r ≡ i → Visited seen s g (r ∷ p) t
-        → OnDue x (λ m. Visited (m ∷ seen) m (g + Y .cost i) p t)
-    visited-at r p t q v =
-        subst (λ (y : Offer (Y .State)). OnDue y (λ m. Visited (m ∷ seen) m (g + Y .cost i) p t)) e
-        (subst (λ (j : ℕ). Visited seen s g (j ∷ p) t) q v)
+  module _
+      (seen : List (Y .State)) (s : Y .State) (g i : ℕ) (x : Offer (Y .State)) (e : offer Y h T seen s g i ≡ x) where
+    -- behind rule i, by what it offers, p is visited and comes to t
+    abbrev VisitedBehind : List ℕ → Y .State → Offer (Y .State) → Type 0
+    VisitedBehind p t y = OnDue y (λ m. Visited (m ∷ seen) m (g + Y .cost i) p t)
 
-    pub at-visited :
-        (p : List ℕ) (t : Y .State) → OnDue x (λ m. Visited (m ∷ seen) m (g + Y .cost i) p t) → Visited seen s g (i ∷ p) t
-    at-visited p t v = subst (λ (y : Offer (Y .State)). OnDue y (λ m. Visited (m ∷ seen) m (g + Y .cost i) p t)) (sym e) v
+    pub visited-at :
+        (r : ℕ) (p : List ℕ) (t : Y .State) → r ≡ i → Visited seen s g (r ∷ p) t → VisitedBehind p t x
+    visited-at r p t q v =
+        subst (VisitedBehind p t) e (subst (λ (j : ℕ). Visited seen s g (j ∷ p) t) q v)
+
+    pub at-visited : (p : List ℕ) (t : Y .State) → VisitedBehind p t x → Visited seen s g (i ∷ p) t
+    at-visited p t v = subst (VisitedBehind p t) (sym e) v
 
     -- a rule that offers no state leads to no visited list
     pub none-due :
-        ((P : Y .State → Type 0) → OnDue x P → ⊥) → (d : ℕ) (p : List ℕ) (t : Y .State) → Only i d p → Visited seen s g p t → ⊥
+        ((P : Y .State → Type 0) → OnDue x P → ⊥) → (d : ℕ) (p : List ℕ) (t : Y .State) → Only i d p
+        → Visited seen s g p t → ⊥
     none-due n d [] t w v = w
     none-due n d (r ∷ p) t w v = n _ (visited-at r p t (w .0) v)
 
-    edge-at :
-        (r : ℕ) (p : List ℕ) (f : ℕ) → r ≡ i → Edge seen s g (r ∷ p) f
-        → OnEdge x p f (λ m. Edge (m ∷ seen) m (g + Y .cost i) p f)
-    edge-at r p f q v =
-        subst (λ (y : Offer (Y .State)). OnEdge y p f (λ m. Edge (m ∷ seen) m (g + Y .cost i) p f)) e
-        (subst (λ (j : ℕ). Edge seen s g (j ∷ p) f) q v)
+    -- behind rule i, by what it offers, p is on the edge with the figure f
+    abbrev EdgeBehind : List ℕ → ℕ → Offer (Y .State) → Type 0
+    EdgeBehind p f y = OnEdge y p f (λ m. Edge (m ∷ seen) m (g + Y .cost i) p f)
 
-    pub at-edge : (p : List ℕ) (f : ℕ) → OnEdge x p f (λ m. Edge (m ∷ seen) m (g + Y .cost i) p f) → Edge seen s g (i ∷ p) f
-    at-edge p f v = subst (λ (y : Offer (Y .State)). OnEdge y p f (λ m. Edge (m ∷ seen) m (g + Y .cost i) p f)) (sym e) v
+    edge-at : (r : ℕ) (p : List ℕ) (f : ℕ) → r ≡ i → Edge seen s g (r ∷ p) f → EdgeBehind p f x
+    edge-at r p f q v = subst (EdgeBehind p f) e (subst (λ (j : ℕ). Edge seen s g (j ∷ p) f) q v)
+
+    pub at-edge : (p : List ℕ) (f : ℕ) → EdgeBehind p f x → Edge seen s g (i ∷ p) f
+    at-edge p f v = subst (EdgeBehind p f) (sym e) v
 
   module _ (A : Allowance) (seen : List (Y .State)) (s : Y .State) (g i d : ℕ) where
     behind-says :
@@ -205,7 +221,8 @@ module _ (Y : System) (h : Y .State → Estimate) (T : ℕ) where
       where
         below : (p : List ℕ) (f : ℕ) → Only i d p → Edge seen s g p f → Within (lower z o) f
         below [] f w x = absurd w
-        below (r ∷ p) f w x = lower-within z f o (let q = edge-at seen s g i (over z) e r p f (w .0) x in omega (arith, q .1))
+        below (r ∷ p) f w x =
+            lower-within z f o (let q = edge-at seen s g i (over z) e r p f (w .0) x in omega (arith, q .1))
     take-up-says (due t) e next ih u o = behind-says t e o (next t u o) (ih t u o)
 
   -- ---- the extensions of a list, and a visit
@@ -213,7 +230,8 @@ module _ (Y : System) (h : Y .State → Estimate) (T : ℕ) where
   module _ (A : Allowance) where
     extend-says :
         (d : ℕ) (next : Visitor (Y .State))
-        → ((seen : List (Y .State)) (s : Y .State) (g u : ℕ) (o : Estimate) → Says A seen s g (Short d) o (next seen s g u o))
+        → ((seen : List (Y .State)) (s : Y .State) (g u : ℕ) (o : Estimate)
+        → Says A seen s g (Short d) o (next seen s g u o))
         → (seen : List (Y .State)) (s : Y .State) (g k i u : ℕ) (o : Estimate)
         → Says A seen s g (From i k d) o (extend Y h T next seen s g k i u o)
     unfolding extend
@@ -229,7 +247,7 @@ module _ (Y : System) (h : Y .State → Estimate) (T : ℕ) where
         (take-up-says A seen s g i d (offer Y h T seen s g i) refl _ (λ t w q. ih (t ∷ seen) t (g + Y .cost i) w q) u o)
         (λ w q. extend-says d next ih seen s g k (suc i) w q)
 
-  module _ {Good : Y .State → Type 0} (L : Lawful Y Good) where
+  module _ {Legal : Y .State → Type 0} (L : Lawful Y Legal) where
     -- where more is offered than nothing, r is one of the rules
     offer-rule :
         (seen : List (Y .State)) (s : Y .State) (g r : ℕ) (P : Offer (Y .State) → Type 0) → (P cut → ⊥)
@@ -268,11 +286,13 @@ module _ (Y : System) (h : Y .State → Estimate) (T : ℕ) where
         where
           missed : (p : List ℕ) → length p ≤ suc d → Hits seen s g p → ⊥
           missed [] l x = not-goal seen s g e x
-          missed (r ∷ p) l x = a .missed (r ∷ p) (omega arith, omega (arith, due-rule seen s g r _ (x .1)), omega arith) x
+          missed (r ∷ p) l x =
+              a .missed (r ∷ p) (omega arith, omega (arith, due-rule seen s g r _ (x .1)), omega arith) x
 
           below : (p : List ℕ) (f : ℕ) → length p ≤ suc d → Edge seen s g p f → Within q f
           below [] f l x = absurd x
-          below (r ∷ p) f l x = a .below (r ∷ p) f (omega arith, omega (arith, edge-rule seen s g r p f _ x), omega arith) x
+          below (r ∷ p) f l x =
+              a .below (r ∷ p) f (omega arith, omega (arith, edge-rule seen s g r p f _ x), omega arith) x
       widen d e o (hit u p c) a =
           record { inside = from-short 0 (Y .rules) d p (a .inside); hits = a .hits; costs = a .costs; first = first }
         where
@@ -294,7 +314,8 @@ module _ (Y : System) (h : Y .State → Estimate) (T : ℕ) where
 
       arrive-says :
           (d : ℕ) (a b : Bool) (u : ℕ) (o : Estimate) (k : ℕ → Estimate → Progress) → allows A u ≡ a → Y .goal s ≡ b
-          → (Y .goal s ≡ false → Says A seen s g (Short d) o (k (suc u) o)) → Says A seen s g (Short d) o (arrive a b g u o k)
+          → (Y .goal s ≡ false → Says A seen s g (Short d) o (k (suc u) o))
+          → Says A seen s g (Short d) o (arrive a b g u o k)
       unfolding arrive
       arrive-says d false b u o k x y go = x
       arrive-says d true true u o k x y go =

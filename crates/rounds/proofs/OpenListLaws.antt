@@ -1,6 +1,6 @@
--- Lists of rule numbers over a system: an open list as the rounds meet it, each new state against those seen (`Trail`, `trail-open`, `open-trail`),
--- and that loops can be cut out: a list that reaches a goal has an open one of no more rules and no more cost (`shortcut`).
--- What is shown of visited lists and of plans rests on these.
+-- Lists of rule numbers over a system: an open list as the rounds meet it, each new state against those seen (`Trail`,
+-- `trail-open`, `open-trail`), and that loops can be cut out: a list that reaches a goal has an open one of no more
+-- rules and no more cost (`shortcut`). What is shown of visited lists and of plans rests on these.
 use mathlib.Core.Path.{_≡_, refl, ap, ap₂, subst, sym, _∙_}
 use mathlib.Core.Bool.{Bool, true, false, _||_, false≢true}
 use mathlib.Core.Option.{Option, none, some, Option·none-ne-some, Option·some-injective}
@@ -59,7 +59,8 @@ module _ (Y : System) where
   Trail seen s [] t = s ≡ t
   Trail seen s (r ∷ p) t = (m : Y .State) × (Y .step r s ≡ some m) × Avoids m seen × Trail (m ∷ seen) m p t
 
-  pub trail-run : (seen : List (Y .State)) (s : Y .State) (p : List ℕ) (t : Y .State) → Trail seen s p t → run Y s p ≡ some t
+  pub trail-run :
+      (seen : List (Y .State)) (s : Y .State) (p : List ℕ) (t : Y .State) → Trail seen s p t → run Y s p ≡ some t
   trail-run seen s [] t w = ap some w
   trail-run seen s (r ∷ p) t w = run-step r s (w .0) p (w .1) ∙ trail-run (w .0 ∷ seen) (w .0) p t (w .3)
 
@@ -83,11 +84,13 @@ module _ (Y : System) where
       subst (λ (xs : List (Y .State)). Once xs × Apart xs seen) (sym (rest-step r s m p (w .1)))
       ((apart-head m (rest Y m p) seen a, o), (w .2, apart-tail m (rest Y m p) seen a))
 
-  pub open-trail : (d : ℕ) (s : Y .State) (p : List ℕ) (t : Y .State) → Open Y d s p → run Y s p ≡ some t → Trail (s ∷ []) s p t
+  pub open-trail :
+      (d : ℕ) (s : Y .State) (p : List ℕ) (t : Y .State) → Open Y d s p → run Y s p ≡ some t → Trail (s ∷ []) s p t
   open-trail d s p t w e =
       trail-of (s ∷ []) s p t e (w .once .1) (apart-cons s (rest Y s p) [] (w .once .0) (apart-nil (rest Y s p)))
 
-  pub trail-open : (d : ℕ) (s : Y .State) (p : List ℕ) (t : Y .State) → Trail (s ∷ []) s p t → length p ≤ d → Open Y d s p
+  pub trail-open :
+      (d : ℕ) (s : Y .State) (p : List ℕ) (t : Y .State) → Trail (s ∷ []) s p t → length p ≤ d → Open Y d s p
   trail-open d s p t w l =
       let (o, a) = trail-rest (s ∷ []) s p t w in
       record { applies = (t, trail-run (s ∷ []) s p t w); once = (apart-head s (rest Y s p) [] a, o); short = l }
@@ -102,7 +105,7 @@ module _ (Y : System) where
     pub shorter : length plan ≤ length p
     pub cheaper : totalCost Y plan ≤ totalCost Y p
 
-  module _ {Good : Y .State → Type 0} (L : Lawful Y Good) where
+  module _ {Legal : Y .State → Type 0} (L : Lawful Y Legal) where
     pub fresh-avoids : (x : Y .State) (ys : List (Y .State)) → occurs Y x ys ≡ false → Avoids x ys
     fresh-avoids x [] e = tt
     fresh-avoids x (y ∷ ys) e =
@@ -111,7 +114,8 @@ module _ (Y : System) where
 
     pub avoids-fresh : (x : Y .State) (ys : List (Y .State)) → Avoids x ys → occurs Y x ys ≡ false
     avoids-fresh x [] a = refl
-    avoids-fresh x (y ∷ ys) a = ap₂ _||_ (not-so (Y .same x y) (λ e. a .0 (L .same-eq x y e))) (avoids-fresh x ys (a .1))
+    avoids-fresh x (y ∷ ys) a =
+        ap₂ _||_ (not-so (Y .same x y) (λ e. a .0 (L .same-eq x y e))) (avoids-fresh x ys (a .1))
 
     -- from a state on the path of a list, its end is as good
     tail-or :
@@ -123,7 +127,8 @@ module _ (Y : System) where
     tail-or x m t p false e f w o go = go f
 
     weaken :
-        (s t : Y .State) (p q : List ℕ) → length p ≤ length q → totalCost Y p ≤ totalCost Y q → Loopless s t p → Loopless s t q
+        (s t : Y .State) (p q : List ℕ) → length p ≤ length q → totalCost Y p ≤ totalCost Y q → Loopless s t p
+        → Loopless s t q
     weaken s t p q l c w =
         record {
           plan = w .plan;
@@ -170,7 +175,8 @@ module _ (Y : System) where
         let c : Loopless m t p = loopless m t p f in
         front s m t r p q c (occurs Y s (path Y m (c .plan))) refl
 
-    -- any list within d rules that reaches a goal can be shortened to an open one, with no more steps and at no more cost
+    -- any list within d rules that reaches a goal can be shortened
+    -- to an open one, with no more steps and at no more cost
     pub shortcut :
         (d : ℕ) (s : Y .State) (p : List ℕ) → Reaches Y s p → length p ≤ d
         → (q : List ℕ) × Open Y d s q × Reaches Y s q × (length q ≤ length p) × (totalCost Y q ≤ totalCost Y p)

@@ -1,6 +1,7 @@
--- What an offer says (`offer-sound`, `offer-cases`), and with it: a visited list is open and costs at most the threshold (`visited-trail`, `visited-cost`),
--- an estimate is at most the cost of a list that reaches a goal (`bound`), and such a list is visited or has an edge at no more than its cost (`reach`).
--- That no cheaper plan is missed rests on these.
+-- What an offer says (`offer-sound`, `offer-cases`), and with it: a visited list is open
+-- and costs at most the threshold (`visited-trail`, `visited-cost`), an estimate is at most
+-- the cost of a list that reaches a goal (`bound`), and such a list is visited or has an
+-- edge at no more than its cost (`reach`). That no cheaper plan is missed rests on these.
 use mathlib.Core.Path.{_≡_, refl, ap, subst, sym, _∙_}
 use mathlib.Core.Logic.{_⊎_, inl, inr}
 use mathlib.Core.Bool.{Bool, true, false}
@@ -25,12 +26,15 @@ module _ (Y : System) (h : Y .State → Estimate) where
     pub rated : h m ≡ at k
 
   -- an estimate is at most what it costs to reach a goal
-  module _ {Good : Y .State → Type 0} (L : Lawful Y Good) (P : Passing Y Good h) where
+  module _ {Legal : Y .State → Type 0} (L : Lawful Y Legal) (P : Passing Y Legal h) where
     pub bound :
-        (s : Y .State) (p : List ℕ) (t : Y .State) → Good s → run Y s p ≡ some t → Y .goal t ≡ true
+        (s : Y .State) (p : List ℕ) (t : Y .State) → Legal s → run Y s p ≡ some t → Y .goal t ≡ true
         → (k : ℕ) × (h s ≡ at k) × (k ≤ totalCost Y p)
-    bound s [] t i e q =
-        (0, P .at-goal s i (subst (λ (z : Y .State). Y .goal z ≡ true) (sym (Option·some-injective s t e)) q), omega arith)
+    bound s [] t i e q = (
+      0,
+      P .at-goal s i (subst (λ (z : Y .State). Y .goal z ≡ true) (sym (Option·some-injective s t e)) q),
+      omega arith,
+    )
     bound s (r ∷ p) t i e q =
         let (m, w, f) = run-cons Y r s p t e in
         let (k, a, l) = bound m p t (L .stays r s m i w) f q in
@@ -57,7 +61,8 @@ module _ (Y : System) (h : Y .State → Estimate) (T : ℕ) where
         (m : Y .State) → Y .step r s ≡ some m → occurs Y m seen ≡ false → (e : Estimate) → h m ≡ e
         → Sound seen s g r (rate T m (plus (g + Y .cost r) e))
     sound-rate m x y mark e = tt
-    sound-rate m x y (at k) e = sound-judge m k (record { steps = x; fresh = y; rated = e }) (leb (g + Y .cost r + k) T) refl
+    sound-rate m x y (at k) e =
+        sound-judge m k (record { steps = x; fresh = y; rated = e }) (leb (g + Y .cost r + k) T) refl
 
     sound-weigh :
         (m : Y .State) → Y .step r s ≡ some m → (b : Bool) → occurs Y m seen ≡ b
@@ -114,7 +119,8 @@ module _ (Y : System) (h : Y .State → Estimate) (T : ℕ) where
         go (over z) f w = absurd w
         go (due m) f w = (m, f .0, f .1, f .2, w)
 
-  pub edge-above : (seen : List (Y .State)) (s : Y .State) (g : ℕ) (p : List ℕ) (f : ℕ) → Edge Y h T seen s g p f → T < f
+  pub edge-above :
+      (seen : List (Y .State)) (s : Y .State) (g : ℕ) (p : List ℕ) (f : ℕ) → Edge Y h T seen s g p f → T < f
   edge-above seen s g [] f v = absurd v
   edge-above seen s g (r ∷ p) f v =
       go (offer Y h T seen s g r) (offer-sound seen s g r) v (λ m. edge-above (m ∷ seen) m (g + Y .cost r) p f)
@@ -141,7 +147,7 @@ module _ (Y : System) (h : Y .State → Estimate) (T : ℕ) where
 
   -- ---- with a lawful system and a passing estimate
 
-  module _ {Good : Y .State → Type 0} (L : Lawful Y Good) where
+  module _ {Legal : Y .State → Type 0} (L : Lawful Y Legal) where
     pub visited-trail :
         (seen : List (Y .State)) (s : Y .State) (g : ℕ) (p : List ℕ) (t : Y .State) → Visited Y h T seen s g p t
         → Trail Y seen s p t
@@ -150,17 +156,18 @@ module _ (Y : System) (h : Y .State → Estimate) (T : ℕ) where
         let (m, k, w, b, v′) = visited-cons seen s g r p t v in
         (m, w .steps, fresh-avoids Y L m seen (w .fresh), visited-trail (m ∷ seen) m (g + Y .cost r) p t v′)
 
-    module _ (P : Passing Y Good h) where
+    module _ (P : Passing Y Legal h) where
       -- a list that reaches a goal is visited, or has an edge on it
       pub reach :
-          (seen : List (Y .State)) (s : Y .State) (g : ℕ) (p : List ℕ) (t : Y .State) → Good s → Trail Y seen s p t
+          (seen : List (Y .State)) (s : Y .State) (g : ℕ) (p : List ℕ) (t : Y .State) → Legal s → Trail Y seen s p t
           → Y .goal t ≡ true → Visited Y h T seen s g p t ⊎ EdgeUnder seen s g p
       reach seen s g [] t i w q = inl w
       reach seen s g (r ∷ p) t i w q =
           let m : Y .State = w .0 in
-          let j : Good m = L .stays r s m i (w .1) in
+          let j : Legal m = L .stays r s m i (w .1) in
           let (k, a, l) = bound Y h L P m p t j (trail-run Y (m ∷ seen) m p t (w .3)) q in
-          let le : Leads Y h seen s r m k = record { steps = w .1; fresh = avoids-fresh Y L m seen (w .2); rated = a } in
+          let le : Leads Y h seen s r m k =
+          record { steps = w .1; fresh = avoids-fresh Y L m seen (w .2); rated = a } in
           go m k l (offer-cases seen s g r m k le) (reach (m ∷ seen) m (g + Y .cost r) p t j (w .3) q)
         where
           go :

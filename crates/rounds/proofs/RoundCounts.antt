@@ -9,13 +9,14 @@ use native.Mathlib.Omega.{arith}
 use lib.Dec.{leb}
 use borrow.Author.Tests.{leb-true}
 use Rattle.rounds.specs.Systems.{System, Estimate, mark, at, Lawful}
-use Rattle.rounds.specs.Rounds.{Allowance, Progress, on, hit, stop, Answer, noPlan, conclude, capped, round, rounds, roundsFrom}
+use Rattle.rounds.specs.Rounds.{Allowance, Progress, on, hit, stop, Answer, noPlan, conclude, capped, round}
+use Rattle.rounds.specs.Rounds.{rounds, roundsFrom}
 use Rattle.rounds.proofs.ListSets.{Short}
 use Rattle.rounds.proofs.OneRound.{Says, round-says}
 use Rattle.rounds.proofs.BestPlans.{higher}
 
 module _
-    (Y : System) (h : Y .State → Estimate) {Good : Y .State → Type 0} (L : Lawful Y Good) (A : Allowance) (D B : ℕ)
+    (Y : System) (h : Y .State → Estimate) {Legal : Y .State → Type 0} (L : Lawful Y Legal) (A : Allowance) (D B : ℕ)
     (s : Y .State) where
   conclude-same :
       (T : ℕ) (x : Progress) (k m : ℕ → ℕ → Answer) → Says Y h T A (s ∷ []) s 0 (Short D) mark x
@@ -26,7 +27,8 @@ module _
   conclude-same T (hit u p c) k m a e = refl
   conclude-same T (stop u) k m a e = refl
 
-  capped-same : (T : ℕ) (b : Bool) (u : ℕ) (k m : ℕ → Answer) → leb T B ≡ b → (T ≤ B → k u ≡ m u) → capped b u k ≡ capped b u m
+  capped-same :
+      (T : ℕ) (b : Bool) (u : ℕ) (k m : ℕ → Answer) → leb T B ≡ b → (T ≤ B → k u ≡ m u) → capped b u k ≡ capped b u m
   unfolding capped
   capped-same T true u k m e f = f (leb-true T B e)
   capped-same T false u k m e f = refl
@@ -49,7 +51,8 @@ module _
 
   -- one round, then the others
   pub rounds-again :
-      (T u : ℕ) → roundsFrom Y h A D B s T u ≡ capped (leb T B) u (λ w. conclude (round Y h A D s T w) (roundsFrom Y h A D B s))
+      (T u : ℕ)
+      → roundsFrom Y h A D B s T u ≡ capped (leb T B) u (λ w. conclude (round Y h A D s T w) (roundsFrom Y h A D B s))
   unfolding roundsFrom rounds
   rounds-again T u =
       capped-same T (leb T B) u _ _ refl

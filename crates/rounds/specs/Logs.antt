@@ -1,5 +1,6 @@
--- The lists that a round with no allowance visits, in the order of the visits: its log (`roundLog`), built beside the round, part by part.
--- That visits are counted list by list, a list anew in each round, is stated with it; `Logged` says by figures which lists they are, and `Rising` their order.
+-- The lists that a round with no allowance visits, in the order of the visits: its log (`roundLog`), built beside the
+-- round, part by part. That visits are counted list by list, a list anew in each round, is stated with it; `Logged`
+-- says by figures which lists they are, and `Rising` their order.
 use mathlib.Core.Path.{_≡_}
 use mathlib.Core.Logic.{_⊎_}
 use mathlib.Core.Bool.{Bool, true, false}

@@ -1,5 +1,6 @@
--- Lists of rule numbers over a system: where they lead (`run`), what they cost (`totalCost`), when they are open (`Open`) and reach a goal (`Reaches`),
--- their figure (`figure`), and the order by rule numbers (`Before`, `Sooner`). The promises of the search are stated with these.
+-- Lists of rule numbers over a system: where they lead (`run`), what they cost (`totalCost`), when they are open
+-- (`Open`) and reach a goal (`Reaches`), their figure (`figure`), and the order by rule numbers (`Before`, `Sooner`).
+-- The promises of the search are stated with these.
 use mathlib.Core.Path.{_≡_}
 use mathlib.Core.Logic.{_⊎_}
 use mathlib.Core.Bool.{true}
@@ -64,7 +65,8 @@ module _ (Y : System) where
   abbrev pub path : Y .State → List ℕ → List (Y .State)
   path s p = s ∷ rest s p
 
-  -- an open list, for the step limit d: its rules apply in turn, no state occurs twice on its path, and it has at most d rules
+  -- an open list, for the step limit d: its rules apply in turn,
+  -- no state occurs twice on its path, and it has at most d rules
   pub record Open (d : ℕ) (s : Y .State) (p : List ℕ) : Type 0 where
     pub applies : (t : Y .State) × (run s p ≡ some t)
     pub once : Once (path s p)

@@ -1,6 +1,6 @@
--- What is promised of an answer (`Kept`, demand 3), and which plan is found (`Best`); the search's own promises are made of these.
--- A round by the figures of its lists (document 01): those it visits (`InRound`), those one rule past them (`Fringe`), and the next threshold (`Least`);
--- `Figures` shows the rounds to be that.
+-- What is promised of an answer (`Kept`, demand 3), and which plan is found (`BestPlan`); the search's own promises are
+-- made of these. A round by the figures of its lists (document 01): those it visits (`InRound`), those one rule past
+-- them (`Fringe`), and the next threshold (`NextThreshold`); `Figures` shows the rounds to be that.
 use mathlib.Core.Path.{_≡_}
 use mathlib.Core.Logic.{_⊎_, _↔_}
 use mathlib.Core.List.{List, _∷_, _++_}
@@ -16,7 +16,7 @@ module _ (Y : System) (D : ℕ) (s : Y .State) where
   Floor T = (q : List ℕ) → Open Y D s q → Reaches Y s q → T ≤ totalCost Y q
 
   -- p is, of all cheapest open lists that reach a goal, the first, and within the cost limit B
-  pub record Best (B : ℕ) (p : List ℕ) : Type 0 where
+  pub record BestPlan (B : ℕ) (p : List ℕ) : Type 0 where
     pub open-list : Open Y D s p
     pub reaches : Reaches Y s p
     pub within : totalCost Y p ≤ B
@@ -35,8 +35,9 @@ module _ (Y : System) (h : Y .State → Estimate) (T : ℕ) where
     pub above : T < f
     pub proper : (q : List ℕ) (i : ℕ) (z : List ℕ) → p ≡ q ++ i ∷ z → Within (figure Y h s q) T
 
-  -- o is the next threshold after a round at T with step limit d: the least figure of the fringe, the mark if there is none
-  pub record Least (d : ℕ) (s : Y .State) (o : Estimate) : Type 0 where
+  -- o is the next threshold after a round at T with step limit
+  -- d: the least figure of the fringe, the mark if there is none
+  pub record NextThreshold (d : ℕ) (s : Y .State) (o : Estimate) : Type 0 where
     pub low : (p : List ℕ) (f : ℕ) → Fringe d s p f → Within o f
     pub one-of : (o ≡ mark) ⊎ ((p : List ℕ) × (f : ℕ) × Fringe d s p f × (o ≡ at f))
 
@@ -46,14 +47,16 @@ pub record Kept (Y : System) (h : Y .State → Estimate) (D B v : ℕ) (s : Y .S
   pub spent-iff : (a ≡ spent v) ↔ (v < visits (search Y h free D B s))
   -- in every other case the answer, its visits included, is that of the rounds with no allowance
   pub otherwise : visits (search Y h free D B s) ≤ v → a ≡ search Y h free D B s
-  -- in every other case a plan is given exactly when some list within the limits reaches a goal, and 'no plan' exactly when none does
+  -- in every other case a plan is given exactly when some list within
+  -- the limits reaches a goal, and 'no plan' exactly when none does
   pub plan-iff :
       visits (search Y h free D B s) ≤ v → ((u : ℕ) × (p : List ℕ) × (c : ℕ) × (a ≡ found u p c)) ↔
       ((q : List ℕ) × Reaches Y s q × (length q ≤ D) × (totalCost Y q ≤ B))
   pub none-iff :
       visits (search Y h free D B s) ≤ v
       → ((u : ℕ) × (a ≡ noPlan u)) ↔ ((q : List ℕ) → Reaches Y s q → length q ≤ D → totalCost Y q ≤ B → ⊥)
-  -- a plan given is the plan found, told with its own cost, and every other list within the step limit that reaches a goal costs at least as much
-  pub best : (u c : ℕ) (p : List ℕ) → a ≡ found u p c → (c ≡ totalCost Y p) × Best Y D s B p
+  -- a plan given is the plan found, told with its own cost, and every other list within the step limit that reaches a
+  -- goal costs at least as much
+  pub best : (u c : ℕ) (p : List ℕ) → a ≡ found u p c → (c ≡ totalCost Y p) × BestPlan Y D s B p
   pub cheapest :
       (u c : ℕ) (p : List ℕ) → a ≡ found u p c → (q : List ℕ) → Reaches Y s q → length q ≤ D → c ≤ totalCost Y q

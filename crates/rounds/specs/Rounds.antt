@@ -1,6 +1,6 @@
--- The search by rounds: a visit and its extensions (`visit`, `extend`), a round (`round`), the rounds (`rounds`) and the answer (`search`),
--- with an allowance of visits or with none. The parts are named, so that each law speaks of one of them.
--- The search call is stated with `search`.
+-- The search by rounds: a visit and its extensions (`visit`, `extend`), a round (`round`), the rounds (`rounds`) and
+-- the answer (`search`), with an allowance of visits or with none. The parts are named, so that each law speaks of one
+-- of them. The search call is stated with `search`.
 use mathlib.Core.Bool.{Bool, true, false, _||_}
 use mathlib.Core.Option.{Option, none, some}
 use mathlib.Core.List.{List, [], _∷_}
@@ -19,7 +19,8 @@ abbrev pub allows : Allowance → ℕ → Bool
 allows free u = true
 allows (upto v) u = ltb u v
 
--- what a round, or a part of one, leaves: the visits used and the least overshoot so far; the plan and its cost; or no visit left
+-- what a round, or a part of one, leaves: the visits used and the
+-- least overshoot so far; the plan and its cost; or no visit left
 pub data Progress : Type 0 where
   on : (used : ℕ) (over : Estimate) → Progress
   hit : (used : ℕ) (plan : List ℕ) (cost : ℕ) → Progress

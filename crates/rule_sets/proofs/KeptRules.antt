@@ -1,5 +1,7 @@
--- Where only sets are written anew, the same rules agree with a label (`agreeing-kept`) and the same rules are plain (`plain-kept`): both are told by the rules' left sides. So a set that is
--- written leaves the others right (`set-kept`), and the set of plain rules completes them (`sets-made`). The functions that write the sets rest on these.
+-- Where only sets are written anew, the same rules agree with a label (`agreeing-kept`)
+-- and the same rules are plain (`plain-kept`): both are told by the rules' left sides.
+-- So a set that is written leaves the others right (`set-kept`), and the set of plain
+-- rules completes them (`sets-made`). The functions that write the sets rest on these.
 use mathlib.Core.Bool.{_&&_}
 use mathlib.Core.Path.{_≡_, sym, ap, ap₂, _∙_}
 use mathlib.Core.List.{List}
@@ -25,7 +27,8 @@ use Rattle.rule_sets.proofs.PlainLaws.{plain-set}
 module _ {old new : List ℕ} (o : Outside setsPlace countsPlace old new) (rules : ℕ) (few : rules ≤ 64) where
   agrees-kept : (i x r : ℕ) → r < rules → agreesAt new r i x ≡ agreesAt old r i x
   agrees-kept i x r l =
-      ap₂ (λ (m v : ℕ). eqb (bitAnd x (digit m i)) (digit v i)) (mask-kept o (leftPlace r) (omega arith)) (value-kept o (leftPlace r) (omega arith))
+      ap₂ (λ (m v : ℕ). eqb (bitAnd x (digit m i)) (digit v i)) (mask-kept o (leftPlace r) (omega arith))
+      (value-kept o (leftPlace r) (omega arith))
 
   pub agreeing-kept : (i x s : ℕ) → Agreeing old rules i x s → Agreeing new rules i x s
   agreeing-kept i x s =
@@ -33,7 +36,8 @@ module _ {old new : List ℕ} (o : Outside setsPlace countsPlace old new) (rules
 
   settled-kept : (r : ℕ) → r < rules → (i : ℕ) → settledAt new r i ≡ settledAt old r i
   settled-kept r l i =
-      ap₂ (λ (k m : ℕ). eqb (digit k i + digit m i + 16 * (digit k i % 15)) 15) (keep-kept o (leftPlace r) (omega arith)) (mask-kept o (leftPlace r) (omega arith))
+      ap₂ (λ (k m : ℕ). eqb (digit k i + digit m i + 16 * (digit k i % 15)) 15)
+      (keep-kept o (leftPlace r) (omega arith)) (mask-kept o (leftPlace r) (omega arith))
 
   pub plain-kept : (n s : ℕ) → PlainRules old rules n s → PlainRules new rules n s
   plain-kept n s =
@@ -47,7 +51,8 @@ pub set-kept :
     (code : List ℕ) (rules i x m j v : ℕ) → rules ≤ 64 → setsPlace ≤ j → j < countsPlace → (m ≡ j → ⊥)
     → Agreeing code rules i x (getD code m 0) → Agreeing (set code j v) rules i x (getD (set code j v) m 0)
 set-kept code rules i x m j v few a b d h =
-    agreeing-kept (outside-set j v a b (outside-none setsPlace countsPlace code)) rules few i x (getD (set code j v) m 0) (λ r.
+    agreeing-kept (outside-set j v a b (outside-none setsPlace countsPlace code)) rules few i x
+    (getD (set code j v) m 0) (λ r.
     ap (λ (s : ℕ). member s r) (getD-set-other code j m v 0 d) ∙ h r)
 
 pub sets-made :
@@ -57,10 +62,14 @@ sets-made {code} rules n s long few low k p =
     record {
       indexed =
           record {
-            told = λ i x l m. set-kept code rules i x (setsPlace + (16 * i + x)) plainPlace s few (omega arith) (omega arith) (λ e. omega arith) (k .told i x l m);
+            told =
+                λ i x l m.
+                set-kept code rules i x (setsPlace + (16 * i + x)) plainPlace s few (omega arith) (omega arith)
+                (λ e. omega arith) (k .told i x l m);
           };
       plain =
           rw (getD-set-same code plainPlace s 0 (omega arith))
           (plain-set rules n
-          (plain-kept (outside-set plainPlace s (omega arith) (omega arith) (outside-none setsPlace countsPlace code)) rules few n s p));
+          (plain-kept (outside-set plainPlace s (omega arith) (omega arith) (outside-none setsPlace countsPlace code))
+          rules few n s p));
     }

@@ -3,3 +3,4 @@ mod replaying;
 
 pub use replaying::Replay;
 pub use replaying::replay_run;
+pub use runs::replay::RunEnd;

@@ -8,17 +8,19 @@ use refusals::Refusal;
 use refusals::Verdict;
 use runs::replay::LONGEST_LIST;
 use runs::replay::Replayed;
+use runs::replay::RunEnd;
 
-// What a replay answers: done, at this cost; or stuck at this index, with the cost so far.
+// What a replay answers: done, or stuck at a rule; either way how many rules were applied and what they cost.
 pub enum Replay {
-    Done(u32),
-    Stuck(usize, u32),
+    Done(RunEnd),
+    Stuck(RunEnd),
     Refused(Refusal),
 }
 
 // Checks what a replay is handed; `room` is the length of the buffer.
 fn check_replay(block: &[u8], start: &[u8], list: &[u8], room: usize) -> Verdict
-    ensures { λ r. ⌜ verdictOf r ≡ verdict (replayConditions (now (block .entry)) (now (start .entry)) (now (list .entry)) room) ⌝ }
+    ensures { λ r. ⌜ verdictOf r ≡
+        verdict (replayConditions (now (block .entry)) (now (start .entry)) (now (list .entry)) room) ⌝ }
 {
     let checked = check_state(block, start);
     if let Verdict::Refused(refusal) = checked {
@@ -36,10 +38,12 @@ fn check_replay(block: &[u8], start: &[u8], list: &[u8], room: usize) -> Verdict
     Verdict::Accepted
 }
 
-// Replays a list of rule numbers from a start: done, or stuck at the first index whose rule does not apply; either way the cost so far is told and the state there written at the
-// front of `out`. Refused with 3 to 7, 8, 9 (for every number of the list), 10, 11.
+// Replays a list of rule numbers from a start: done, or stuck at the first index whose rule does not apply; either way
+// the cost so far is told and the state there written at the front of `out`. Refused with 3 to 7, 8, 9 (for every
+// number of the list), 10, 11.
 pub fn replay_run(block: &[u8], start: &[u8], list: &[u8], out: &mut [u8]) -> Replay
-    ensures { λ r. ⌜ outcome (replayOf r) (now (out .exit)) ≡ replayRun (now (block .entry)) (now (start .entry)) (now (list .entry)) (now (out .entry)) ⌝ }
+    ensures { λ r. ⌜ outcome (replayOf r) (now (out .exit)) ≡
+        replayRun (now (block .entry)) (now (start .entry)) (now (list .entry)) (now (out .entry)) ⌝ }
 {
     let checked = check_replay(block, start, list, out.len());
     if let Verdict::Refused(refusal) = checked {
@@ -47,7 +51,7 @@ pub fn replay_run(block: &[u8], start: &[u8], list: &[u8], out: &mut [u8]) -> Re
     }
     let replayed = runs::replay::replay(block, start, list, out);
     match replayed {
-        Replayed::Done(cost) => Replay::Done(cost),
-        Replayed::Stuck(index, cost) => Replay::Stuck(index, cost),
+        Replayed::Done(end) => Replay::Done(end),
+        Replayed::Stuck(end) => Replay::Stuck(end),
     }
 }

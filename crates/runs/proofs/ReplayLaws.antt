@@ -1,7 +1,8 @@
--- What a replay tells. It is done exactly where the rules apply in turn, with their cost and the last state (`replay-done`, `done-in-turn`); it is stuck at an
--- index exactly where the rules before it apply in turn and its rule does not apply then (`replay-stuck`, `stuck-at`); no rules change nothing
--- (`replay-empty`, `replay-empty-state`); and it ends in a valid state (`replay-state-ok`). The code's proof and readers of the public call rest on these.
-use mathlib.Core.Path.{_≡_, refl, sym, ap, _∙_}
+-- What a replay tells. It is done exactly where the rules apply in turn, with their cost and the last state
+-- (`replay-done`, `done-in-turn`); it is stuck at an index exactly where the rules before it apply in turn and its rule
+-- does not apply then (`replay-stuck`, `stuck-at`); no rules change nothing (`replay-empty`, `replay-empty-state`); and
+-- it ends in a valid state (`replay-state-ok`). The code's proof and readers of the public call rest on these.
+use mathlib.Core.Path.{_≡_, refl, sym, ap, subst, _∙_}
 use mathlib.Core.Bool.{Bool, true, false, not, cond}
 use mathlib.Core.List.{List, []}
 use Prim.Native.Nat.{ℕ, _≤_, _<_}
@@ -17,21 +18,27 @@ use Rattle.blocks.specs.States.{stateOk}
 use Rattle.psvn.specs.Rules.{applies}
 use Rattle.psvn.specs.Runs.{RuleNumbers, applyInTurn, run, totalCost}
 use Rattle.psvn.proofs.RunLaws.{in-turn-at, in-turn-intro, run-length, run-state}
-use Rattle.runs.specs.Replay.{Ending, done, stuck, numbersOk, appliedCount, applied, replayEnding, replayState}
+use Rattle.runs.specs.Replay.{numbersOk, appliedCount, applied}
+use Rattle.runs.specs.Replay.{replayEnd, replayEnding, replayState}
+use Rattle.runs.specs.declared.replay.RunEnd.{RunEnd}
+use Rattle.runs.specs.declared.replay.Replayed.{Replayed}
+use Rattle.runs.specs.declared.replay.Replayed.the-variants.{Done, Stuck}
 
--- done with cost c: the rules apply in turn, and these are their cost and the last state
-pub record DoneWith (b s rs : List ℕ) (c : ℕ) : Type 0 where
+-- done at e: the rules apply in turn, and these are their number, their cost and the last state
+pub record DoneAt (b s rs : List ℕ) (e : RunEnd) : Type 0 where
   pub in-turn : applyInTurn b s rs ≡ true
-  pub cost : c ≡ totalCost b rs
+  pub steps : e .steps ≡ length rs
+  pub cost : e .cost ≡ totalCost b rs
   pub state : replayState b s rs ≡ run b s rs
 
--- stuck at index i with cost c: the rules before it apply in turn, its rule does not apply then, and these are the cost and the state there
-pub record StuckAt (b s rs : List ℕ) (i c : ℕ) : Type 0 where
-  pub within : i < length rs
-  pub in-turn : applyInTurn b s (take i rs) ≡ true
-  pub does-not-apply : applies b (getD rs i 0) (run b s (take i rs)) ≡ false
-  pub cost : c ≡ totalCost b (take i rs)
-  pub state : replayState b s rs ≡ run b s (take i rs)
+-- stuck at e: the rules before its index apply in turn, the rule there does not apply then, and these are the cost and
+-- the state there
+pub record StuckAt (b s rs : List ℕ) (e : RunEnd) : Type 0 where
+  pub within : e .steps < length rs
+  pub in-turn : applyInTurn b s (take (e .steps) rs) ≡ true
+  pub does-not-apply : applies b (getD rs (e .steps) 0) (run b s (take (e .steps) rs)) ≡ false
+  pub cost : e .cost ≡ totalCost b (take (e .steps) rs)
+  pub state : replayState b s rs ≡ run b s (take (e .steps) rs)
 
 -- each number by itself
 pub rule-numbers : (b rs : List ℕ) → numbersOk b rs ≡ true → RuleNumbers b rs
@@ -42,14 +49,17 @@ rule-numbers b rs h i l = ltb-true _ _ (all-at (λ i. ltb (getD rs i 0) (rules b
 abbrev fails : List ℕ → List ℕ → List ℕ → ℕ → Bool
 fails b s rs i = not (applies b (getD rs i 0) (run b s (take i rs)))
 
--- how a replay ends that applied n rules
-abbrev endingAt : List ℕ → List ℕ → ℕ → Ending
-endingAt b rs n = cond (ltb n (length rs)) (stuck n (totalCost b (take n rs))) (done (totalCost b (take n rs)))
+-- where and how a replay ends that applied n rules
+abbrev pub endAfter : List ℕ → List ℕ → ℕ → RunEnd
+endAfter b rs n = record { steps = n; cost = totalCost b (take n rs) }
+
+abbrev endingAt : List ℕ → List ℕ → ℕ → Replayed
+endingAt b rs n = cond (ltb n (length rs)) (Stuck (endAfter b rs n)) (Done (endAfter b rs n))
 
 module _ (b s rs : List ℕ) where
   -- the ending and the state, once the count is known
   ending-at : (n : ℕ) → appliedCount b s rs ≡ n → replayEnding b s rs ≡ endingAt b rs n
-  unfolding replayEnding
+  unfolding replayEnding replayEnd
   ending-at n e = ap (endingAt b rs) e
 
   state-at : (n : ℕ) → appliedCount b s rs ≡ n → replayState b s rs ≡ run b s (take n rs)
@@ -69,26 +79,33 @@ module _ (b s rs : List ℕ) where
       rw (getD-take n rs i 0 k, take-take i n rs (omega arith)) (not-false _ (h i k)))
 
   -- from the rules to the ending
-  pub replay-done : applyInTurn b s rs ≡ true → (replayEnding b s rs ≡ done (totalCost b rs)) × (replayState b s rs ≡ run b s rs)
+  pub replay-done :
+      applyInTurn b s rs ≡ true
+      → (replayEnding b s rs ≡ Done (endAfter b rs (length rs))) × (replayState b s rs ≡ run b s rs)
   unfolding appliedCount
   replay-done h =
       let n = length rs in
       let e = first-passed (fails b s rs) n n (omega arith) (before-at n (rw take-length h) (omega arith)) in (
-        ending-at n e ∙ rw (le-ltb n n (omega arith), take-length),
+        ending-at n e ∙ rw (le-ltb n n (omega arith)),
         state-at n e ∙ rw take-length,
       )
 
   pub replay-stuck :
-      (i : ℕ) → i < length rs → applyInTurn b s (take i rs) ≡ true → applies b (getD rs i 0) (run b s (take i rs)) ≡ false
-      → (replayEnding b s rs ≡ stuck i (totalCost b (take i rs))) × (replayState b s rs ≡ run b s (take i rs))
+      (i : ℕ) → i < length rs → applyInTurn b s (take i rs) ≡ true
+      → applies b (getD rs i 0) (run b s (take i rs)) ≡ false
+      → (replayEnding b s rs ≡ Stuck (endAfter b rs i)) × (replayState b s rs ≡ run b s (take i rs))
   unfolding appliedCount
   replay-stuck i l h f =
       let e = first-at (fails b s rs) (length rs) i l (ap not f) (before-at i h (omega arith)) in
       (ending-at i e ∙ rw (lt-ltb i (length rs) l), state-at i e)
 
-  -- and back: by the count, a rule is left or none
-  stopped : ltb (appliedCount b s rs) (length rs) ≡ true → StuckAt b s rs (appliedCount b s rs) (totalCost b (applied b s rs))
+  count-within : appliedCount b s rs ≤ length rs
   unfolding appliedCount
+  count-within = first-within (fails b s rs) (length rs)
+
+  -- and back: by the count, a rule is left or none
+  stopped : ltb (appliedCount b s rs) (length rs) ≡ true → StuckAt b s rs (replayEnd b s rs)
+  unfolding appliedCount replayEnd
   stopped e =
       let n = appliedCount b s rs in
       let l : n < length rs = ltb-true _ _ e in
@@ -101,46 +118,41 @@ module _ (b s rs : List ℕ) where
         state = state-at n refl;
       }
 
-  finished : ltb (appliedCount b s rs) (length rs) ≡ false → DoneWith b s rs (totalCost b (applied b s rs))
-  unfolding appliedCount
+  finished : ltb (appliedCount b s rs) (length rs) ≡ false → DoneAt b s rs (replayEnd b s rs)
+  unfolding appliedCount replayEnd
   finished e =
       let n = appliedCount b s rs in
-      let all : take n rs ≡ rs = take-all n rs (ltb-false _ _ e) in
+      let m : length rs ≤ n = ltb-false n (length rs) e in
+      let all : take n rs ≡ rs = take-all n rs m in
       record {
         in-turn =
             in-turn-intro b s rs (λ i l.
-            not-false _ (first-least (fails b s rs) (length rs) i (let m = ltb-false n (length rs) e in omega arith)));
+            not-false _ (first-least (fails b s rs) (length rs) i (omega arith)));
+        steps = omega (arith, count-within);
         cost = ap (totalCost b) all;
         state = state-at n refl ∙ ap (run b s) all;
       }
 
-  pub done-in-turn : (c : ℕ) → replayEnding b s rs ≡ done c → DoneWith b s rs c
+  pub done-in-turn : (d : RunEnd) → replayEnding b s rs ≡ Done d → DoneAt b s rs d
   unfolding replayEnding
-  done-in-turn c h = go (ltb (appliedCount b s rs) (length rs)) refl
+  done-in-turn d h = go (ltb (appliedCount b s rs) (length rs)) refl
     where
-      go : (t : Bool) → ltb (appliedCount b s rs) (length rs) ≡ t → DoneWith b s rs c
+      go : (t : Bool) → ltb (appliedCount b s rs) (length rs) ≡ t → DoneAt b s rs d
       go true e = absurd (let z : _≡_ {A = ℕ} 0 1 = cc (e, h) in omega arith)
-      go false e = let q : totalCost b (applied b s rs) ≡ c = cc (e, h) in rw q at (finished e)
+      go false e = let q : replayEnd b s rs ≡ d = cc (e, h) in subst (DoneAt b s rs) q (finished e)
 
-  pub stuck-at : (i c : ℕ) → replayEnding b s rs ≡ stuck i c → StuckAt b s rs i c
+  pub stuck-at : (d : RunEnd) → replayEnding b s rs ≡ Stuck d → StuckAt b s rs d
   unfolding replayEnding
-  stuck-at i c h = go (ltb (appliedCount b s rs) (length rs)) refl
+  stuck-at d h = go (ltb (appliedCount b s rs) (length rs)) refl
     where
-      go : (t : Bool) → ltb (appliedCount b s rs) (length rs) ≡ t → StuckAt b s rs i c
-      go true e =
-          let p : appliedCount b s rs ≡ i = cc (e, h) in
-          let q : totalCost b (applied b s rs) ≡ c = cc (e, h) in
-          rw (q, p) at (stopped e)
+      go : (t : Bool) → ltb (appliedCount b s rs) (length rs) ≡ t → StuckAt b s rs d
+      go true e = let q : replayEnd b s rs ≡ d = cc (e, h) in subst (StuckAt b s rs) q (stopped e)
       go false e = absurd (let z : _≡_ {A = ℕ} 0 1 = cc (e, h) in omega arith)
 
   -- the state there
   pub replay-length : length s ≡ positions b → length (replayState b s rs) ≡ positions b
   unfolding replayState
   replay-length e = run-length b s (applied b s rs) e
-
-  count-within : appliedCount b s rs ≤ length rs
-  unfolding appliedCount
-  count-within = first-within (fails b s rs) (length rs)
 
   pub replay-state-ok : Valid b → stateOk b s ≡ true → RuleNumbers b rs → stateOk b (replayState b s rs) ≡ true
   unfolding replayState
@@ -151,8 +163,8 @@ module _ (b s rs : List ℕ) where
       rw (getD-take n rs i 0 m) (h i (omega (arith, count-within))))
 
 -- no rules
-pub replay-empty : (b s : List ℕ) → replayEnding b s [] ≡ done 0
-unfolding replayEnding appliedCount
+pub replay-empty : (b s : List ℕ) → replayEnding b s [] ≡ Done (record { steps = 0; cost = 0 })
+unfolding replayEnding replayEnd appliedCount
 replay-empty b s = refl
 
 pub replay-empty-state : (b s : List ℕ) → replayState b s [] ≡ s

@@ -1,5 +1,6 @@
--- Replaying a recorded run, at most 4,096 rule numbers from a start: 'done', or 'stuck' at the first index whose rule does not apply (`replayEnding`);
--- either way with the cost so far, and the state there written out (`replayState`). The public call to replay a run is stated with these.
+-- Replaying a recorded run, at most 4,096 rule numbers from a start: 'done', or 'stuck' at the first index whose rule
+-- does not apply (`replayEnding`); either way with the cost so far, and the state there written out (`replayState`).
+-- The public call to replay a run is stated with these.
 use Prim.Native.Nat.{ℕ}
 use mathlib.Core.Bool.{Bool, cond, not}
 use mathlib.Core.List.{List}
@@ -9,17 +10,9 @@ use Rattle.basics.specs.Bounded.{all, first}
 use Rattle.blocks.specs.Layout.{rules}
 use Rattle.psvn.specs.Rules.{applies}
 use Rattle.psvn.specs.Runs.{run, totalCost}
+use Rattle.runs.specs.declared.replay.RunEnd.{RunEnd}
 use Rattle.runs.specs.declared.replay.Replayed.{Replayed}
 use Rattle.runs.specs.declared.replay.Replayed.the-variants.{Done, Stuck}
-
--- 'done' with the cost; or 'stuck' at an index, with the cost so far
-pub data Ending : Type 0 where
-  done : ℕ → Ending
-  stuck : ℕ → ℕ → Ending
-
-abbrev pub endingOf : Replayed → Ending
-endingOf (Done cost) = done cost
-endingOf (Stuck index cost) = stuck index cost
 
 -- every number of the list is that of a rule; and how many there may be
 unfoldable pub numbersOk : List ℕ → List ℕ → Bool
@@ -36,12 +29,14 @@ appliedCount b s rs = first (length rs) (λ i. not (applies b (getD rs i 0) (run
 abbrev pub applied : List ℕ → List ℕ → List ℕ → List ℕ
 applied b s rs = take (appliedCount b s rs) rs
 
--- how the replay ends, and the state there
-unfoldable pub replayEnding : List ℕ → List ℕ → List ℕ → Ending
+-- where the replay ends: how many rules were applied, and their cost
+unfoldable pub replayEnd : List ℕ → List ℕ → List ℕ → RunEnd
+replayEnd b s rs = record { steps = appliedCount b s rs; cost = totalCost b (applied b s rs) }
+
+-- how the replay ends, 'stuck' where a rule is left, and the state there
+unfoldable pub replayEnding : List ℕ → List ℕ → List ℕ → Replayed
 replayEnding b s rs =
-    cond (ltb (appliedCount b s rs) (length rs))
-    (stuck (appliedCount b s rs) (totalCost b (applied b s rs)))
-    (done (totalCost b (applied b s rs)))
+    cond (ltb (appliedCount b s rs) (length rs)) (Stuck (replayEnd b s rs)) (Done (replayEnd b s rs))
 
 unfoldable pub replayState : List ℕ → List ℕ → List ℕ → List ℕ
 replayState b s rs = run b s (applied b s rs)

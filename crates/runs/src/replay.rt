@@ -7,7 +7,7 @@ ghost use Rattle.blocks.specs.Layout.{headLength, positions, rules};
 ghost use Rattle.blocks.specs.Validity.{Sized};
 ghost use Rattle.psvn.specs.Rules.{step};
 ghost use Rattle.psvn.specs.Runs.{RuleNumbers};
-ghost use Rattle.runs.specs.Replay.{endingOf, numbersOk, longestList, replayEnding, replayState};
+ghost use Rattle.runs.specs.Replay.{numbersOk, longestList, replayEnding, replayState};
 use basics::copy;
 use basics::wide;
 use blocks::layout;
@@ -17,10 +17,17 @@ use psvn::rules;
 // How many rule numbers a list may have.
 pub const LONGEST_LIST: usize = 4096;
 
-// How a replay ends: all rules applied, at this cost; or stuck at this index, with the cost so far.
+// Where a replay ends: how many rules were applied, which is the index of a rule that is stuck, and what they cost.
+#[repr(C)]
+pub struct RunEnd {
+    pub steps: usize,
+    pub cost: u32,
+}
+
+// How a replay ends: all rules applied, or one is stuck.
 pub enum Replayed {
-    Done(u32),
-    Stuck(usize, u32),
+    Done(RunEnd),
+    Stuck(RunEnd),
 }
 
 // Whether every number of the list is that of a rule.
@@ -52,27 +59,33 @@ fn advance(block: &[u8], r: usize, state: &mut [u8])
 
 // Replays the list from a state, which becomes the one where it ends.
 fn replay_in(block: &[u8], list: &[u8], state: &mut [u8]) -> Replayed
-    requires { ⌜ Sized (now block) × RuleNumbers (now block) (now list) × (length (now list) ≤ longestList) × (length (now state) ≡ positions (now block)) ⌝ }
-    ensures { λ r. ⌜ (endingOf r ≡ replayEnding (now (block .entry)) (now (state .entry)) (now (list .entry))) × (now (state .exit) ≡ replayState (now (block .entry)) (now (state .entry)) (now (list .entry))) ⌝ }
+    requires { ⌜ Sized (now block) × RuleNumbers (now block) (now list) × (length (now list) ≤ longestList) ×
+        (length (now state) ≡ positions (now block)) ⌝ }
+    ensures { λ r. ⌜ r ≡ replayEnding (now (block .entry)) (now (state .entry)) (now (list .entry)) ⌝ }
+    ensures { λ r. ⌜ now (state .exit) ≡
+        replayState (now (block .entry)) (now (state .entry)) (now (list .entry)) ⌝ }
 {
     let mut cost: u32 = 0;
     let mut i: usize = 0;
     while i < list.len() {
         let rule = wide(list[i]);
         if !rules::applies(block, rule, state) {
-            return Replayed::Stuck(i, cost);
+            return Replayed::Stuck(RunEnd { steps: i, cost });
         }
         advance(block, rule, state);
         cost += layout::cost(block, rule) as u32;
         i += 1;
     }
-    Replayed::Done(cost)
+    Replayed::Done(RunEnd { steps: i, cost })
 }
 
 // Replays the list from the start, and writes the state where it ends at the front of `out`.
 pub fn replay(block: &[u8], start: &[u8], list: &[u8], out: &mut [u8]) -> Replayed
-    requires { ⌜ Sized (now block) × RuleNumbers (now block) (now list) × (length (now list) ≤ longestList) × (length (now start) ≡ positions (now block)) × (positions (now block) ≤ length (now out)) ⌝ }
-    ensures { λ r. ⌜ (endingOf r ≡ replayEnding (now (block .entry)) (now (start .entry)) (now (list .entry))) × (now (out .exit) ≡ atFront (replayState (now (block .entry)) (now (start .entry)) (now (list .entry))) (now (out .entry))) ⌝ }
+    requires { ⌜ Sized (now block) × RuleNumbers (now block) (now list) × (length (now list) ≤ longestList) ×
+        (length (now start) ≡ positions (now block)) × (positions (now block) ≤ length (now out)) ⌝ }
+    ensures { λ r. ⌜ r ≡ replayEnding (now (block .entry)) (now (start .entry)) (now (list .entry)) ⌝ }
+    ensures { λ r. ⌜ now (out .exit) ≡
+        atFront (replayState (now (block .entry)) (now (start .entry)) (now (list .entry))) (now (out .entry)) ⌝ }
 {
     let n = start.len();
     copy(start, n, out);

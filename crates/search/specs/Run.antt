@@ -1,7 +1,7 @@
 -- The running state of a search, in one array: the path with the ranks of its states and the costs up to them, the
 -- rules of the list, the limits of the round, and what the round carries. The functions of the search read and write
--- its parts by these names; where each stands is known here, in `run` and in `RunLaws` alone. `ListKept` is what stays
--- of the list at a depth.
+-- its parts by these names; where each stands is defined here, and in the module `run` for the code. `ListKept` is what
+-- stays of the list at a depth.
 use mathlib.Core.Path.{_≡_}
 use mathlib.Core.List.{List}
 use Prim.Native.Nat.{ℕ, suc, _+_, _-_, _%_, _≤_, _<_}

@@ -1,5 +1,6 @@
--- The search, as a public call: `findPlan` is the answer with the final contents of the plan buffer, for every input, and `PlanKept` demand 3 for what the call itself gives.
--- `searchOf` gives the document's answer for each case of the enum, `reported` for an answer of the rounds.
+-- The search, as a public call: `findPlan` is the answer with the final contents of the plan buffer, for every input,
+-- and `PlanKept` demand 3 for what the call itself gives. `searchOf` gives the document's answer for each case of the
+-- enum, `reported` for an answer of the rounds.
 use Prim.Native.Nat.{ℕ}
 use mathlib.Core.List.{List, [], _∷_, _++_}
 use lib.Dec.{leb}
@@ -8,50 +9,57 @@ use Rattle.basics.specs.Lists.{atFront}
 use Rattle.refusals.specs.Answers.{Answer, refused, told, Condition, _unless_, verdict, Outcome, outcome, guarded}
 use Rattle.refusals.specs.Refusals.{refusalNumber}
 use Rattle.blocks.specs.Layout.{abstractStates}
+use Rattle.blocks.specs.Validity.{blockConditions}
 use Rattle.tables.specs.Tables.{passesTest}
 use Rattle.rounds.specs.Rounds as rounds
-use Rattle.search.specs.Exercises.{searchFrom, longestPlan, statusOf}
-use Rattle.search.specs.Promises.{Kept}
-use Rattle.psvn_calls.specs.Checking.{stateConditions}
+use Rattle.queries.specs.Queries.{queryConditions}
+use Rattle.search.specs.Exercises.{searchFrom, statusOf}
+use Rattle.search.specs.Parts.{planless}
+use Rattle.search.specs.Promises.{SearchKept}
+use Rattle.queries.specs.declared.Limits.{Limits}
+use Rattle.search.specs.declared.running.Plan.{Plan}
 use Rattle.search_calls.specs.declared.searching.Search.{Search}
 use Rattle.search_calls.specs.declared.searching.Search.the-variants.{Found, NoPlan, Spent, Refused}
 
 -- an answer of the search: its status, 0 for found, 1 for 'no plan' and 2 for 'spent', with steps, cost and visits
 pub record SearchAnswer : Type 0 where
   pub status : ℕ
-  pub steps : ℕ
-  pub cost : ℕ
-  pub visits : ℕ
+  pub plan : Plan
 
 abbrev pub searchAnswer : ℕ → ℕ → ℕ → ℕ → SearchAnswer
-searchAnswer status steps cost visits = record { status = status; steps = steps; cost = cost; visits = visits }
+searchAnswer status steps cost visits =
+    record { status = status; plan = record { steps = steps; cost = cost; visits = visits } }
 
 -- steps and cost are 0 without a plan
 abbrev pub searchOf : Search → Answer SearchAnswer
-searchOf (Found steps cost visits) = told (searchAnswer 0 steps cost visits)
-searchOf (NoPlan visits) = told (searchAnswer 1 0 0 visits)
-searchOf (Spent visits) = told (searchAnswer 2 0 0 visits)
+searchOf (Found plan) = told (record { status = 0; plan = plan })
+searchOf (NoPlan visits) = told (record { status = 1; plan = planless visits })
+searchOf (Spent visits) = told (record { status = 2; plan = planless visits })
 searchOf (Refused refusal) = refused (refusalNumber refusal)
 
 -- the same of an answer of the rounds
 abbrev pub reported : rounds.Answer → SearchAnswer
 reported a = searchAnswer (statusOf a) (rounds.steps a) (rounds.planCost a) (rounds.visits a)
 
--- 3 to 8, then 10 to 13; D is the step limit, and `room` the length of the plan buffer
-unfoldable pub searchConditions : List ℕ → List ℕ → ℕ → ℕ → List ℕ → List Condition
-searchConditions b s D room t =
-    stateConditions b s
-    ++ (10 unless leb D longestPlan ∷ 11 unless leb D room ∷ 12 unless leb (abstractStates b) (length t) ∷ 13 unless passesTest b t ∷ [])
+-- 11 to 13, of a plan buffer of the length `room` for a plan of D steps, and of a table
+unfoldable pub lentConditions : List ℕ → ℕ → List ℕ → ℕ → List Condition
+lentConditions b D t room =
+    11 unless leb D room ∷ 12 unless leb (abstractStates b) (length t) ∷ 13 unless passesTest b t ∷ []
 
--- B is the cost limit and v the visit allowance; a plan stands at the front of the buffer, and nothing is written without one
-unfoldable pub findPlan : List ℕ → List ℕ → ℕ → ℕ → ℕ → List ℕ → List ℕ → Outcome SearchAnswer
-findPlan b s D B v t buffer =
-    guarded (verdict (searchConditions b s D (length buffer) t)) buffer
-    (outcome (told (reported (searchFrom b t D B v s))) (atFront (rounds.plan (searchFrom b t D B v s)) buffer))
+-- 3 to 7, then 8 and 10, then 11 to 13
+unfoldable pub searchConditions : List ℕ → List ℕ → Limits → List ℕ → ℕ → List Condition
+searchConditions b s l t room = blockConditions b ++ (queryConditions b s l ++ lentConditions b (l .steps) t room)
+
+-- a plan stands at the front of the buffer, and nothing is written without one
+unfoldable pub findPlan : List ℕ → List ℕ → Limits → List ℕ → List ℕ → Outcome SearchAnswer
+findPlan b s l t buffer =
+    guarded (verdict (searchConditions b s l t (length buffer))) buffer
+    (outcome (told (reported (searchFrom b s l t))) (atFront (rounds.plan (searchFrom b s l t)) buffer))
 
 -- demand 3, of the answer that the call gives with the plan in its buffer
-abbrev pub PlanKept : List ℕ → List ℕ → ℕ → ℕ → ℕ → List ℕ → Search → List ℕ → Type 0
-PlanKept b s D B v t (Found steps cost visits) buffer = Kept b t D B v s (rounds.found visits (take steps buffer) cost)
-PlanKept b s D B v t (NoPlan visits) buffer = Kept b t D B v s (rounds.noPlan visits)
-PlanKept b s D B v t (Spent visits) buffer = Kept b t D B v s (rounds.spent visits)
-PlanKept b s D B v t (Refused refusal) buffer = Unit {0}
+abbrev pub PlanKept : List ℕ → List ℕ → Limits → List ℕ → Search → List ℕ → Type 0
+PlanKept b s l t (Found plan) buffer =
+    SearchKept b s l t (rounds.found (plan .visits) (take (plan .steps) buffer) (plan .cost))
+PlanKept b s l t (NoPlan visits) buffer = SearchKept b s l t (rounds.noPlan visits)
+PlanKept b s l t (Spent visits) buffer = SearchKept b s l t (rounds.spent visits)
+PlanKept b s l t (Refused refusal) buffer = Unit {0}

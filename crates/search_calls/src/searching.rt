@@ -2,32 +2,27 @@
 ghost use mathlib.Core.Path.{_≡_};
 ghost use Rattle.refusals.specs.Answers.{verdict, outcome};
 ghost use Rattle.refusals.specs.Refusals.{verdictOf};
-ghost use Rattle.search_calls.specs.Searching.{searchOf, searchConditions, findPlan, PlanKept};
-use psvn_calls::check_state;
+ghost use Rattle.blocks.specs.Validity.{Valid};
+ghost use Rattle.search_calls.specs.Searching.{searchOf, lentConditions, searchConditions, findPlan, PlanKept};
+use queries::Limits;
 use refusals::Refusal;
 use refusals::Verdict;
 use search::Ending;
-use search::LONGEST_PLAN;
+use search::Plan;
 
-// What a search answers: a plan was found, of so many steps, at this cost and after so many visits; or there is no plan, or the allowance is spent, after so many visits.
+// What a search answers: a plan was found; or there is no plan, or the allowance is spent, after so many visits.
 pub enum Search {
-    Found(usize, u32, u32),
-    NoPlan(u32),
-    Spent(u32),
+    Found(Plan),
+    NoPlan { visits: u32 },
+    Spent { visits: u32 },
     Refused(Refusal),
 }
 
-// Checks what a search is handed; `room` is the length of the plan buffer.
-fn check_search(block: &[u8], start: &[u8], steps: usize, room: usize, table: &[u32]) -> Verdict
-    ensures { λ r. ⌜ verdictOf r ≡ verdict (searchConditions (now (block .entry)) (now (start .entry)) steps room (now (table .entry))) ⌝ }
+// The room for a plan of so many steps, and the table: 11, 12, 13.
+fn check_lent(block: &[u8], steps: usize, table: &[u32], room: usize) -> Verdict
+    requires { ⌜ Valid (now block) ⌝ }
+    ensures { λ r. ⌜ verdictOf r ≡ verdict (lentConditions (now (block .entry)) steps (now (table .entry)) room) ⌝ }
 {
-    let checked = check_state(block, start);
-    if let Verdict::Refused(refusal) = checked {
-        return Verdict::Refused(refusal);
-    }
-    if LONGEST_PLAN < steps {
-        return Verdict::Refused(Refusal::Limit);
-    }
     if room < steps {
         return Verdict::Refused(Refusal::Buffer);
     }
@@ -40,28 +35,45 @@ fn check_search(block: &[u8], start: &[u8], steps: usize, room: usize, table: &[
     Verdict::Refused(Refusal::TableFails)
 }
 
-// Searches from a start, with a step limit, a cost limit and a visit allowance: a plan found is written at the front of `plan`, which otherwise keeps its contents.
-// Refused with 3 to 7, 8, 10, 11, 12, 13.
+// Checks what a search is handed: the block, then what is asked, then what is lent; `room` is the length of the plan
+// buffer.
+fn check_search(block: &[u8], start: &[u8], limits: Limits, table: &[u32], room: usize) -> Verdict
+    ensures { λ r. ⌜ verdictOf r ≡
+        verdict (searchConditions (now (block .entry)) (now (start .entry)) limits (now (table .entry)) room) ⌝ }
+{
+    let checked = blocks::validity::check(block);
+    if let Verdict::Refused(refusal) = checked {
+        return Verdict::Refused(refusal);
+    }
+    let asked = queries::check_query(block, start, limits);
+    if let Verdict::Refused(refusal) = asked {
+        return Verdict::Refused(refusal);
+    }
+    check_lent(block, limits.steps, table, room)
+}
+
+// Searches from a start within limits: a plan found is written at the front of `plan`, which otherwise keeps its
+// contents. Refused with 3 to 7, 8, 10, 11, 12, 13.
 pub fn find_plan(
     block: &[u8],
     start: &[u8],
-    steps: usize,
-    cost: u32,
-    visits: u32,
+    limits: Limits,
     table: &[u32],
     plan: &mut [u8],
 ) -> Search
-    ensures { λ r. ⌜ outcome (searchOf r) (now (plan .exit)) ≡ findPlan (now (block .entry)) (now (start .entry)) steps cost visits (now (table .entry)) (now (plan .entry)) ⌝ }
-    ensures { λ r. ⌜ PlanKept (now (block .entry)) (now (start .entry)) steps cost visits (now (table .entry)) r (now (plan .exit)) ⌝ }
+    ensures { λ r. ⌜ outcome (searchOf r) (now (plan .exit)) ≡
+        findPlan (now (block .entry)) (now (start .entry)) limits (now (table .entry)) (now (plan .entry)) ⌝ }
+    ensures { λ r. ⌜
+        PlanKept (now (block .entry)) (now (start .entry)) limits (now (table .entry)) r (now (plan .exit)) ⌝ }
 {
-    let checked = check_search(block, start, steps, plan.len(), table);
+    let checked = check_search(block, start, limits, table, plan.len());
     if let Verdict::Refused(refusal) = checked {
         return Search::Refused(refusal);
     }
-    let ending = search::find_plan(block, start, steps, cost, visits, table, plan);
+    let ending = search::find_plan(block, start, limits, table, plan);
     match ending {
-        Ending::Found(length, total, used) => Search::Found(length, total, used),
-        Ending::NoPlan(used) => Search::NoPlan(used),
-        Ending::Spent(used) => Search::Spent(used),
+        Ending::Found(found) => Search::Found(found),
+        Ending::NoPlan { visits } => Search::NoPlan { visits },
+        Ending::Spent { visits } => Search::Spent { visits },
     }
 }

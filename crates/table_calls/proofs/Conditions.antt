@@ -1,5 +1,6 @@
--- The last condition of the calls on tables is the table's length: where those before it are met, it decides (`table-decided`).
--- What an accepting verdict on the conditions of filling and testing a table says (`table-accepted`). The calls rest on these once they have refused what is to be refused.
+-- The last condition of the calls on tables is the table's length: where those before it are met, it decides
+-- (`table-decided`). `table-accepted`: what an accepting verdict on the conditions of filling and testing a table says.
+-- The calls rest on these once they have refused what is to be refused.
 use mathlib.Core.Path.{_≡_, ap, _∙_}
 use mathlib.Core.Bool.{Bool}
 use mathlib.Core.List.{List, [], _∷_, _++_}

@@ -1,12 +1,14 @@
--- Filling and testing a table, as public calls: `fillTable` is the answer with the final contents of the lent table, `testTable` the answer, for every input.
--- `fillingOf` and `tableTestOf` give the document's answer for each case of their enums; `tableConditions` turn both calls back.
+-- Filling and testing a table, as public calls: `fillTable` is the answer with the final contents of the lent table,
+-- `testTable` the answer, for every input. `fillingOf` and `tableTestOf` give the document's answer for each case of
+-- their enums; `tableConditions` turn both calls back.
 use Prim.Native.Nat.{ℕ}
 use mathlib.Core.Bool.{Bool, true, false}
 use mathlib.Core.List.{List, [], _∷_, _++_}
 use lib.Dec.{leb}
 use lib.ListN.{length}
 use Rattle.basics.specs.Lists.{atFront}
-use Rattle.refusals.specs.Answers.{Answer, refused, told, Condition, _unless_, verdict, answered, Outcome, outcome, guarded}
+use Rattle.refusals.specs.Answers.{Answer, refused, told, Condition, _unless_, verdict, answered}
+use Rattle.refusals.specs.Answers.{Outcome, outcome, guarded}
 use Rattle.refusals.specs.Refusals.{refusalNumber}
 use Rattle.blocks.specs.Layout.{abstractStates}
 use Rattle.blocks.specs.Validity.{blockConditions}

@@ -33,7 +33,8 @@ fn check_table(block: &[u8], room: usize) -> Verdict
     Verdict::Accepted
 }
 
-// Fills the front of `table` with the least costs of the relabelled exercise, one for each rank. Refused with 3 to 7, 12.
+// Fills the front of `table` with the least costs of the relabelled exercise, one for each rank.
+// Refused with 3 to 7, 12.
 pub fn fill_table(block: &[u8], table: &mut [u32]) -> Filling
     ensures { λ r. ⌜ outcome (fillingOf r) (now (table .exit)) ≡ fillTable (now (block .entry)) (now (table .entry)) ⌝ }
 {

@@ -1,5 +1,6 @@
--- From states to ranks, for a relabelled block: where a rule leads in the graph (`step-rank`, `no-step`), which lists reach a goal (`reaches-rank`) and what
--- they cost (`cost-rank`). The meaning of the test and of the fill is carried over by these.
+-- From states to ranks, for a relabelled block: where a rule leads in the graph
+-- (`step-rank`, `no-step`), which lists reach a goal (`reaches-rank`) and what they
+-- cost (`cost-rank`). The meaning of the test and of the fill is carried over by these.
 use mathlib.Core.Path.{_≡_, refl, sym, ap, ap₂, _∙_}
 use mathlib.Core.Bool.{Bool, true, false, cond, _&&_}
 use mathlib.Core.List.{List, [], _∷_}
@@ -58,7 +59,8 @@ module _ (a : List ℕ) (relabelled : Relabelled a) where
   reaches-rank u (r ∷ rs) ok = go (ltb r (rules a)) refl (applies a r u) refl (reaches-rank (step a r u) rs)
     where
       go : (x : Bool) → ltb r (rules a) ≡ x → (y : Bool) → applies a r u ≡ y
-          → (stateOk a (step a r u) ≡ true → reaches (graphOf a) (rank a (step a r u)) rs ≡ runs.reaches a (step a r u) rs)
+          → (stateOk a (step a r u) ≡ true
+          → reaches (graphOf a) (rank a (step a r u)) rs ≡ runs.reaches a (step a r u) rs)
           → (x && (leadsOn (graphOf a) (rank a u) r && reaches (graphOf a) (stepRank a (rank a u) r) rs))
           ≡ (x && (y && runs.reaches a (step a r u) rs))
       go false e y d ih = refl
@@ -76,7 +78,9 @@ module _ (a : List ℕ) (relabelled : Relabelled a) where
 relabelled-abstract : (b u : List ℕ) → stateOk (relabelBlock b) u ≡ abstractOk (relabelBlock b) u
 unfolding abstractCount
 relabelled-abstract b u =
-    abstract-states b u ∙ ap₂ (λ (n k : ℕ). labelled n (λ i. k) u) (sym (positions-relabelled b)) (sym (abstracts-relabelled b))
+    abstract-states b u
+    ∙ ap₂ (λ (n k : ℕ). labelled n (λ i. k) u) (sym (positions-relabelled b)) (sym (abstracts-relabelled b))
 
 pub relabelled-block : (b : List ℕ) → Valid b → Relabelled (relabelBlock b)
-relabelled-block b v = record { valid = relabelled-valid b v; abstract = relabelled-abstract b; same = identity-state b }
+relabelled-block b v =
+    record { valid = relabelled-valid b v; abstract = relabelled-abstract b; same = identity-state b }

@@ -1,5 +1,5 @@
--- What a table promises: one that passes the test gives an estimate that is a lower bound (`lower-bound`), by the homomorphism; the table of zeros
--- passes (`zeros-pass-test`). The search rests on the first alone.
+-- What a table promises: one that passes the test gives an estimate that is a lower bound (`lower-bound`), by the
+-- homomorphism; the table of zeros passes (`zeros-pass-test`). The search rests on the first alone.
 use mathlib.Core.Path.{_≡_, sym, ap, _∙_}
 use mathlib.Core.Bool.{true}
 use mathlib.Core.List.{List}
@@ -46,7 +46,8 @@ module _ (b : List ℕ) (v : Valid b) where
 
     rule-bound :
         (s : List ℕ) (r : ℕ) → stateOk b s ≡ true → r < rules b → applies b r s ≡ true
-        → estimate b t (step b r s) ≢ mark → (estimate b t s ≢ mark) × (estimate b t s ≤ costOf b r + estimate b t (step b r s))
+        → estimate b t (step b r s) ≢ mark
+        → (estimate b t s ≢ mark) × (estimate b t s ≤ costOf b r + estimate b t (step b r s))
     unfolding passesTest
     rule-bound s r ok l h m =
         let a = relabelBlock b in
@@ -68,4 +69,5 @@ module _ (b : List ℕ) (v : Valid b) where
   -- the table of zeros passes
   pub zeros-pass-test : (t : List ℕ) → ((k : ℕ) → k < abstractStates b → getD t k 0 ≡ 0) → passesTest b t ≡ true
   unfolding passesTest
-  zeros-pass-test t z = zeros-pass (graphOf (relabelBlock b)) t (λ k l. z k (omega (arith, abstract-states-relabelled b)))
+  zeros-pass-test t z =
+      zeros-pass (graphOf (relabelBlock b)) t (λ k l. z k (omega (arith, abstract-states-relabelled b)))

@@ -1,5 +1,6 @@
--- The rank of a relabelled state, label by label: the number of the first i labels (`partRank`), one label more (`part-more`), and that it stays small (`part-small`).
--- The code of an estimate rests on these, and the search's look-ups on `whole-below`.
+-- The rank of a relabelled state, label by label: the number of the first i labels (`partRank`), one label more
+-- (`part-more`), and that it stays small (`part-small`). The code of an estimate rests on these, and the search's
+-- look-ups on `whole-below`.
 use mathlib.Core.Path.{_≡_, ap, _∙_}
 use mathlib.Core.Bool.{true}
 use mathlib.Core.List.{List}
@@ -23,7 +24,8 @@ abbrev pub partRank : List ℕ → List ℕ → ℕ → ℕ
 partRank b s i = valueTo (abstractCount b) (relabelState b s) i
 
 module _ (b s : List ℕ) where
-  pub part-more : (i : ℕ) → i < positions b → partRank b s (i + 1) ≡ partRank b s i * abstractCount b i + mapAt b i (getD s i 0)
+  pub part-more :
+      (i : ℕ) → i < positions b → partRank b s (i + 1) ≡ partRank b s i * abstractCount b i + mapAt b i (getD s i 0)
   part-more i l =
       ap (partRank b s) (add-one i)
       ∙ ap (λ (x : ℕ). partRank b s i * abstractCount b i + x) (relabelled-label b s i l)
@@ -40,5 +42,7 @@ module _ (b s : List ℕ) where
     unfolding rank
     part-small i l =
         let u = relabelState b s in
-        let g = value-grows (abstractCount b) u i (positions b) l (labelled-at (positions b) (abstractCount b) u (relabelled-state b v s ok)) in
+        let g =
+        value-grows (abstractCount b) u i (positions b) l
+        (labelled-at (positions b) (abstractCount b) u (relabelled-state b v s ok)) in
         omega (arith, whole-below, v .sized .head .few)

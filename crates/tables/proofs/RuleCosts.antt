@@ -1,5 +1,5 @@
--- The cost by one rule, as the code finds it: the rank that the rule's word leads to (`leads-to`), and no cost where the rule does not apply (`no-cost`).
--- `via` rests on these.
+-- The cost by one rule, as the code finds it: the rank that the rule's word leads to (`leads-to`), and no cost where
+-- the rule does not apply (`no-cost`). `via` rests on these.
 use mathlib.Core.Path.{_≡_, refl, sym, ap, ap₂, _∙_}
 use mathlib.Core.Bool.{true, false}
 use mathlib.Core.List.{List}

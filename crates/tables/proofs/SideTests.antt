@@ -1,5 +1,7 @@
--- The test by sides, over the lists that `find_edges` leaves: labels add to the ranks by a rule's sides and a goal's (`rule-first`, `rule-second`, `goal-first`, `goal-second`), each state that a side
--- matches stands in its list, and so does where the rule leads (`rule-listed`, `goal-listed`); and what passes by every rule and goal passes (`sides-pass`).
+-- The test by sides, over the lists that `find_edges` leaves: labels add to the ranks by a
+-- rule's sides and a goal's (`rule-first`, `rule-second`, `goal-first`, `goal-second`), each
+-- state that a side matches stands in its list, and so does where the rule leads
+-- (`rule-listed`, `goal-listed`); and what passes by every rule and goal passes (`sides-pass`).
 use mathlib.Core.Path.{_≡_, refl, sym, ap, _∙_}
 use mathlib.Core.Bool.{Bool, true, false}
 use mathlib.Core.List.{List}
@@ -9,7 +11,8 @@ use native.Mathlib.Omega.{arith}
 use lib.ListN.{getD}
 use Rattle.basics.proofs.Bounded.{first-holds}
 use Rattle.blocks.specs.Terms.{termOf, termOk}
-use Rattle.blocks.specs.Layout.{positions, labels, labelCount, rules, goals, costOf, leftOf, rightOf, goalOf, abstractStates}
+use Rattle.blocks.specs.Layout.{positions, labels, labelCount, rules, goals, costOf, leftOf, rightOf, goalOf}
+use Rattle.blocks.specs.Layout.{abstractStates}
 use Rattle.blocks.specs.States.{stateOk}
 use Rattle.blocks.proofs.Accepted.{left-side, right-side, goal-side, side-term}
 use Rattle.blocks.proofs.StateLaws.{state-length, state-label}
@@ -54,12 +57,14 @@ module _ (a code weights : List ℕ) (ready : Ready a code weights) where
     right-terms i h = side-term a (rightOf a r) (right-side a (ready .relabelled .valid) r l) i h
 
     pub rule-first : Additive (positionCount code) (labels a) (firstRank code weights (leftPlace r))
-    rule-first = additive-first (ready .compiled) some (leftPlace r) (leftOf a r) (leftOf a r) (ready .compiled .rule r l .left) left-terms
+    rule-first =
+        additive-first (ready .compiled) some (leftPlace r) (leftOf a r) (leftOf a r) (ready .compiled .rule r l .left)
+        left-terms
 
     pub rule-second : Additive (positionCount code) (labels a) (secondRank code weights (leftPlace r) (rightPlace r))
     rule-second =
-        additive-second (ready .compiled) some (leftPlace r) (leftOf a r) (leftOf a r) (ready .compiled .rule r l .left) left-terms
-        (rightPlace r) (leftOf a r) (rightOf a r) (ready .compiled .rule r l .right) right-terms
+        additive-second (ready .compiled) some (leftPlace r) (leftOf a r) (leftOf a r) (ready .compiled .rule r l .left)
+        left-terms (rightPlace r) (leftOf a r) (rightOf a r) (ready .compiled .rule r l .right) right-terms
 
   module _ (g : ℕ) (l : g < goals a) where
     goal-terms : (i : ℕ) → i < positions a → termOk (labels a) (termOf (goalOf a g i)) ≡ true
@@ -67,12 +72,14 @@ module _ (a code weights : List ℕ) (ready : Ready a code weights) where
     goal-terms i h = side-term a (goalOf a g) (goal-side a (ready .relabelled .valid) g l) i h
 
     pub goal-first : Additive (positionCount code) (labels a) (firstRank code weights (goalPlace g))
-    goal-first = additive-first (ready .compiled) some (goalPlace g) (goalOf a g) (goalOf a g) (ready .compiled .goal g l) goal-terms
+    goal-first =
+        additive-first (ready .compiled) some (goalPlace g) (goalOf a g) (goalOf a g) (ready .compiled .goal g l)
+        goal-terms
 
     pub goal-second : Additive (positionCount code) (labels a) (secondRank code weights (goalPlace g) (goalPlace g))
     goal-second =
-        additive-second (ready .compiled) some (goalPlace g) (goalOf a g) (goalOf a g) (ready .compiled .goal g l) goal-terms
-        (goalPlace g) (goalOf a g) (goalOf a g) (ready .compiled .goal g l) goal-terms
+        additive-second (ready .compiled) some (goalPlace g) (goalOf a g) (goalOf a g) (ready .compiled .goal g l)
+        goal-terms (goalPlace g) (goalOf a g) (goalOf a g) (ready .compiled .goal g l) goal-terms
 
   -- the word of a rank
   module _ (u : ℕ) (i : u < abstractStates a) where
@@ -82,7 +89,8 @@ module _ (a code weights : List ℕ) (ready : Ready a code weights) where
       word-of-small (headed a code weights ready) u,
       λ j l.
           let h = headed a code weights ready in
-          let e = sym (unpack-at (positions a) (wordOf a u) j l) ∙ ap (λ (s : List ℕ). getD s j 0) (unpack-word-of h u) in
+          let e =
+          sym (unpack-at (positions a) (wordOf a u) j l) ∙ ap (λ (s : List ℕ). getD s j 0) (unpack-word-of h u) in
           omega (arith, e, state-label a (unrank a u) (unranked a code weights ready u) j l),
     )
 
@@ -91,7 +99,8 @@ module _ (a code weights : List ℕ) (ready : Ready a code weights) where
         let h = headed a code weights ready in
         let e = unpack-word-of h u in
         let ok = unranked a code weights ready u in
-        rank-word (ready .compiled) (wordOf a u) (ap (stateOk a) e ∙ ok) ∙ ap (λ (s : List ℕ). rank a (relabelState a s)) e
+        rank-word (ready .compiled) (wordOf a u) (ap (stateOk a) e ∙ ok)
+        ∙ ap (λ (s : List ℕ). rank a (relabelState a s)) e
         ∙ ap (rank a) (ready .relabelled .same (unrank a u) ok) ∙ rank-unrank a h u i
 
     -- a side that matches its state makes the word of itself
@@ -143,7 +152,8 @@ module _ (a code weights : List ℕ) (ready : Ready a code weights) where
       go : (x : Bool) → applies a r (unrank a u) ≡ x → Bounded (getD t u 0) (costOf a r) (getD t (stepRank a u r) 0)
       go true e =
           let s = ready .compiled .rule r l in
-          let (j, k, es, et) = listed-there u i (leftPlace r) (leftOf a r) (s .left) e (rightPlace r) sources targets count h in
+          let (j, k, es, et) =
+          listed-there u i (leftPlace r) (leftOf a r) (s .left) e (rightPlace r) sources targets count h in
           let to : targets j ≡ stepRank a u r =
           et ∙ ap (λ (z : ℕ). z % 16384) (word-leads a code weights ready u r l e)
           ∙ mod-eq-of-lt (omega (arith, v, few a code weights ready)) in
@@ -158,7 +168,8 @@ module _ (a code weights : List ℕ) (ready : Ready a code weights) where
       → Zeros t sources count → GoalPasses a t g
   unfolding goalMet
   goal-listed t g l sources targets count h z u i m =
-      let (j, k, es, et) = listed-there u i (goalPlace g) (goalOf a g) (ready .compiled .goal g l) m (goalPlace g) sources targets count h in
+      let (j, k, es, et) =
+      listed-there u i (goalPlace g) (goalOf a g) (ready .compiled .goal g l) m (goalPlace g) sources targets count h in
       ap (λ (x : ℕ). getD t x 0) (sym es) ∙ z j k
 
 -- all rules and goals

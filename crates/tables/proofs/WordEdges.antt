@@ -1,6 +1,7 @@
--- Rules on words are the edges of the graph: for a compiled relabelled block and the word of a rank, whether a rule applies (`word-applies`), the rank it leads to
--- (`word-leads`), the goal test (`word-goal`), and that a word which a rule takes to another rank's word is an edge (`word-edge`).
--- The costs by one rule, the test and the fill rest on these.
+-- Rules on words are the edges of the graph: for a compiled relabelled block and the word
+-- of a rank, whether a rule applies (`word-applies`), the rank it leads to (`word-leads`),
+-- the goal test (`word-goal`), and that a word which a rule takes to another rank's word
+-- is an edge (`word-edge`). The costs by one rule, the test and the fill rest on these.
 use mathlib.Core.Path.{_≡_, sym, ap, _∙_}
 use mathlib.Core.Bool.{true, false}
 use mathlib.Core.List.{List}
@@ -18,7 +19,8 @@ use Rattle.psvn.proofs.RankLaws.{unrank-abstract, rank-unrank}
 use Rattle.words.specs.Packing.{unpack}
 use Rattle.words.specs.Sides.{appliesWord, stepWord, meetsWord}
 use Rattle.words.specs.Ranking.{rankWord, wordOf}
-use Rattle.words.proofs.Meaning.{applies-word, step-word, cost-word, meets-word, rank-word, unpack-word-of, word-of-small}
+use Rattle.words.proofs.Meaning.{applies-word, step-word, cost-word, meets-word, rank-word, unpack-word-of}
+use Rattle.words.proofs.Meaning.{word-of-small}
 use Rattle.distances.specs.Filling.{Cheap}
 use Rattle.tables.specs.Abstraction.{stepRank, graphOf, Ready}
 use Rattle.tables.proofs.OverRanks.{rank-in}
@@ -64,7 +66,8 @@ module _ (a code weights : List ℕ) (ready : Ready a code weights) where
 
       -- where the rule applies, the rank of the word it makes
       pub word-leads :
-          applies a r (unrank a u) ≡ true → rankWord weights (positions a) (stepWord code r (wordOf a u)) ≡ stepRank a u r
+          applies a r (unrank a u) ≡ true
+          → rankWord weights (positions a) (stepWord code r (wordOf a u)) ≡ stepRank a u r
       word-leads h =
           let s = step a r (unrank a u) in
           rank-word (ready .compiled) (stepWord code r (wordOf a u)) (ap (stateOk a) made ∙ made-state)

@@ -27,7 +27,8 @@ estimate b t s = entry b t (relabelState b s)
 unfoldable pub passesTest : List ℕ → List ℕ → Bool
 passesTest b t = passes (graphOf (relabelBlock b)) t
 
--- the estimate h is 0 at goals, and at most a rule's cost above the estimate after it, where that is not the mark; then h is not the mark either
+-- the estimate h is 0 at goals, and at most a rule's cost above the estimate after it, where that is not the mark; then
+-- h is not the mark either
 pub record LowerBound (b : List ℕ) (h : List ℕ → ℕ) : Type 0 where
   pub goal : (s : List ℕ) → stateOk b s ≡ true → meets b s ≡ true → h s ≡ 0
   pub rule :

@@ -17,7 +17,8 @@ use blocks::layout;
 // The rank of the relabelled state.
 fn relabelled_rank(block: &[u8], state: &[u8]) -> usize
     requires { ⌜ Valid (now block) × (stateOk (now block) (now state) ≡ true) ⌝ }
-    ensures { λ k. ⌜ (k ≡ rank (now (block .entry)) (relabelState (now (block .entry)) (now (state .entry)))) × (k < abstractStates (now (block .entry))) ⌝ }
+    ensures { λ k. ⌜ (k ≡ rank (now (block .entry)) (relabelState (now (block .entry)) (now (state .entry)))) ×
+        (k < abstractStates (now (block .entry))) ⌝ }
 {
     let n = layout::positions(block);
     let mut k: usize = 0;
@@ -32,7 +33,8 @@ fn relabelled_rank(block: &[u8], state: &[u8]) -> usize
 
 // The estimate of a state.
 pub fn estimate(block: &[u8], state: &[u8], table: &[u32]) -> u32
-    requires { ⌜ Valid (now block) × (stateOk (now block) (now state) ≡ true) × (abstractStates (now block) ≤ length (now table)) ⌝ }
+    requires { ⌜ Valid (now block) × (stateOk (now block) (now state) ≡ true) ×
+        (abstractStates (now block) ≤ length (now table)) ⌝ }
     ensures { λ e. ⌜ e ≡ estimate (now (block .entry)) (now (table .entry)) (now (state .entry)) ⌝ }
 {
     table[relabelled_rank(block, state)]

@@ -9,7 +9,8 @@ use lib.Bits.{bitAnd}
 use Rattle.basics.specs.Parts.{Outside}
 use Rattle.words.specs.Packing.{unpack}
 use Rattle.words.specs.Code.{setsPlace, countsPlace}
-use Rattle.words.specs.Sides.{leftPlace, rightPlace, goalPlace, maskAt, valueAt, keepAt, countAt, fromAt, toAt, rewrittenWord, costWord}
+use Rattle.words.specs.Sides.{leftPlace, rightPlace, goalPlace, maskAt, valueAt, keepAt, countAt, fromAt, toAt}
+use Rattle.words.specs.Sides.{rewrittenWord, costWord}
 use Rattle.words.specs.Compiled.{Sided, RuleAt, Compiled}
 
 module _ {old new : List ℕ} (o : Outside setsPlace countsPlace old new) where
@@ -56,7 +57,8 @@ module _ {old new : List ℕ} (o : Outside setsPlace countsPlace old new) where
       }
 
 pub compiled-kept :
-    {b old new weights : List ℕ} → Compiled b old weights → Outside setsPlace countsPlace old new → Compiled b new weights
+    {b old new weights : List ℕ} → Compiled b old weights → Outside setsPlace countsPlace old new
+    → Compiled b new weights
 compiled-kept {b} {old} {new} c o =
     let sizes = c .valid .sized .head .sizes in
     record {

@@ -1,5 +1,6 @@
--- What compiled arrays mean: a rule applies to a word, and what it makes of it, as the language says of the word's state (`applies-word`, `step-word`, `step-small`, `cost-word`),
--- goals likewise (`meets-word`), and the rank of the relabelled state (`rank-word`). The words of states and of ranks hold those states (`state-word`, `unpack-word-of`).
+-- What compiled arrays mean: a rule applies to a word, and what it makes of it, as the language says of the word's
+-- state (`applies-word`, `step-word`, `step-small`, `cost-word`), goals likewise (`meets-word`), and the rank of the
+-- relabelled state (`rank-word`). The words of states and of ranks hold those states (`state-word`, `unpack-word-of`).
 -- The tables and the search rest on these, and on `unpack-injective`.
 use mathlib.Core.Path.{_≡_, refl, sym, ap, ap₂, _∙_}
 use mathlib.Core.Logic.{_⊎_, inl, inr, ⊎-elim}
@@ -18,17 +19,20 @@ use Rattle.basics.proofs.Comparing.{same?}
 use Rattle.blocks.specs.Layout.{positions, rules, goals, labelCount, abstractCount, costOf, goalOf}
 use Rattle.blocks.specs.Validity.{Headed}
 use Rattle.blocks.specs.States.{stateOk}
-use Rattle.blocks.proofs.StateLaws.{labelled-length, labelled-at, state-length, state-label, abstract-count-low, label-below}
+use Rattle.blocks.proofs.StateLaws.{labelled-length, labelled-at, state-length, state-label, abstract-count-low}
+use Rattle.blocks.proofs.StateLaws.{label-below}
 use Rattle.psvn.specs.Rules.{matches, applies, step, goalMet, meets}
 use Rattle.psvn.specs.Relabelling.{relabelState}
 use Rattle.psvn.specs.Ranks.{rank, unrank}
 use Rattle.psvn.proofs.Making.{matches-itself, itself-matches}
 use Rattle.psvn.proofs.RankLaws.{unrank-abstract}
 use Rattle.words.specs.Packing.{digit, digitPair, pack, unpack}
-use Rattle.words.specs.Sides.{maskAt, valueAt, goalPlace, rewrittenWord, matchesWord, appliesWord, stepWord, costWord, meetsWord}
+use Rattle.words.specs.Sides.{maskAt, valueAt, goalPlace, rewrittenWord, matchesWord, appliesWord, stepWord}
+use Rattle.words.specs.Sides.{costWord, meetsWord}
 use Rattle.words.specs.Ranking.{rankPairs, rankWord, wordOf, weightOf}
 use Rattle.words.specs.Compiled.{Sided, Compiled}
-use Rattle.words.proofs.WordDigits.{Small, digit-lt, pack-below, unpack-pack, unpack-injective, unpack-length, unpack-at}
+use Rattle.words.proofs.WordDigits.{Small, digit-lt, pack-below, unpack-pack, unpack-injective, unpack-length}
+use Rattle.words.proofs.WordDigits.{unpack-at}
 use Rattle.words.proofs.WordRanks.{labelsRank, labels-rank}
 
 -- the pairs that n positions make, and the position that is left where n is odd
@@ -51,7 +55,8 @@ matches-word n side code x s w l = go (matches n side (unpack n w)) refl
         ∙ sym e
     go false e =
         not-so (matchesWord code x w) (λ q.
-        let same = eqb-true (rewrittenWord code x w) w (and-true (eqb (bitAnd w (maskAt code x)) (valueAt code x)) _ q .1) in
+        let same =
+        eqb-true (rewrittenWord code x w) w (and-true (eqb (bitAnd w (maskAt code x)) (valueAt code x)) _ q .1) in
         true-false (itself-matches n side (unpack n w) (sym (s .makes w l) ∙ ap (unpack n) same)) e)
         ∙ sym e
 
@@ -62,7 +67,8 @@ module _ {b code weights : List ℕ} (c : Compiled b code weights) where
   applies-word r w lr l = matches-word (positions b) _ code _ (c .rule r lr .left) w l
 
   pub step-word :
-      (r w : ℕ) → r < rules b → w < 16 ^ positions b → unpack (positions b) (stepWord code r w) ≡ step b r (unpack (positions b) w)
+      (r w : ℕ) → r < rules b → w < 16 ^ positions b
+      → unpack (positions b) (stepWord code r w) ≡ step b r (unpack (positions b) w)
   unfolding step
   step-word r w lr l = c .rule r lr .right .makes w l
 
@@ -75,7 +81,8 @@ module _ {b code weights : List ℕ} (c : Compiled b code weights) where
   pub meets-word : (w : ℕ) → w < 16 ^ positions b → meetsWord code (goals b) w ≡ meets b (unpack (positions b) w)
   unfolding meets goalMet
   meets-word w l =
-      some-ext (λ g. matchesWord code (goalPlace g) w) (λ g. matches (positions b) (goalOf b g) (unpack (positions b) w)) (goals b) (λ g lg.
+      some-ext (λ g. matchesWord code (goalPlace g) w)
+      (λ g. matches (positions b) (goalOf b g) (unpack (positions b) w)) (goals b) (λ g lg.
       matches-word (positions b) (goalOf b g) code (goalPlace g) (c .goal g lg) w l)
 
   module _ (w : ℕ) (ok : stateOk b (unpack (positions b) w) ≡ true) where
@@ -95,19 +102,26 @@ module _ {b code weights : List ℕ} (c : Compiled b code weights) where
         let sum = labelsRank b (unpack (positions b) w) in
         let first = weight-at (2 * k) (omega arith) in
         let second = weight-at (suc (2 * k)) (omega arith) in
-        let pair = c .weighted .pair k (digit w (2 * k)) (digit w (suc (2 * k))) (omega arith) (digit-low (2 * k) (omega arith)) (digit-low (suc (2 * k)) (omega arith)) in
-        ap₂ _+_ (pairs-sum k (omega arith)) (pair ∙ ap₂ _+_ first second) ∙ sym (add-assoc (sum (2 * k)) _ _) ∙ ap sum two
+        let pair =
+        c .weighted .pair k (digit w (2 * k)) (digit w (suc (2 * k))) (omega arith) (digit-low (2 * k) (omega arith))
+        (digit-low (suc (2 * k)) (omega arith)) in
+        ap₂ _+_ (pairs-sum k (omega arith)) (pair ∙ ap₂ _+_ first second) ∙ sym (add-assoc (sum (2 * k)) _ _)
+        ∙ ap sum two
 
-    all-pairs : (k : ℕ) → (2 * k ≡ positions b) ⊎ (suc (2 * k) ≡ positions b) → rankWord weights (positions b) w ≡ labelsRank b (unpack (positions b) w) (positions b)
+    all-pairs :
+        (k : ℕ) → (2 * k ≡ positions b) ⊎ (suc (2 * k) ≡ positions b)
+        → rankWord weights (positions b) w ≡ labelsRank b (unpack (positions b) w) (positions b)
     unfolding rankWord rankPairs digitPair
     all-pairs k (inl e) =
         let half : (positions b + 1) / 2 ≡ k = omega arith in
-        ap (λ (j : ℕ). rankPairs weights j w) half ∙ pairs-sum k (omega arith) ∙ ap (labelsRank b (unpack (positions b) w)) e
+        ap (λ (j : ℕ). rankPairs weights j w) half ∙ pairs-sum k (omega arith)
+        ∙ ap (labelsRank b (unpack (positions b) w)) e
     all-pairs k (inr e) =
         let half : (positions b + 1) / 2 ≡ suc k = omega arith in
         ap (λ (j : ℕ). rankPairs weights j w) half
         ∙ ap₂ _+_ (pairs-sum k (omega arith))
-        (c .weighted .last k (digit w (2 * k)) (digit w (suc (2 * k))) e (digit-low (2 * k) (omega arith)) (digit-lt w (suc (2 * k)))
+        (c .weighted .last k (digit w (2 * k)) (digit w (suc (2 * k))) e (digit-low (2 * k) (omega arith))
+        (digit-lt w (suc (2 * k)))
         ∙ weight-at (2 * k) (omega arith))
         ∙ ap (labelsRank b (unpack (positions b) w)) e
 
@@ -127,16 +141,19 @@ module _ {b : List ℕ} (h : Headed b) where
       let ok = unrank-abstract b h k in
       omega (
         arith,
-        labelled-at (positions b) (abstractCount b) (unrank b k) ok i (omega (arith, labelled-length (positions b) (abstractCount b) (unrank b k) ok)),
+        labelled-at (positions b) (abstractCount b) (unrank b k) ok i
+            (omega (arith, labelled-length (positions b) (abstractCount b) (unrank b k) ok)),
         abstract-count-low b h i,
       )
 
   pub word-of-small : (k : ℕ) → wordOf b k < 16 ^ positions b
   unfolding wordOf
   word-of-small k =
-      rw (sym (labelled-length (positions b) (abstractCount b) (unrank b k) (unrank-abstract b h k))) (pack-below (unrank b k) (unrank-small k))
+      rw (sym (labelled-length (positions b) (abstractCount b) (unrank b k) (unrank-abstract b h k)))
+      (pack-below (unrank b k) (unrank-small k))
 
   pub unpack-word-of : (k : ℕ) → unpack (positions b) (wordOf b k) ≡ unrank b k
   unfolding wordOf
   unpack-word-of k =
-      unpack-pack (positions b) (unrank b k) (labelled-length (positions b) (abstractCount b) (unrank b k) (unrank-abstract b h k)) (unrank-small k)
+      unpack-pack (positions b) (unrank b k)
+      (labelled-length (positions b) (abstractCount b) (unrank b k) (unrank-abstract b h k)) (unrank-small k)

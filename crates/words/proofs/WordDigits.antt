@@ -1,9 +1,12 @@
--- Base-16 words: the digits of a byte (`pair-byte`), of `&`, `|` and of one digit at its place, and that a word of n labels is told by its first n digits (`same-digits`);
--- packing and unpacking undo one another (`unpack-pack`, `pack-unpack`). The functions on words, compiling and what compiled arrays mean rest on these.
+-- Base-16 words: the digits of a byte (`pair-byte`), of `&`, `|` and of one digit at its place, and that a word of n
+-- labels is told by its first n digits (`same-digits`); packing and unpacking undo one another (`unpack-pack`,
+-- `pack-unpack`). The functions on words, compiling and what compiled arrays mean rest on these.
 use mathlib.Core.Path.{_≡_, refl, sym, ap, ap₂, _∙_}
 use mathlib.Core.List.{List, [], _∷_, _++_}
 use Prim.Native.Nat.{ℕ, zero, suc, _+_, _*_, _/_, _%_, _^_, _≤_, _<_}
-use native.Mathlib.Nat.{pow-suc, pow-succ', pow-le-pow-right, div-div-eq-div-mul, div-one, div-eq-of-lt, mul-div-cancel, mul-mod-left, mul-assoc, mul-one, mod-lt, mod-eq-of-lt, div-add-mod', one-le-pow, zero-lt-suc, lt-of-lt-of-le, le-of-suc-le-suc, not-suc-le-zero, zero-add, add-zero, suc-add, add-suc}
+use native.Mathlib.Nat.{pow-suc, pow-succ', pow-le-pow-right, div-div-eq-div-mul, div-one, div-eq-of-lt, mul-div-cancel}
+use native.Mathlib.Nat.{mul-mod-left, mul-assoc, mul-one, mod-lt, mod-eq-of-lt, div-add-mod', one-le-pow, zero-lt-suc}
+use native.Mathlib.Nat.{lt-of-lt-of-le, le-of-suc-le-suc, not-suc-le-zero, zero-add, add-zero, suc-add, add-suc}
 use native.Mathlib.Omega.{arith}
 use lib.Arith.{digits-lt, digits-div, digits-mod}
 use lib.Bits.{bitAnd, bitOr, and-shr, and-mod, or-shr, or-mod, or-lt, or-zero-l, or-zero-r}
@@ -77,12 +80,14 @@ digit-high n w k l h =
 -- the digits of `&` and `|`
 pub digit-and : (v w i : ℕ) → digit (bitAnd v w) i ≡ bitAnd (digit v i) (digit w i)
 digit-and v w i =
-    sym (digit-shift (bitAnd v w) i) ∙ ap (λ (x : ℕ). x % 16) (and-shr v w (4 * i)) ∙ and-mod (v / 2 ^ (4 * i)) (w / 2 ^ (4 * i)) 4
+    sym (digit-shift (bitAnd v w) i) ∙ ap (λ (x : ℕ). x % 16) (and-shr v w (4 * i))
+    ∙ and-mod (v / 2 ^ (4 * i)) (w / 2 ^ (4 * i)) 4
     ∙ ap₂ bitAnd (digit-shift v i) (digit-shift w i)
 
 pub digit-or : (v w i : ℕ) → digit (bitOr v w) i ≡ bitOr (digit v i) (digit w i)
 digit-or v w i =
-    sym (digit-shift (bitOr v w) i) ∙ ap (λ (x : ℕ). x % 16) (or-shr v w (4 * i)) ∙ or-mod (v / 2 ^ (4 * i)) (w / 2 ^ (4 * i)) 4
+    sym (digit-shift (bitOr v w) i) ∙ ap (λ (x : ℕ). x % 16) (or-shr v w (4 * i))
+    ∙ or-mod (v / 2 ^ (4 * i)) (w / 2 ^ (4 * i)) 4
     ∙ ap₂ bitOr (digit-shift v i) (digit-shift w i)
 
 pub or-below : (n v w : ℕ) → v < 16 ^ n → w < 16 ^ n → bitOr v w < 16 ^ n
@@ -146,7 +151,8 @@ pack-last [] x = omega (arith, mul-one x)
 pack-last (y ∷ s) x = omega (arith, pack-last s x, raised x (length s))
 
 -- packing what was unpacked
-pack-digits : (n j w v : ℕ) → w < 16 ^ n → ((i : ℕ) → digit v (j + i) ≡ digit w i) → pack (tabulateFrom j n (digit v)) ≡ w
+pack-digits :
+    (n j w v : ℕ) → w < 16 ^ n → ((i : ℕ) → digit v (j + i) ≡ digit w i) → pack (tabulateFrom j n (digit v)) ≡ w
 pack-digits zero j w v l h = omega arith
 pack-digits (suc n) j w v l h =
     ap₂ (λ (x y : ℕ). x * 16 + y)

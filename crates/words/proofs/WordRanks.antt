@@ -1,10 +1,12 @@
--- Ranks by words: one digit more of the word of a rank (`word-more`); place values, from the last position on (`place-last`, `place-more`), stay within the number
--- of states (`place-below`); the weights of a state's labels together are the rank of its relabelled state (`labels-rank`), and weights of pairs mean the same at the front of a longer array
--- (`weighted-front`). The word of a rank, what the weights mean, writing them, and what rules add to ranks rest on these.
+-- Ranks by words: one digit more of the word of a rank (`word-more`); place values, from the last position on
+-- (`place-last`, `place-more`), stay within the number of states (`place-below`); a state's weights add up to
+-- the rank of its relabelled state (`labels-rank`), and weights of pairs mean the same at the front of a
+-- longer array (`weighted-front`). The word of a rank, the weights, and what rules add to ranks rest on these.
 use mathlib.Core.Path.{_≡_, sym, ap, ap₂, _∙_}
 use mathlib.Core.List.{List}
 use Prim.Native.Nat.{ℕ, zero, suc, _+_, _-_, _*_, _/_, _%_, _^_, _≤_, _<_}
-use native.Mathlib.Nat.{pow-succ', mul-assoc, add-mul, mul-one, mul-le-mul-right, one-mul, zero-mul, add-zero, suc-add, add-suc}
+use native.Mathlib.Nat.{pow-succ', mul-assoc, add-mul, mul-one, mul-le-mul-right, one-mul, zero-mul, add-zero, suc-add}
+use native.Mathlib.Nat.{add-suc}
 use native.Mathlib.Omega.{arith}
 use lib.ListN.{getD}
 use Rattle.basics.specs.Digits.{valueTo, digits, span}
@@ -73,7 +75,8 @@ module _ (b s : List ℕ) where
   -- they are the number of the labels before position j, times what they count
   sum-placed :
       (j : ℕ) → j ≤ positions b
-      → labelsRank b s j ≡ valueTo (abstractCount b) (relabelState b s) j * placeValue (abstractCount b) j (positions b - j)
+      → labelsRank b s j
+      ≡ valueTo (abstractCount b) (relabelState b s) j * placeValue (abstractCount b) j (positions b - j)
   sum-placed zero l = sym (zero-mul (placeValue (abstractCount b) 0 (positions b - 0)))
   sum-placed (suc j) l =
       let n = positions b in

@@ -1,9 +1,9 @@
--- What the arrays say of the block that they are compiled from (`Compiled`): each side makes of every word what the
--- language's side makes of its state. The parts of compiling leave these; `Meaning` and the layers above rest on
--- them.
+-- What the arrays say of the block that they are compiled from (`Compiled`):
+-- each side makes of every word what the language's side makes of its state. The
+-- parts of compiling leave these; `Meaning` and the layers above rest on them.
 use mathlib.Core.Path.{_≡_}
 use mathlib.Core.List.{List}
-use Prim.Native.Nat.{ℕ, suc, _+_, _*_, _^_, _≤_, _<_}
+use Prim.Native.Nat.{ℕ, suc, _+_, _*_, _^_, _<_}
 use lib.Bits.{bitAnd}
 use lib.ListN.{getD}
 use Rattle.blocks.specs.Layout.{positions, rules, goals, labelCount, costOf, leftOf, rightOf, goalOf}

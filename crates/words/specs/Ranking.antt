@@ -1,5 +1,6 @@
--- Ranks by words: the rank of the relabelled state as a sum of weights (`rankWord`), and the word of the abstract state of a rank (`wordOf`).
--- The array of weights has one for each pair of positions and each two labels that stand there: the weights of their abstract labels together.
+-- Ranks by words: the rank of the relabelled state as a sum of weights (`rankWord`), and the word of the abstract state
+-- of a rank (`wordOf`). The array of weights has one for each pair of positions and each two labels that stand there:
+-- the weights of their abstract labels together.
 use Prim.Native.Nat.{ℕ, zero, suc, _+_, _-_, _*_, _/_}
 use mathlib.Core.List.{List}
 use lib.ListN.{getD}

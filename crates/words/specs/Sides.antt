@@ -1,6 +1,6 @@
 -- Sides compiled for words, as the arrays hold them: what a side makes of a word (`rewrittenWord`), whether a word
 -- matches it (`matchesWord`), and so a rule's test, its result and its cost, and the goal test. Where a side stands
--- in the arrays is defined here; this crate and `compiling` alone know it.
+-- in the arrays is defined here; `compiling` and `rule_sets` know it too, and other crates name a side by its number.
 use Prim.Native.Nat.{ℕ, zero, suc, _+_, _*_, _%_, _^_}
 use mathlib.Core.Bool.{Bool, _&&_}
 use mathlib.Core.List.{List}

@@ -2,7 +2,8 @@
 // places 2 * r and 2 * r + 1, goal g at 128 + g.
 ghost use mathlib.Core.Path.{_≡_};
 ghost use Prim.Native.Nat.{_%_, _≤_, _<_};
-ghost use Rattle.words.specs.Sides.{leftPlace, moved, rewrittenWord, constantsWord, matchesWord, appliesWord, stepWord, meetsWord, costWord};
+ghost use Rattle.words.specs.Sides.{moved, rewrittenWord, constantsWord, matchesWord, appliesWord};
+ghost use Rattle.words.specs.Sides.{stepWord, meetsWord, costWord};
 use super::code::COSTS;
 use super::code::Code;
 use super::code::FIRST_GOAL;

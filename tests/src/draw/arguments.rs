@@ -65,8 +65,8 @@ fn damage_state(random: &mut Random, labels: usize, state: &mut Vec<u8>) {
     }
 }
 
-/// The number of a rule, about one in twelve times of a rule that is not there. Numbers that are right in their low 8 or
-/// 32 bits alone are among these.
+/// The number of a rule, about one in twelve times of a rule that is not there. Numbers that are right in their low 8
+/// or 32 bits alone are among these.
 pub fn draw_rule_number(random: &mut Random, draft: &Draft) -> usize {
     let rules = draft.sizes.rules;
     if rules > 0 && !random.one_in(12) {
@@ -122,8 +122,8 @@ fn step_rank(random: &mut Random, labels: u8, state: &mut [u8]) {
     }
 }
 
-/// A list to replay: mostly rules that apply one after the other, sometimes any, sometimes one that is not there, and now
-/// and then about as many as are allowed.
+/// A list to replay: mostly rules that apply one after the other, sometimes any, sometimes one that is not there, and
+/// now and then about as many as are allowed.
 pub fn draw_list(random: &mut Random, drawn: &Drawn, start: &[u8]) -> Vec<u8> {
     let rules = drawn.draft.sizes.rules;
     let length = match random.below(64) {

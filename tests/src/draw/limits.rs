@@ -1,8 +1,9 @@
 //! Limits of a search, at and next to what an earlier search has told.
 
+use crate::model::answers::Search;
 use crate::model::calls::find_plan;
 use crate::random::Random;
-use mikjuqan::{Limits, Search, PLAN_LENGTH};
+use mikjuqan::{Limits, PLAN_LENGTH};
 
 const ANY: u32 = u32::MAX;
 
@@ -22,8 +23,8 @@ pub fn draw_limits(random: &mut Random, block: &[u8], start: &[u8], table: &[u32
     }
 }
 
-/// Other limits beside what a search with all costs allowed has told. A visit allowance beyond that search's is drawn only
-/// where it is known that few visits are made.
+/// Other limits beside what a search with all costs allowed has told. A visit allowance beyond that search's is drawn
+/// only where it is known that few visits are made.
 fn draw_next_to(random: &mut Random, limits: Limits, told: Search, table: &[u32]) -> Limits {
     match told {
         Search::Found { steps, cost, visits } if random.one_in(2) => Limits {

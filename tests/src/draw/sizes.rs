@@ -19,8 +19,8 @@ impl Sizes {
     }
 }
 
-/// Sizes within the limits, with at most so many abstract states. Most are small, some have up to sixteen positions and
-/// labels, and some have just so many.
+/// Sizes within the limits, with at most so many abstract states. Most are small, some have up to sixteen positions
+/// and labels, and some have just so many.
 pub fn draw(random: &mut Random, most_entries: usize) -> Sizes {
     let (least, most) = match random.below(32) {
         0 => (16, 16),

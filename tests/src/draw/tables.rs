@@ -84,8 +84,8 @@ fn alter(random: &mut Random, graph: &Graph, table: &mut [u32]) {
     }
 }
 
-/// Where a rule leads from a marked entry to a marked entry, gives that one the highest number there is. Any cost on top
-/// of it reaches the mark's number, but the mark is no number, and the table fails.
+/// Where a rule leads from a marked entry to a marked entry, gives that one the highest number there is. Any cost on
+/// top of it reaches the mark's number, but the mark is no number, and the table fails.
 fn unmark(random: &mut Random, graph: &Graph, table: &mut [u32]) {
     let is_marked = |edge: &&Edge| edge.from != edge.to && table[edge.from] == NO_PATH && table[edge.to] == NO_PATH;
     let marked: Vec<&Edge> = graph.edges.iter().filter(is_marked).collect();

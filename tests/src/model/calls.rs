@@ -1,7 +1,9 @@
 //! The thirteen calls: what each refuses, in the order of the numbers, what it answers, and what it writes.
 //!
-//! They have the signatures of the library's calls. A refused call returns before anything is written.
+//! They take the block first, then what the methods of the wrapper take. A refused call returns before anything is
+//! written.
 
+use super::answers::{Replay, Search};
 use super::block::check;
 use super::exercise::{Exercise, Rule, State};
 use super::matching::{apply, meets_goal};
@@ -12,7 +14,7 @@ use super::reversible::is_reversible_by_form;
 use super::search::find;
 use super::table::{estimate, fill, passes};
 use super::text::read;
-use mikjuqan::{Limits, Refusal, Replay, Search};
+use mikjuqan::{Limits, Refusal};
 
 pub fn read_exercise(text: &[u8], out: &mut [u8]) -> Result<usize, Refusal> {
     let block = read(text, out.len())?;

@@ -24,8 +24,8 @@ struct Walk<'a> {
 #[derive(Debug)]
 pub struct TooMany;
 
-/// The plan that a search should find: no open list to a goal costs less, and none that costs the same comes before it.
-/// Nothing where no open list leads to a goal. Looks at no more than `most` lists.
+/// The plan that a search should find: no open list to a goal costs less, and none that costs the same comes before
+/// it. Nothing where no open list leads to a goal. Looks at no more than `most` lists.
 pub fn first_cheapest(exercise: &Exercise, start: &[u8], steps: usize, most: usize) -> Result<Option<Plan>, TooMany> {
     let mut walk = Walk { exercise, steps, left: most, best: None };
     walk.look(&mut vec![start.to_vec()], &mut Plan { rules: Vec::new(), cost: 0 })?;

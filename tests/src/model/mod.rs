@@ -1,8 +1,10 @@
 //! The specification once more, written to be plainly right rather than fast.
 //!
 //! Each module has one of its sections. [`calls`] has the thirteen calls as a user sees them: what is refused, what is
-//! answered and what is written; [`session`] has what `par` prints. [`exhaustive`] looks for plans without a table.
+//! answered and what is written; [`answers`] has what they answer, and how an answer of the library is compared with
+//! that. [`session`] has what `par` prints. [`exhaustive`] looks for plans without a table.
 
+pub mod answers;
 pub mod block;
 pub mod calls;
 pub mod exercise;

@@ -43,8 +43,9 @@ pub fn build(exercise: &Exercise, rule: &Rule, image: &[u8], earlier: Option<&[u
     Builder { rule, choices: choices.collect(), earlier }.complete(&mut Vec::new())
 }
 
-/// Whether a label at a position of the old state agrees with what the position's left term and the image ask. A variable
-/// stands for one label everywhere: its left positions that are kept and its right positions show it in the image.
+/// Whether a label at a position of the old state agrees with what the position's left term and the image ask. A
+/// variable stands for one label everywhere: its left positions that are kept and its right positions show it in the
+/// image.
 fn fits(rule: &Rule, image: &[u8], position: usize, label: u8) -> bool {
     let is_kept = |position: usize| rule.right[position] == Term::Dash;
     let term = rule.left[position];

@@ -1,9 +1,10 @@
 //! The search by rounds of rising thresholds.
 
+use super::answers::Search;
 use super::exercise::{Exercise, State};
 use super::matching::{apply, meets_goal};
 use super::table::estimate;
-use mikjuqan::{Limits, Search};
+use mikjuqan::Limits;
 
 /// What a search works on; it ends with the visits used.
 struct Rounds<'a> {

@@ -1,11 +1,12 @@
 //! The program `par` as a function: what it prints for an input.
 
+use super::answers::Search;
 use super::block::check;
 use super::exercise::Exercise;
 use super::search::find;
 use super::table::fill;
 use super::text::{decode_line, encode_line, read, read_head, split_lines};
-use mikjuqan::{Limits, Refusal, Search};
+use mikjuqan::{Limits, Refusal};
 
 const LONGEST_INPUT: usize = 32_768;
 

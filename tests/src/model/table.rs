@@ -49,7 +49,8 @@ impl Graph {
     }
 
     /// Lowers entries along edges until none can be lowered. A table that comes out of this obeys the test's part on
-    /// rules, whatever it held before. The mark lies above all numbers: it is lowered even where the bound reaches its own.
+    /// rules, whatever it held before. The mark lies above all numbers: it is lowered even where the bound reaches
+    /// its own.
     pub fn lower(&self, table: &mut [u32]) {
         let mut changed = true;
         while changed {

@@ -17,7 +17,8 @@ use Rattle.basics.proofs.copy.Tie as tie
 -- one byte more
 copy-more : (i : ℕ) (s d : List ℕ) → i < length s → set (sets d 0 (take i s)) i (getD s i 0) ≡ sets d 0 (take (i + 1) s)
 copy-more i s d l =
-    ap (λ (k : ℕ). set (sets d 0 (take i s)) k (getD s i 0)) (sym (length-take-le i s (omega arith)) ∙ sym (zero-add (length (take i s))))
+    ap (λ (k : ℕ). set (sets d 0 (take i s)) k (getD s i 0))
+    (sym (length-take-le i s (omega arith)) ∙ sym (zero-add (length (take i s))))
     ∙ sets-append d 0 (take i s) (getD s i 0 ∷ [])
     ∙ ap (sets d 0) (sym (take-suc s i 0 l) ∙ ap (λ (k : ℕ). take k s) (sym (add-one i)))
 
@@ -29,7 +30,9 @@ abbrev μ-loop : tie.MeasureT-loop
 
 -- the buffer keeps its length
 kept : (c : tie.At-loop Inv-loop μ-loop) → length (c .loop .to) ≡ length (now (c .before .args .to))
-kept c = ap length (c .loop .inv .1) ∙ length-sets (now (c .before .args .to)) 0 (take (c .loop .i) (now (c .before .args .from)))
+kept c =
+    ap length (c .loop .inv .1)
+    ∙ length-sets (now (c .before .args .to)) 0 (take (c .loop .i) (now (c .before .args .from)))
 
 loop-holds : tie.Need-loop-holds Inv-loop μ-loop
 loop-holds c = (search needs, refl)
@@ -49,8 +52,11 @@ loop-less c = search needs
 loop-again : tie.Need-loop-again Inv-loop μ-loop
 loop-again c =
     let a = c .before .before .before .args in
-    let i = c .before .before .loop .i in
-    (search needs, ap (λ (l : List ℕ). set l i (getD (now (a .from)) i 0)) (c .before .before .loop .inv .1) ∙ copy-more i (now (a .from)) (now (a .to)) (omega arith))
+    let i = c .before .before .loop .i in (
+      search needs,
+      ap (λ (l : List ℕ). set l i (getD (now (a .from)) i 0)) (c .before .before .loop .inv .1)
+          ∙ copy-more i (now (a .from)) (now (a .to)) (omega arith),
+    )
 
 same-length : tie.Need-same-length Inv-loop μ-loop
 same-length c = kept (c .before)
@@ -60,7 +66,8 @@ returns c =
     let a = c .before .before .args in
     let e : c .before .loop .i ≡ a .n = omega arith in
     c .before .loop .inv .1 ∙ ap (λ (k : ℕ). sets (now (a .to)) 0 (take k (now (a .from)))) e
-    ∙ sets-front (now (a .to)) (take (a .n) (now (a .from))) (omega (arith, length-take-le (a .n) (now (a .from)) (omega arith)))
+    ∙ sets-front (now (a .to)) (take (a .n) (now (a .from)))
+    (omega (arith, length-take-le (a .n) (now (a .from)) (omega arith)))
 
 pub copy-spec : {M : Type 1} → statement M
 copy-spec =

@@ -5,6 +5,16 @@ use borrow.Author.Needs.{needs}
 use Rattle.compiling.proofs.compile.Statement.{statement}
 use Rattle.compiling.proofs.compile.Tie as tie
 
+-- the places that the facts below go back to
+abbrev place-goals-from-place-weights : tie.After-place-weights → tie.After-place-goals
+place-goals-from-place-weights c = c .before .before .before .before
+
+abbrev place-rules-from-place-weights : tie.After-place-weights → tie.After-place-rules
+place-rules-from-place-weights c = place-goals-from-place-weights c .before .before
+
+abbrev start-from-place-weights : tie.After-place-weights → tie.Start
+start-from-place-weights c = place-rules-from-place-weights c .before .before .before
+
 place-rules-requires : tie.Need-place-rules-requires
 place-rules-requires c κs = search needs
 
@@ -19,9 +29,10 @@ place-weights-requires c κs = search needs
 
 returns : tie.Need-returns
 returns c =
-    let h = c .before .before .before .before .before .before .before .before .before .pre in
-    compiled (h .0) (h .1) (c .before .before .before .before .before .before .place-rules .ensures)
-    (c .before .before .before .before .place-goals .ensures) (c .before .before .place-counts .ensures) (c .place-weights .ensures)
+    let h = start-from-place-weights c .pre in
+    compiled (h .0) (h .1) (place-rules-from-place-weights c .place-rules .ensures)
+    (place-goals-from-place-weights c .place-goals .ensures) (c .before .before .place-counts .ensures)
+    (c .place-weights .ensures)
 
 pub compile-spec : {M : Type 1} → statement M
 compile-spec =

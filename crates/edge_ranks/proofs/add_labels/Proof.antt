@@ -21,6 +21,19 @@ Inv-loop code weights x y labels p lists₀ count source target at₀ label₀ l
 abbrev μ-loop : tie.MeasureT-loop
 μ-loop code weights x y labels p lists₀ count source target at₀ label₀ lists at label = labels - label
 
+-- the places that the facts below go back to
+abbrev rank-by-from-extend : tie.After-extend Inv-loop μ-loop → tie.After-rank-by Inv-loop μ-loop
+rank-by-from-extend c = c .before .before .before .before
+
+abbrev single-from-extend : tie.After-extend Inv-loop μ-loop → tie.After-single Inv-loop μ-loop
+single-from-extend c = rank-by-from-extend c .before
+
+abbrev start-from-single : tie.After-single Inv-loop μ-loop → tie.Start Inv-loop μ-loop
+start-from-single c = c .before .before .before .before .before .before
+
+abbrev loop-from-difference : tie.After-difference Inv-loop μ-loop → tie.At-loop Inv-loop μ-loop
+loop-from-difference c = c .before .before .before .before .before .before .before
+
 element-copy-out-source : tie.Need-element-copy-out-source Inv-loop μ-loop
 element-copy-out-source c = search needs
 
@@ -53,7 +66,7 @@ difference-requires c κs = search needs
 
 extend-requires : tie.Need-extend-requires Inv-loop μ-loop
 extend-requires c κs =
-    let i = c .before .before .before .before .before .before .before .loop .inv in
+    let i = loop-from-difference c .loop .inv in
     (i .4, i .2, omega arith, c .difference .ensures .0)
 
 difference-requires-2 : tie.Need-difference-requires-2 Inv-loop μ-loop
@@ -61,7 +74,7 @@ difference-requires-2 c κs = search needs
 
 extend-requires-2 : tie.Need-extend-requires-2 Inv-loop μ-loop
 extend-requires-2 c κs =
-    let i = c .before .before .before .before .before .before .before .before .before .before .loop .inv in
+    let i = loop-from-difference (c .before .before .before) .loop .inv in
     (c .before .before .extend .ensures .outside .len ∙ i .4, i .2, omega arith, c .difference2 .ensures .0)
 
 add-at : tie.Need-add-at Inv-loop μ-loop
@@ -76,13 +89,13 @@ loop-less c = search needs
 loop-again : tie.Need-loop-again Inv-loop μ-loop
 loop-again c =
     let e = c .before .before .before in
-    let s = e .before .before .before .before .before in
+    let s = single-from-extend e in
     let l = s .before .before .before .loop in
-    let a = s .before .before .before .before .before .before .args in
+    let a = start-from-single s .args in
     let f = firstRank (now (a .code)) (now (a .weights)) (a .x) in
     let g = secondRank (now (a .code)) (now (a .weights)) (a .x) (a .y) in
     let first =
-    e .before .difference .ensures .1 ∙ e .before .before .before .before .rank-by .ensures
+    e .before .difference .ensures .1 ∙ rank-by-from-extend e .rank-by .ensures
     ∙ ap (λ (w : ℕ). f w % 16384) (s .single .ensures) in
     let second =
     c .before .difference2 .ensures .1 ∙ e .before .before .before .second-rank-by .ensures

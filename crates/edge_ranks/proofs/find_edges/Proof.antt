@@ -27,6 +27,19 @@ Inv-loop code weights x y labels lists₀ base count₀ p₀ lists count p =
 abbrev μ-loop : tie.MeasureT-loop
 μ-loop code weights x y labels lists₀ base count₀ p₀ lists count p = p
 
+-- the places that the facts below go back to
+abbrev start-from-position-count : tie.After-position-count Inv-loop μ-loop → tie.Start Inv-loop μ-loop
+start-from-position-count c = c .before .before .before .before
+
+abbrev loop-from-add-labels-arg : tie.After-add-labels-arg Inv-loop μ-loop → tie.At-loop Inv-loop μ-loop
+loop-from-add-labels-arg c = c .before .before .before .before
+
+abbrev start-from-else1 : tie.Else1 Inv-loop μ-loop → tie.Start Inv-loop μ-loop
+start-from-else1 c = c .before .before .before .before .before .before .before .before
+
+abbrev start-from-add-labels-arg : tie.After-add-labels-arg Inv-loop μ-loop → tie.Start Inv-loop μ-loop
+start-from-add-labels-arg c = loop-from-add-labels-arg c .before .before .before .before .before
+
 rewritten-word-requires : tie.Need-rewritten-word-requires Inv-loop μ-loop
 rewritten-word-requires c κs = search needs
 
@@ -47,7 +60,7 @@ position-count-requires c κs = search needs
 
 loop-holds : tie.Need-loop-holds Inv-loop μ-loop
 loop-holds c =
-    let s = c .before .before .before .before in
+    let s = start-from-position-count c in
     let a = s .args in
     let old = now (a .lists) in
     let first = c .before .before .rank-by .result in
@@ -78,8 +91,8 @@ is-idle-requires c κs = search needs
 
 add-labels-requires : tie.Need-add-labels-requires Inv-loop μ-loop
 add-labels-requires c κs =
-    let l = c .before .before .before .before .loop in
-    let q = c .before .before .before .before .before .before .before .before .before .pre .0 in
+    let l = loop-from-add-labels-arg c .loop in
+    let q = start-from-add-labels-arg c .pre .0 in
     ((q .0, q .1, q .2, q .3, omega arith, l .inv .1), (l .inv .2, omega (arith, l .inv .3), omega (arith, l .inv .4)))
 
 loop-less : tie.Need-loop-less Inv-loop μ-loop
@@ -87,13 +100,14 @@ loop-less c = search needs
 
 loop-again : tie.Need-loop-again Inv-loop μ-loop
 loop-again c =
-    let l = c .before .before .before .before .before .loop in
-    let s = c .before .before .before .before .before .before .before .before .before .before in
+    let tested = c .before .before .before in
+    let l = tested .before .before .loop in
+    let s = start-from-add-labels-arg (c .before) in
     let a = s .args in
     let q = c .add-labels .ensures in
     let f = firstRank (now (a .code)) (now (a .weights)) (a .x) in
     let g = secondRank (now (a .code)) (now (a .weights)) (a .x) (a .y) in
-    let k = c .before .before .before .before .loop-test .taken in
+    let k = tested .before .loop-test .taken in
     let n = positionCount (now (a .code)) in
     let e : l .p ≡ suc (l .p - 1) = omega (arith, k) in (
       omega (arith, l .inv .0),
@@ -114,7 +128,7 @@ loop-again-2 : tie.Need-loop-again-2 Inv-loop μ-loop
 unfolding firstRank secondRank
 loop-again-2 c =
     let l = c .before .before .before .loop in
-    let s = c .before .before .before .before .before .before .before .before in
+    let s = start-from-else1 c in
     let a = s .args in
     let n = positionCount (now (a .code)) in
     let f = firstRank (now (a .code)) (now (a .weights)) (a .x) in

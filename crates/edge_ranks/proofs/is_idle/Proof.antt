@@ -19,6 +19,13 @@ Inv-loop code x labels p base label₀ label =
 abbrev μ-loop : tie.MeasureT-loop
 μ-loop code x labels p base label₀ label = labels - label
 
+-- the places that the facts below go back to
+abbrev loop-from-else1 : tie.Else1 Inv-loop μ-loop → tie.At-loop Inv-loop μ-loop
+loop-from-else1 c = c .before .before .before .before
+
+abbrev start-from-else1 : tie.Else1 Inv-loop μ-loop → tie.Start Inv-loop μ-loop
+start-from-else1 c = loop-from-else1 c .before
+
 loop-holds : tie.Need-loop-holds Inv-loop μ-loop
 loop-holds c = (omega arith, λ l a b. absurd (omega arith))
 
@@ -39,14 +46,16 @@ loop-less c = search needs
 
 loop-again : tie.Need-loop-again Inv-loop μ-loop
 loop-again c =
-    let a = c .before .before .before .before .before .args in
-    let l = c .before .before .before .before .loop in
+    let a = start-from-else1 c .args in
+    let l = loop-from-else1 c .loop in
     let made = rewrittenWord (now (a .code)) (a .x) in
     let here : made (l .label * 16 ^ a .p) ≡ a .base =
     ap made (sym (c .before .before .single .ensures)) ∙ sym (c .before .rewritten-word .ensures) ∙ omega arith in (
       omega arith,
       λ k m b.
-          ⊎-elim (λ e. ap (λ (y : ℕ). made (y * 16 ^ a .p)) e ∙ here) (λ d. l .inv .1 k m (omega arith)) (same? k (l .label)),
+          ⊎-elim (λ e. ap (λ (y : ℕ). made (y * 16 ^ a .p)) e ∙ here)
+          (λ d. l .inv .1 k m (omega arith))
+          (same? k (l .label)),
     )
 
 returns-2 : tie.Need-returns-2 Inv-loop μ-loop

@@ -9,6 +9,10 @@ use Rattle.edge_ranks.specs.Lists.{firstRank}
 use Rattle.edge_ranks.proofs.rank_by.Statement.{statement}
 use Rattle.edge_ranks.proofs.rank_by.Tie as tie
 
+-- the places that the facts below go back to
+abbrev start-from-narrow : tie.After-narrow → tie.Start
+start-from-narrow c = c .before .before .before .before .before
+
 position-count-requires : tie.Need-position-count-requires
 position-count-requires c κs = search needs
 
@@ -24,7 +28,7 @@ narrow-requires c κs = search needs
 returns : tie.Need-returns
 unfolding firstRank
 returns c =
-    let a = c .before .before .before .before .before .args in
+    let a = start-from-narrow c .args in
     c .narrow .ensures
     ∙ ap (λ (k : ℕ). k % 16384)
     (c .before .rank-word .ensures

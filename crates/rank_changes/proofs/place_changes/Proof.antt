@@ -7,6 +7,13 @@ use borrow.Author.Needs.{needs}
 use Rattle.rank_changes.proofs.place_changes.Statement.{statement}
 use Rattle.rank_changes.proofs.place_changes.Tie as tie
 
+-- the places that the facts below go back to
+abbrev place-singles-from-place-rule-changes-arg : tie.After-place-rule-changes-arg → tie.After-place-singles
+place-singles-from-place-rule-changes-arg c = c .before .before .before .before
+
+abbrev start-from-place-rule-changes-arg : tie.After-place-rule-changes-arg → tie.Start
+start-from-place-rule-changes-arg c = place-singles-from-place-rule-changes-arg c .before .before .before
+
 place-singles-requires : tie.Need-place-singles-requires
 place-singles-requires c κs = (c .before .before .pre .0, refl, zeros 256)
 
@@ -14,7 +21,11 @@ copy-pairs-requires : tie.Need-copy-pairs-requires
 copy-pairs-requires c κs = search needs
 
 place-rule-changes-requires : tie.Need-place-rule-changes-requires
-place-rule-changes-requires c κs = (c .before .before .before .before .before .before .before .pre .0, c .before .before .before .before .place-singles .ensures, c .before .before .copy-pairs .ensures .len)
+place-rule-changes-requires c κs = (
+  start-from-place-rule-changes-arg c .pre .0,
+  place-singles-from-place-rule-changes-arg c .place-singles .ensures,
+  c .before .before .copy-pairs .ensures .len,
+)
 
 returns : tie.Need-returns
 returns c =

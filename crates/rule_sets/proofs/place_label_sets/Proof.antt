@@ -32,21 +32,36 @@ written-more code rules k v long few l h a m j =
     (λ e r.
     ap (λ (x : ℕ). member (getD (set code (setsPlace + k) v) (setsPlace + x) 0) r) e
     ∙ ap (λ (x : ℕ). member x r) (getD-set-same code (setsPlace + k) v 0 (omega arith))
-    ∙ agreeing-kept (outside-set (setsPlace + k) v (omega arith) (omega arith) (outside-none setsPlace countsPlace code)) rules few (k / 16) (k % 16) v a r
+    ∙ agreeing-kept
+    (outside-set (setsPlace + k) v (omega arith) (omega arith) (outside-none setsPlace countsPlace code)) rules few
+    (k / 16) (k % 16) v a r
     ∙ sym (ap (λ (x : ℕ). ltb r rules && agreesAt (set code (setsPlace + k) v) r (x / 16) (x % 16)) e))
-    (λ d. set-kept code rules (m / 16) (m % 16) (setsPlace + m) (setsPlace + k) v few (omega arith) (omega arith) (λ e. d (omega arith)) (h m (omega arith)))
+    (λ d.
+    set-kept code rules (m / 16) (m % 16) (setsPlace + m) (setsPlace + k) v few (omega arith) (omega arith)
+    (λ e. d (omega arith)) (h m (omega arith)))
     (same? m k)
 
 abbrev Inv-loop : tie.InvT-loop
 Inv-loop code₀ rules n k₀ code k =
-    (k ≤ 16 * n) × (rules ≤ 64) × (n ≤ 16) × (length code ≡ codeLength) × Outside setsPlace countsPlace code₀ code × Written code rules k
+    (k ≤ 16 * n) × (rules ≤ 64) × (n ≤ 16) × (length code ≡ codeLength) × Outside setsPlace countsPlace code₀ code
+    × Written code rules k
 
 abbrev μ-loop : tie.MeasureT-loop
 μ-loop code₀ rules n k₀ code k = 16 * n - k
 
+-- the places that the facts below go back to
+abbrev start-from-set-of : tie.After-set-of Inv-loop μ-loop → tie.Start Inv-loop μ-loop
+start-from-set-of c = c .before .before .before .before
+
 loop-holds : tie.Need-loop-holds Inv-loop μ-loop
-loop-holds c =
-    (omega arith, c .pre .0, c .pre .1, c .pre .2, outside-none setsPlace countsPlace (now (c .args .code)), λ m l. absurd (omega arith))
+loop-holds c = (
+  omega arith,
+  c .pre .0,
+  c .pre .1,
+  c .pre .2,
+  outside-none setsPlace countsPlace (now (c .args .code)),
+  λ m l. absurd (omega arith),
+)
 
 mul-loop : tie.Need-mul-loop Inv-loop μ-loop
 mul-loop c = omega arith
@@ -71,7 +86,7 @@ loop-less c = omega arith
 
 loop-again : tie.Need-loop-again Inv-loop μ-loop
 loop-again c =
-    let s = c .before .before .before .before in
+    let s = start-from-set-of c in
     let l = c .before .before .before .loop in
     let more = outside-set (setsPlace + l .k) (c .set-of .result) (omega arith) (omega arith) (l .inv .4) in (
       omega arith,
@@ -79,7 +94,8 @@ loop-again c =
       l .inv .2,
       more .len ∙ s .pre .2,
       more,
-      written-more (l .code) (s .args .rules) (l .k) (c .set-of .result) (l .inv .3) (l .inv .1) (omega arith) (l .inv .5) (c .set-of .ensures),
+      written-more (l .code) (s .args .rules) (l .k) (c .set-of .result) (l .inv .3) (l .inv .1) (omega arith)
+          (l .inv .5) (c .set-of .ensures),
     )
 
 returns : tie.Need-returns Inv-loop μ-loop

@@ -12,6 +12,16 @@ use Rattle.backward.proofs.ChoiceCases.{choice-kept, choice-term}
 use Rattle.backward.proofs.choices.choice_at.Statement.{statement}
 use Rattle.backward.proofs.choices.choice_at.Tie as tie
 
+-- the places that the facts below go back to
+abbrev decode-from-variable-choice : tie.After-variable-choice → tie.After-decode
+decode-from-variable-choice c = c .before .before .before .before
+
+abbrev start-from-shared-slice-known5 : tie.After-shared-slice-known5 → tie.Start
+start-from-shared-slice-known5 c = c .before .before .before .before .before .before .before
+
+abbrev start-from-decode : tie.After-decode → tie.Start
+start-from-decode c = c .before .before .before .before .before .before .before .before
+
 -- the sides of the rule
 abbrev left-of : tie.Start → ℕ → ℕ
 left-of s = sideAt (now (s .args .block)) (s .args .left)
@@ -33,9 +43,10 @@ shared-slice-read-t15 c = search needs
 
 returns : tie.Need-returns
 returns c =
-    let s = c .before .before .before .before .before .before .before in
+    let s = start-from-shared-slice-known5 c in
     let a = s .args in
-    sym (choice-kept (length (now (a .state))) (left-of s) (right-of s) (now (a .state)) (now (a .begun)) (a .i) (sym (c .before .before .is-dash .ensures) ∙ c .before .if1 .taken))
+    sym (choice-kept (length (now (a .state))) (left-of s) (right-of s) (now (a .state)) (now (a .begun)) (a .i)
+    (sym (c .before .before .is-dash .ensures) ∙ c .before .if1 .taken))
 
 add-decode : tie.Need-add-decode
 add-decode c = search needs
@@ -49,12 +60,17 @@ decode-requires c κs = search needs
 -- where the right term is no dash, the left term decides
 left-term :
     (c : tie.After-decode) {term : Term} → c .decode .result ≡ term
-    → termChoice (length (now (c .before .before .before .before .before .before .before .before .args .state))) (left-of (c .before .before .before .before .before .before .before .before)) (right-of (c .before .before .before .before .before .before .before .before)) (now (c .before .before .before .before .before .before .before .before .args .state)) (now (c .before .before .before .before .before .before .before .before .args .begun)) (c .before .before .before .before .before .before .before .before .args .i) term ≡ choicesAt (now (c .before .before .before .before .before .before .before .before .args .block)) (c .before .before .before .before .before .before .before .before .args .left) (c .before .before .before .before .before .before .before .before .args .right) (now (c .before .before .before .before .before .before .before .before .args .state)) (now (c .before .before .before .before .before .before .before .before .args .begun)) (c .before .before .before .before .before .before .before .before .args .i)
-left-term c e =
-    let s = c .before .before .before .before .before .before .before .before in
+    → let s = start-from-decode c in
     let a = s .args in
-    ap (termChoice (length (now (a .state))) (left-of s) (right-of s) (now (a .state)) (now (a .begun)) (a .i)) (sym e ∙ c .decode .ensures)
-    ∙ sym (choice-term (length (now (a .state))) (left-of s) (right-of s) (now (a .state)) (now (a .begun)) (a .i) (sym (c .before .before .before .is-dash .ensures) ∙ c .before .before .if1 .left))
+    termChoice (length (now (a .state))) (left-of s) (right-of s) (now (a .state)) (now (a .begun)) (a .i) term
+    ≡ choicesAt (now (a .block)) (a .left) (a .right) (now (a .state)) (now (a .begun)) (a .i)
+left-term c e =
+    let s = start-from-decode c in
+    let a = s .args in
+    ap (termChoice (length (now (a .state))) (left-of s) (right-of s) (now (a .state)) (now (a .begun)) (a .i))
+    (sym e ∙ c .decode .ensures)
+    ∙ sym (choice-term (length (now (a .state))) (left-of s) (right-of s) (now (a .state)) (now (a .begun)) (a .i)
+    (sym (c .before .before .before .is-dash .ensures) ∙ c .before .before .if1 .left))
 
 enum-known-term : tie.Need-enum-known-term
 enum-known-term c = search needs
@@ -75,7 +91,8 @@ returns-2 : tie.Need-returns-2
 returns-2 c = left-term (c .before .before .before) (c .before .term .given .1)
 
 returns-3 : tie.Need-returns-3
-returns-3 c = c .variable-choice .ensures ∙ left-term (c .before .before .before .before) (c .before .before .term2 .given .1)
+returns-3 c =
+    c .variable-choice .ensures ∙ left-term (decode-from-variable-choice c) (c .before .before .term2 .given .1)
 
 returns-4 : tie.Need-returns-4
 returns-4 c = left-term (c .before .before) (c .enum-told .given .1)

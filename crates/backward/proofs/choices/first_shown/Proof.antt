@@ -20,6 +20,10 @@ Inv-loop block left right n v j₀ j =
 abbrev μ-loop : tie.MeasureT-loop
 μ-loop block left right n v j₀ j = n - j
 
+-- the places that the facts below go back to
+abbrev start-from-then1 : tie.Then1 Inv-loop μ-loop → tie.Start Inv-loop μ-loop
+start-from-then1 c = c .before .before .before .before .before
+
 loop-holds : tie.Need-loop-holds Inv-loop μ-loop
 loop-holds c = (search needs, λ k l. absurd (omega arith))
 
@@ -28,8 +32,9 @@ shows-requires c κs = search needs
 
 returns : tie.Need-returns Inv-loop μ-loop
 returns c =
-    let a = c .before .before .before .before .before .args in
-    sym (first-at (shows (sideAt (now (a .block)) (a .left)) (sideAt (now (a .block)) (a .right)) (a .v)) (a .n) (c .before .before .before .loop .j) (omega arith)
+    let a = start-from-then1 c .args in
+    sym (first-at (shows (sideAt (now (a .block)) (a .left)) (sideAt (now (a .block)) (a .right)) (a .v)) (a .n)
+    (c .before .before .before .loop .j) (omega arith)
     (sym (c .before .shows .ensures) ∙ c .if1 .taken) (c .before .before .before .loop .inv .1))
 
 add-j : tie.Need-add-j Inv-loop μ-loop
@@ -39,12 +44,16 @@ loop-less : tie.Need-loop-less Inv-loop μ-loop
 loop-less c = search needs
 
 loop-again : tie.Need-loop-again Inv-loop μ-loop
-loop-again c = (search needs, below-more _ _ (c .before .before .before .loop .inv .1) (sym (c .before .shows .ensures) ∙ c .if1 .left))
+loop-again c = (
+  search needs,
+  below-more _ _ (c .before .before .before .loop .inv .1) (sym (c .before .shows .ensures) ∙ c .if1 .left),
+)
 
 returns-2 : tie.Need-returns-2 Inv-loop μ-loop
 returns-2 c =
     let a = c .before .before .before .args in
-    sym (first-passed (shows (sideAt (now (a .block)) (a .left)) (sideAt (now (a .block)) (a .right)) (a .v)) (a .n) (c .before .loop .j) (omega arith) (c .before .loop .inv .1))
+    sym (first-passed (shows (sideAt (now (a .block)) (a .left)) (sideAt (now (a .block)) (a .right)) (a .v)) (a .n)
+    (c .before .loop .j) (omega arith) (c .before .loop .inv .1))
 
 pub first-shown-spec : {M : Type 1} → statement M
 first-shown-spec =

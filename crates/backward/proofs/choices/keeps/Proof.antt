@@ -7,6 +7,10 @@ use Rattle.backward.specs.declared.choices.Choice.{Choice}
 use Rattle.backward.proofs.choices.keeps.Statement.{statement}
 use Rattle.backward.proofs.choices.keeps.Tie as tie
 
+-- the places that the facts below go back to
+abbrev start-from-struct-known : tie.After-struct-known → tie.Start
+start-from-struct-known c = c .before .before .before .before
+
 enum-known-choice : tie.Need-enum-known-choice
 enum-known-choice c = search needs
 
@@ -14,7 +18,9 @@ enum-told : tie.Need-enum-told
 enum-told c = search needs
 
 returns : tie.Need-returns
-returns c = ap (λ (choice : Choice). keepsOf choice (c .before .before .before .before .args .x)) (sym (c .before .before .choice .given .1))
+returns c =
+    ap (λ (choice : Choice). keepsOf choice (start-from-struct-known c .args .x))
+    (sym (c .before .before .choice .given .1))
 
 returns-2 : tie.Need-returns-2
 returns-2 c = search needs

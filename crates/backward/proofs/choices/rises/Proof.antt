@@ -9,6 +9,10 @@ use Rattle.backward.specs.declared.choices.Choice.{Choice}
 use Rattle.backward.proofs.choices.rises.Statement.{statement}
 use Rattle.backward.proofs.choices.rises.Tie as tie
 
+-- the places that the facts below go back to
+abbrev start-from-struct-known : tie.After-struct-known → tie.Start
+start-from-struct-known c = c .before .before .before .before
+
 enum-known-choice : tie.Need-enum-known-choice
 enum-known-choice c = search needs
 
@@ -22,7 +26,9 @@ add-result : tie.Need-add-result
 add-result c = search needs
 
 returns : tie.Need-returns
-returns c = ap (λ (choice : Choice). risesOf (c .before .before .before .before .args .count) choice (c .before .before .before .before .args .x)) (sym (c .before .before .choice .given .1))
+returns c =
+    let a = start-from-struct-known c .args in
+    ap (λ (choice : Choice). risesOf (a .count) choice (a .x)) (sym (c .before .before .choice .given .1))
 
 returns-2 : tie.Need-returns-2
 returns-2 c =

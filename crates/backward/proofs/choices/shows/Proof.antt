@@ -10,6 +10,10 @@ use Rattle.blocks.specs.Layout.{sideAt}
 use Rattle.backward.proofs.choices.shows.Statement.{statement}
 use Rattle.backward.proofs.choices.shows.Tie as tie
 
+-- the places that the facts below go back to
+abbrev start-from-and : tie.After-and → tie.Start
+start-from-and c = c .before .before .before .before .before .before
+
 add-byte : tie.Need-add-byte
 add-byte c = search needs
 
@@ -33,7 +37,10 @@ and-requires c κs = search needs
 
 returns-2 : tie.Need-returns-2
 returns-2 c =
-    rw (ne-eqb _ _ (c .before .before .before .if1 .left)) (c .and .ensures ∙ ap (λ (t : Bool). eqb (sideAt (now (c .before .before .before .before .before .before .args .block)) (c .before .before .before .before .before .before .args .left) (c .before .before .before .before .before .before .args .j)) (c .before .before .before .before .before .before .args .v) && t) (c .before .is-dash .ensures))
+    let a = start-from-and c .args in
+    rw (ne-eqb _ _ (c .before .before .before .if1 .left))
+    (c .and .ensures
+    ∙ ap (λ (t : Bool). eqb (sideAt (now (a .block)) (a .left) (a .j)) (a .v) && t) (c .before .is-dash .ensures))
 
 pub shows-spec : {M : Type 1} → statement M
 shows-spec =

@@ -22,6 +22,16 @@ Inv-loop block left right state candidate₀ from n i₀ candidate i =
 abbrev μ-loop : tie.MeasureT-loop
 μ-loop block left right state candidate₀ from n i₀ candidate i = n - i
 
+-- the places that the facts below go back to
+abbrev loop-from-least : tie.After-least Inv-loop μ-loop → tie.At-loop Inv-loop μ-loop
+loop-from-least c = c .before .before .before .before
+
+abbrev start-from-loop : tie.After-loop Inv-loop μ-loop → tie.Start Inv-loop μ-loop
+start-from-loop c = c .before .before .before .before .before
+
+abbrev start-from-least : tie.After-least Inv-loop μ-loop → tie.Start Inv-loop μ-loop
+start-from-least c = loop-from-least c .before .before .before .before
+
 loop-holds : tie.Need-loop-holds Inv-loop μ-loop
 loop-holds c = (search needs, search needs, search needs, refl, λ k l. refl, λ k a l. absurd (omega arith))
 
@@ -42,13 +52,15 @@ loop-less c = search needs
 
 loop-again : tie.Need-loop-again Inv-loop μ-loop
 loop-again c =
-    let a = c .before .before .before .before .before .before .before .before .args in
-    let i = c .before .before .before .before .loop .i in
-    let u = c .before .before .before .before .loop .candidate in
+    let a = start-from-least c .args in
+    let i = loop-from-least c .loop .i in
+    let u = loop-from-least c .loop .candidate in
     let w = choicesAt (now (a .block)) (a .left) (a .right) (now (a .state)) in
-    let near = choice-local (length (now (a .state))) (sideAt (now (a .block)) (a .left)) (sideAt (now (a .block)) (a .right)) (now (a .state)) in
-    let inv = c .before .before .before .before .loop .inv in
-    let l : c .before .before .before .before .loop .i < length (c .before .before .before .before .loop .candidate) = omega arith in
+    let near =
+    choice-local (length (now (a .state))) (sideAt (now (a .block)) (a .left)) (sideAt (now (a .block)) (a .right))
+    (now (a .state)) in
+    let inv = loop-from-least c .loop .inv in
+    let l : loop-from-least c .loop .i < length (loop-from-least c .loop .candidate) = omega arith in
     let e : c .least .result ≡ leastOf (w u i) = c .least .ensures ∙ ap leastOf (c .before .choice-at .ensures) in (
       search needs,
       omega arith,
@@ -63,7 +75,7 @@ same-length c = search needs
 
 returns : tie.Need-returns Inv-loop μ-loop
 returns c =
-    let e : c .before .loop .i ≡ length (now (c .before .before .before .before .before .args .state)) = omega arith in
+    let e : c .before .loop .i ≡ length (now (start-from-loop c .args .state)) = omega arith in
     record { before = c .before .loop .inv .4; after = rw e at (c .before .loop .inv .5) }
 
 pub complete-spec : {M : Type 1} → statement M

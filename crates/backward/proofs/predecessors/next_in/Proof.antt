@@ -12,10 +12,33 @@ use Rattle.blocks.specs.Layout.{positions, labelCount}
 use Rattle.blocks.proofs.Offsets.{left-inside, right-inside}
 use Rattle.blocks.proofs.StateLaws.{state-length, label-below}
 use Rattle.backward.specs.Choices.{choicesAt, raisableAt}
-use Rattle.backward.specs.Predecessors.{Predecessor, Answered}
+use Rattle.backward.specs.Predecessors.{NextState, Answered}
 use Rattle.backward.proofs.Candidates.{next-settles, next-none}
 use Rattle.backward.proofs.predecessors.next_in.Statement.{statement}
 use Rattle.backward.proofs.predecessors.next_in.Tie as tie
+
+-- the places that the facts below go back to
+abbrev left-at-from-raise-arg : tie.After-raise-arg → tie.After-left-at
+left-at-from-raise-arg c = c .before .before .before .before
+
+abbrev raise-from-settle-arg2 : tie.After-settle-arg2 → tie.After-raise
+raise-from-settle-arg2 c = c .before .before .before .before
+
+abbrev start-from-right-at : tie.After-right-at → tie.Start
+start-from-right-at c = c .before .before .before .before .before .before .before
+
+abbrev raise-arg-from-slice-known4 : tie.After-slice-known4 → tie.After-raise-arg
+raise-arg-from-slice-known4 c = raise-from-settle-arg2 (c .before .before .before) .before
+
+abbrev right-at-from-slice-known4 : tie.After-slice-known4 → tie.After-right-at
+right-at-from-slice-known4 c = raise-arg-from-slice-known4 c .before .before .before
+
+abbrev left-at-from-slice-known4 : tie.After-slice-known4 → tie.After-left-at
+left-at-from-slice-known4 c = right-at-from-slice-known4 c .before
+
+abbrev start-from-settle-arg2 : tie.After-settle-arg2 → tie.Start
+start-from-settle-arg2 c =
+    raise-from-settle-arg2 c .before .before .before .before .before .before .before .before .before .before .before
 
 -- the state has n labels
 long : (s : tie.Start) → length (now (s .args .state)) ≡ positions (now (s .args .block))
@@ -32,25 +55,35 @@ right-at-requires c κs = search needs
 
 pivot-requires : tie.Need-pivot-requires
 pivot-requires c κs =
-    let a = c .before .before .before .before .before .before .before .args in
-    let h = c .before .before .before .before .before .before .before .pre in
-    let e = long (c .before .before .before .before .before .before .before) in (
+    let a = start-from-right-at c .args in
+    let h = start-from-right-at c .pre in
+    let e = long (start-from-right-at c) in (
       h .0 .sized .head,
-      long (c .before .before .before .before .before .before .before),
+      long (start-from-right-at c),
       omega (arith, left-inside (now (a .block)) (h .0 .sized) (a .r) (h .1), c .before .left-at .ensures .0),
       omega (arith, right-inside (now (a .block)) (h .0 .sized) (a .r) (h .1), c .right-at .ensures .0),
-      earlier-long (c .before .before .before .before .before .before .before) ∙ sym e,
+      earlier-long (start-from-right-at c) ∙ sym e,
     )
 
 -- the last position that can be raised
-last-raisable : (c : tie.After-raise-arg) → last (length (now (c .before .before .before .before .before .before .before .before .before .before .args .state))) (raisableAt (labelCount (now (c .before .before .before .before .before .before .before .before .before .before .args .block))) (choicesAt (now (c .before .before .before .before .before .before .before .before .before .before .args .block)) (c .before .before .before .before .left-at .result) (c .before .before .before .right-at .result) (now (c .before .before .before .before .before .before .before .before .before .before .args .state))) (now (c .before .before .before .before .before .before .before .before .before .before .args .earlier))) ≡ suc (c .before .before .pivot .result - 1)
+last-raisable :
+    (c : tie.After-raise-arg)
+    → let a = start-from-right-at (c .before .before .before) .args in
+    let left = left-at-from-raise-arg c .left-at .result in
+    let right = c .before .before .before .right-at .result in
+    let choices = choicesAt (now (a .block)) left right (now (a .state)) in
+    last (length (now (a .state))) (raisableAt (labelCount (now (a .block))) choices (now (a .earlier)))
+    ≡ suc (c .before .before .pivot .result - 1)
 last-raisable c = sym (c .before .before .pivot .ensures) ∙ omega (arith, c .before .if1 .left)
 
 returns : tie.Need-returns
 returns c =
-    let a = c .before .before .before .before .before .before .before .before .before .args in
-    let h = c .before .before .before .before .before .before .before .before .before .pre in
-    let none = next-none (now (a .block)) (h .0) (a .r) (h .1) (now (a .state)) (h .2) _ _ (c .before .before .before .left-at .ensures .0) (c .before .before .right-at .ensures .0) (now (a .earlier)) (h .3) (sym (c .before .pivot .ensures) ∙ c .if1 .taken) in
+    let a = start-from-right-at (c .before .before) .args in
+    let h = start-from-right-at (c .before .before) .pre in
+    let none =
+    next-none (now (a .block)) (h .0) (a .r) (h .1) (now (a .state)) (h .2) _ _
+    (c .before .before .before .left-at .ensures .0) (c .before .before .right-at .ensures .0) (now (a .earlier)) (h .3)
+    (sym (c .before .pivot .ensures) ∙ c .if1 .taken) in
     rw none (refl, refl)
 
 sub-raise : tie.Need-sub-raise
@@ -58,15 +91,17 @@ sub-raise c = search needs
 
 raise-requires : tie.Need-raise-requires
 raise-requires c κs =
-    let a = c .before .before .before .before .before .before .before .before .before .before .args in
-    let h = c .before .before .before .before .before .before .before .before .before .before .pre in
-    let e = long (c .before .before .before .before .before .before .before .before .before .before) in
+    let a = start-from-right-at (c .before .before .before) .args in
+    let h = start-from-right-at (c .before .before .before) .pre in
+    let e = long (start-from-right-at (c .before .before .before)) in
     let b = now (a .block) in
     let l = last-holds _ (length (now (a .state))) (c .before .before .pivot .result - 1) (last-raisable c) .0 in
-    let x = label-below b (h .0 .sized .head) (now (a .earlier)) (h .3) (c .before .before .pivot .result - 1) (omega arith) in (
-      omega (arith, left-inside b (h .0 .sized) (a .r) (h .1), c .before .before .before .before .left-at .ensures .0),
+    let x =
+    label-below b (h .0 .sized .head) (now (a .earlier)) (h .3) (c .before .before .pivot .result - 1)
+    (omega arith) in (
+      omega (arith, left-inside b (h .0 .sized) (a .r) (h .1), left-at-from-raise-arg c .left-at .ensures .0),
       omega (arith, right-inside b (h .0 .sized) (a .r) (h .1), c .before .before .before .right-at .ensures .0),
-      earlier-long (c .before .before .before .before .before .before .before .before .before .before) ∙ sym e,
+      earlier-long (start-from-right-at (c .before .before .before)) ∙ sym e,
       h .4 ∙ sym e,
       l,
       omega arith,
@@ -74,8 +109,13 @@ raise-requires c κs =
 
 settle-requires : tie.Need-settle-requires
 settle-requires c κs =
-    let h = c .before .before .before .before .before .before .before .before .before .before .before .before .before .before .before .pre in
-    (h .0 .sized, h .1, c .before .before .before .before .raise .kept .1 .1 .1 .1 .1 .0 ∙ h .4, long (c .before .before .before .before .before .before .before .before .before .before .before .before .before .before .before), h .5)
+    let h = start-from-settle-arg2 c .pre in (
+      h .0 .sized,
+      h .1,
+      raise-from-settle-arg2 c .raise .kept .1 .1 .1 .1 .1 .0 ∙ h .4,
+      long (start-from-settle-arg2 c),
+      h .5,
+    )
 
 same-length : tie.Need-same-length
 same-length c = search needs
@@ -85,11 +125,18 @@ same-length-2 c = search needs
 
 returns-2 : tie.Need-returns-2
 returns-2 c =
-    let a = c .before .before .before .before .before .before .before .before .before .before .before .before .before .before .before .before .before .before .args in
-    let h = c .before .before .before .before .before .before .before .before .before .before .before .before .before .before .before .before .before .before .pre in
-    let u = c .before .before .before .before .before .before .before .raise .last .1 .1 .1 .1 .1 .0 in
-    let settles = next-settles (now (a .block)) (h .0) (a .r) (h .1) (now (a .state)) (h .2) _ _ (c .before .before .before .before .before .before .before .before .before .before .before .before .left-at .ensures .0) (c .before .before .before .before .before .before .before .before .before .before .before .right-at .ensures .0) (now (a .earlier)) (h .3) u _ (c .before .before .before .before .before .before .before .raise .kept .1 .1 .1 .1 .1 .0 ∙ h .4 ∙ sym (long (c .before .before .before .before .before .before .before .before .before .before .before .before .before .before .before .before .before .before))) (last-raisable (c .before .before .before .before .before .before .before .before)) (c .before .before .before .before .before .before .before .raise .ensures) in
-    subst (λ (next : Predecessor). Answered next (c .before .before .settle .result) (now (a .out)) (c .before .before .settle .last .1 .1 .1 .1 .0)) (sym settles) (c .before .before .settle .ensures)
+    let s = start-from-settle-arg2 (c .before .before .before) in
+    let a = s .args in
+    let h = s .pre in
+    let raised = raise-from-settle-arg2 (c .before .before .before) .raise in
+    let answer = c .before .before .settle in
+    let settles =
+    next-settles (now (a .block)) (h .0) (a .r) (h .1) (now (a .state)) (h .2) _ _
+    (left-at-from-slice-known4 c .left-at .ensures .0) (right-at-from-slice-known4 c .right-at .ensures .0)
+    (now (a .earlier)) (h .3) (raised .last .1 .1 .1 .1 .1 .0) _ (raised .kept .1 .1 .1 .1 .1 .0 ∙ h .4 ∙ sym (long s))
+    (last-raisable (raise-arg-from-slice-known4 c)) (raised .ensures) in
+    subst (λ (next : NextState). Answered next (answer .result) (now (a .out)) (answer .last .1 .1 .1 .1 .0))
+    (sym settles) (answer .ensures)
 
 pub next-in-spec : {M : Type 1} → statement M
 next-in-spec =

@@ -12,6 +12,10 @@ use Rattle.blocks.proofs.StateLaws.{state-length}
 use Rattle.backward.proofs.predecessors.next_predecessor.Statement.{statement}
 use Rattle.backward.proofs.predecessors.next_predecessor.Tie as tie
 
+-- the places that the facts below go back to
+abbrev start-from-slice-known : tie.After-slice-known → tie.Start
+start-from-slice-known c = c .before .before .before .before
+
 -- the state has n labels
 long : (s : tie.Start) → length (now (s .args .state)) ≡ positions (now (s .args .block))
 long s = state-length (now (s .args .block)) (now (s .args .state)) (s .pre .2)
@@ -21,15 +25,24 @@ fits : (s : tie.Start) → length (now (s .args .state)) ≤ 16
 fits s = omega (arith, long s, s .pre .0 .sized .head .sizes .n-high)
 
 array-borrow-prefix-candidate : tie.Need-array-borrow-prefix-candidate
-array-borrow-prefix-candidate c = omega (arith, fits (c .before .before .before .before))
+array-borrow-prefix-candidate c = omega (arith, fits (start-from-slice-known c))
 
 slice-aggregate-next-in : tie.Need-slice-aggregate-next-in
-slice-aggregate-next-in c = sym (length-take-le (length (now (c .before .before .before .before .before .args .state))) _ (omega (arith, fits (c .before .before .before .before .before))))
+slice-aggregate-next-in c =
+    sym (length-take-le (length (now (start-from-slice-known (c .before) .args .state))) _
+    (omega (arith, fits (start-from-slice-known (c .before)))))
 
 next-in-requires : tie.Need-next-in-requires
 next-in-requires c κs =
-    let h = c .before .before .before .before .before .before .pre in
-    (h .0, h .1, h .2, h .3, length-take-le (length (now (c .before .before .before .before .before .before .args .state))) _ (omega (arith, fits (c .before .before .before .before .before .before))) ∙ long (c .before .before .before .before .before .before), h .4)
+    let s = start-from-slice-known (c .before .before) in
+    let h = s .pre in (
+      h .0,
+      h .1,
+      h .2,
+      h .3,
+      length-take-le (length (now (s .args .state))) _ (omega (arith, fits s)) ∙ long s,
+      h .4,
+    )
 
 same-length : tie.Need-same-length
 same-length c = search needs

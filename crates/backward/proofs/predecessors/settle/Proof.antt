@@ -7,6 +7,16 @@ use Rattle.basics.proofs.Lists.{copied-whole}
 use Rattle.backward.proofs.predecessors.settle.Statement.{statement}
 use Rattle.backward.proofs.predecessors.settle.Tie as tie
 
+-- the places that the facts below go back to
+abbrev then1-from-slice-known2 : tie.After-slice-known2 → tie.Then1
+then1-from-slice-known2 c = c .before .before .before .before
+
+abbrev leads-from-slice-known2 : tie.After-slice-known2 → tie.After-leads
+leads-from-slice-known2 c = then1-from-slice-known2 c .before
+
+abbrev start-from-slice-known2 : tie.After-slice-known2 → tie.Start
+start-from-slice-known2 c = leads-from-slice-known2 c .before .before .before .before .before
+
 leads-requires : tie.Need-leads-requires
 leads-requires c κs = search needs
 
@@ -18,8 +28,8 @@ same-length c = search needs
 
 returns : tie.Need-returns
 returns c =
-    let a = c .before .before .before .before .before .before .before .before .before .before .args in
-    let h = sym (c .before .before .before .before .before .leads .ensures) ∙ c .before .before .before .before .if1 .taken in
+    let a = start-from-slice-known2 c .args in
+    let h = sym (leads-from-slice-known2 c .leads .ensures) ∙ then1-from-slice-known2 c .if1 .taken in
     rw h (refl, c .before .before .copy .ensures ∙ copied-whole (now (a .candidate)) (now (a .out)))
 
 returns-2 : tie.Need-returns-2

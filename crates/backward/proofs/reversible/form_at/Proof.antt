@@ -13,6 +13,19 @@ use Rattle.backward.proofs.OneToOne.{form-kept, form-term}
 use Rattle.backward.proofs.reversible.form_at.Statement.{statement}
 use Rattle.backward.proofs.reversible.form_at.Tie as tie
 
+-- the places that the facts below go back to
+abbrev start-from-then1 : tie.Then1 → tie.Start
+start-from-then1 c = c .before .before .before .before
+
+abbrev decode-from-first-shown : tie.After-first-shown → tie.After-decode
+decode-from-first-shown c = c .before .before .before .before
+
+abbrev start-from-decode : tie.After-decode → tie.Start
+start-from-decode c = c .before .before .before .before .before .before
+
+abbrev start-from-first-shown : tie.After-first-shown → tie.Start
+start-from-first-shown c = decode-from-first-shown c .before .before .before .before .before .before
+
 -- the sides of the rule
 abbrev left-of : tie.Start → ℕ → ℕ
 left-of s = sideAt (now (s .args .block)) (s .args .left)
@@ -31,8 +44,9 @@ is-dash-requires c κs = search needs
 
 returns : tie.Need-returns
 returns c =
-    let s = c .before .before .before .before in
-    sym (form-kept (s .args .n) (left-of s) (right-of s) (s .args .i) (sym (c .before .is-dash .ensures) ∙ c .if1 .taken))
+    let s = start-from-then1 c in
+    sym (form-kept (s .args .n) (left-of s) (right-of s) (s .args .i)
+    (sym (c .before .is-dash .ensures) ∙ c .if1 .taken))
 
 add-decode : tie.Need-add-decode
 add-decode c = search needs
@@ -46,11 +60,13 @@ decode-requires c κs = search needs
 -- where the right term is no dash, the left term decides
 left-term :
     (c : tie.After-decode) {term : Term} → c .decode .result ≡ term
-    → keptTerm (c .before .before .before .before .before .before .args .n) (left-of (c .before .before .before .before .before .before)) (right-of (c .before .before .before .before .before .before)) term ≡ formAt (c .before .before .before .before .before .before .args .n) (left-of (c .before .before .before .before .before .before)) (right-of (c .before .before .before .before .before .before)) (c .before .before .before .before .before .before .args .i)
+    → let s = start-from-decode c in
+    keptTerm (s .args .n) (left-of s) (right-of s) term ≡ formAt (s .args .n) (left-of s) (right-of s) (s .args .i)
 left-term c e =
-    let s = c .before .before .before .before .before .before in
+    let s = start-from-decode c in
     ap (keptTerm (s .args .n) (left-of s) (right-of s)) (sym e ∙ c .decode .ensures)
-    ∙ sym (form-term (s .args .n) (left-of s) (right-of s) (s .args .i) (sym (c .before .before .before .is-dash .ensures) ∙ c .before .before .if1 .left))
+    ∙ sym (form-term (s .args .n) (left-of s) (right-of s) (s .args .i)
+    (sym (c .before .before .before .is-dash .ensures) ∙ c .before .before .if1 .left))
 
 enum-told : tie.Need-enum-told
 enum-told c = search needs
@@ -72,9 +88,10 @@ returns-2 c = left-term (c .before .before) (c .enum-told .given .1)
 
 returns-3 : tie.Need-returns-3
 returns-3 c =
-    let s = c .before .before .before .before .before .before .before .before .before .before in
-    ap (λ (j : ℕ). ltb j (s .args .n)) (c .first-shown .ensures) ∙ first-some (shows (left-of s) (right-of s) _) (s .args .n)
-    ∙ left-term (c .before .before .before .before) (c .before .before .term .given .1)
+    let s = start-from-first-shown c in
+    ap (λ (j : ℕ). ltb j (s .args .n)) (c .first-shown .ensures)
+    ∙ first-some (shows (left-of s) (right-of s) _) (s .args .n)
+    ∙ left-term (decode-from-first-shown c) (c .before .before .term .given .1)
 
 returns-4 : tie.Need-returns-4
 returns-4 c = left-term (c .before .before) (c .enum-told2 .given .1)

@@ -33,6 +33,25 @@ Inv-loop block r n left right i₀ i =
 abbrev μ-loop : tie.MeasureT-loop
 μ-loop block r n left right i₀ i = n - i
 
+-- the places that the facts below go back to
+abbrev positions-from-in-loop : tie.In-loop Inv-loop μ-loop → tie.After-positions Inv-loop μ-loop
+positions-from-in-loop c = c .before .before .before .before
+
+abbrev right-at-from-then1 : tie.Then1 Inv-loop μ-loop → tie.After-right-at Inv-loop μ-loop
+right-at-from-then1 c = c .before .before .before .before
+
+abbrev positions-from-loop : tie.After-loop Inv-loop μ-loop → tie.After-positions Inv-loop μ-loop
+positions-from-loop c = c .before .before .before .before
+
+abbrev left-at-from-then1 : tie.Then1 Inv-loop μ-loop → tie.After-left-at Inv-loop μ-loop
+left-at-from-then1 c = right-at-from-then1 c .before
+
+abbrev start-from-in-loop : tie.In-loop Inv-loop μ-loop → tie.Start Inv-loop μ-loop
+start-from-in-loop c = positions-from-in-loop c .before .before
+
+abbrev start-from-loop : tie.After-loop Inv-loop μ-loop → tie.Start Inv-loop μ-loop
+start-from-loop c = positions-from-loop c .before .before
+
 positions-requires : tie.Need-positions-requires Inv-loop μ-loop
 positions-requires c κs = search needs
 
@@ -47,18 +66,33 @@ loop-holds c = (search needs, λ k l. absurd (omega arith))
 
 form-at-requires : tie.Need-form-at-requires Inv-loop μ-loop
 form-at-requires c κs =
-    let a = c .before .before .before .before .before .before .args in
-    let h = c .before .before .before .before .before .before .pre in (
-      omega (arith, left-inside (now (a .block)) (h .0) (a .r) (h .1), c .before .before .before .before .positions .ensures .0, c .before .before .before .left-at .ensures .0),
-      omega (arith, right-inside (now (a .block)) (h .0) (a .r) (h .1), c .before .before .before .before .positions .ensures .0, c .before .before .right-at .ensures .0),
+    let a = start-from-in-loop c .args in
+    let h = start-from-in-loop c .pre in (
+      omega (
+        arith,
+        left-inside (now (a .block)) (h .0) (a .r) (h .1),
+        positions-from-in-loop c .positions .ensures .0,
+        c .before .before .before .left-at .ensures .0,
+      ),
+      omega (
+        arith,
+        right-inside (now (a .block)) (h .0) (a .r) (h .1),
+        positions-from-in-loop c .positions .ensures .0,
+        c .before .before .right-at .ensures .0,
+      ),
       search needs,
     )
 
 returns : tie.Need-returns Inv-loop μ-loop
 returns c =
-    let a = c .before .before .before .before .before .before .before .before .args in
-    sym (all-false (formAt (c .before .before .before .before .before .before .positions .result) (sideAt (now (a .block)) (c .before .before .before .before .before .left-at .result)) (sideAt (now (a .block)) (c .before .before .before .before .right-at .result))) (c .before .before .before .before .before .before .positions .result) (c .before .before .before .loop .i) (omega arith) (sym (c .before .form-at .ensures) ∙ not-true _ (c .if1 .taken)))
-    ∙ same-form (now (a .block)) (a .r) _ _ _ (c .before .before .before .before .before .before .positions .ensures .0) (c .before .before .before .before .before .left-at .ensures .0) (c .before .before .before .before .right-at .ensures .0)
+    let a = start-from-in-loop (c .before .before) .args in
+    let b = now (a .block) in
+    let n = positions-from-in-loop (c .before .before) .positions in
+    let left = left-at-from-then1 c .left-at in
+    let right = right-at-from-then1 c .right-at in
+    sym (all-false (formAt (n .result) (sideAt b (left .result)) (sideAt b (right .result))) (n .result)
+    (c .before .before .before .loop .i) (omega arith) (sym (c .before .form-at .ensures) ∙ not-true _ (c .if1 .taken)))
+    ∙ same-form b (a .r) _ _ _ (n .ensures .0) (left .ensures .0) (right .ensures .0)
 
 add-i : tie.Need-add-i Inv-loop μ-loop
 add-i c = search needs
@@ -67,13 +101,22 @@ loop-less : tie.Need-loop-less Inv-loop μ-loop
 loop-less c = search needs
 
 loop-again : tie.Need-loop-again Inv-loop μ-loop
-loop-again c = (search needs, below-more _ _ (c .before .before .before .loop .inv .1) (sym (c .before .form-at .ensures) ∙ not-false _ (c .if1 .left)))
+loop-again c = (
+  search needs,
+  below-more _ _ (c .before .before .before .loop .inv .1)
+      (sym (c .before .form-at .ensures) ∙ not-false _ (c .if1 .left)),
+)
 
 returns-2 : tie.Need-returns-2 Inv-loop μ-loop
 returns-2 c =
-    let a = c .before .before .before .before .before .before .args in
-    sym (all-passed (formAt (c .before .before .before .before .positions .result) (sideAt (now (a .block)) (c .before .before .before .left-at .result)) (sideAt (now (a .block)) (c .before .before .right-at .result))) (c .before .before .before .before .positions .result) (c .before .loop .i) (omega arith) (c .before .loop .inv .1))
-    ∙ same-form (now (a .block)) (a .r) _ _ _ (c .before .before .before .before .positions .ensures .0) (c .before .before .before .left-at .ensures .0) (c .before .before .right-at .ensures .0)
+    let a = start-from-loop c .args in
+    let b = now (a .block) in
+    let n = positions-from-loop c .positions in
+    let left = c .before .before .before .left-at in
+    let right = c .before .before .right-at in
+    sym (all-passed (formAt (n .result) (sideAt b (left .result)) (sideAt b (right .result))) (n .result)
+    (c .before .loop .i) (omega arith) (c .before .loop .inv .1))
+    ∙ same-form b (a .r) _ _ _ (n .ensures .0) (left .ensures .0) (right .ensures .0)
 
 pub reversible-spec : {M : Type 1} → statement M
 reversible-spec =

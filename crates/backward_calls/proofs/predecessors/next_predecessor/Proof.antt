@@ -9,23 +9,39 @@ use denote.Ref.{now}
 use borrow.Author.Needs.{needs}
 use Rattle.refusals.specs.Answers.{Answer, told, verdict, Outcome, outcome, guarded}
 use Rattle.refusals.specs.Refusals.{verdictOf}
-use Rattle.backward.specs.Predecessors.{after, isFound, writtenOut, stepBack}
+use Rattle.backward.specs.Predecessors.{after, NextState, isFound, writtenOut, Answered, stepBack}
 use Rattle.backward_calls.specs.Predecessors.{stepBackConditions, stepBackFrom}
 use Rattle.backward_calls.proofs.Conditions.{step-back-accepted}
 use Rattle.backward_calls.proofs.predecessors.next_predecessor.Statement.{statement}
 use Rattle.backward_calls.proofs.predecessors.next_predecessor.Tie as tie
 
--- what stands against the call, and the outcome by that
+-- the places that the facts below go back to
+abbrev start-from-told : tie.After-enum-told → tie.Start
+start-from-told c = c .before .before .before .before .before .before .before
+
+abbrev start-from-known : tie.After-known-told → tie.Start
+start-from-known c = c .before .before .before .before .before .before .before .before
+
+abbrev told-from-then1 : tie.Then1 → tie.After-enum-told
+told-from-then1 c = c .before .before .before .before .before
+
+abbrev told-from-else1 : tie.Else1 → tie.After-enum-told
+told-from-else1 c = c .before .before .before .before .before
+
+-- what stands against the call, what stepping back gives, and the outcome by the verdict
 abbrev verdict-of : tie.Start → Answer (Unit {0})
 verdict-of s =
     let a = s .args in
-    verdict (stepBackConditions (now (a .block)) (a .rule) (now (a .state)) (after (now (a .earlier))) (length (now (a .out))))
+    let room = length (now (a .out)) in
+    verdict (stepBackConditions (now (a .block)) (a .rule) (now (a .state)) (after (now (a .earlier))) room)
+
+abbrev next : tie.Start → NextState
+next s = stepBack (now (s .args .block)) (s .args .rule) (now (s .args .state)) (after (now (s .args .earlier)))
 
 abbrev outcome-by : tie.Start → Answer (Unit {0}) → Outcome Bool
 outcome-by s verdict =
-    let a = s .args in
-    let next = stepBack (now (a .block)) (a .rule) (now (a .state)) (after (now (a .earlier))) in
-    guarded verdict (now (a .out)) (outcome (told (isFound next)) (writtenOut next (now (a .out))))
+    let out = now (s .args .out) in
+    guarded verdict out (outcome (told (isFound (next s))) (writtenOut (next s) out))
 
 check-step-back-requires : tie.Need-check-step-back-requires
 check-step-back-requires c κs = search needs
@@ -36,27 +52,33 @@ enum-known-checked c = search needs
 returns : tie.Need-returns
 unfolding stepBackFrom
 returns c =
-    let against = sym (c .before .before .before .check-step-back .ensures) ∙ ap verdictOf (c .before .checked .given .1) in
-    sym (ap (outcome-by (c .before .before .before .before .before .before .before .before)) against)
+    let checked = c .before .before .before .check-step-back .ensures in
+    let against = sym checked ∙ ap verdictOf (c .before .checked .given .1) in
+    sym (ap (outcome-by (start-from-known c)) against)
 
 enum-told : tie.Need-enum-told
 enum-told c = search needs
 
 -- the call is accepted
-accepted : (c : tie.After-enum-told) → verdict-of (c .before .before .before .before .before .before .before) ≡ told tt
+accepted : (c : tie.After-enum-told) → verdict-of (start-from-told c) ≡ told tt
 accepted c = sym (c .before .before .check-step-back .ensures) ∙ ap verdictOf (c .enum-told .given .1)
 
 -- what is told and written then
 told-by :
-    (c : tie.After-enum-told) (answer : Bool) (out : List ℕ) → answer ≡ isFound (stepBack (now (c .before .before .before .before .before .before .before .args .block)) (c .before .before .before .before .before .before .before .args .rule) (now (c .before .before .before .before .before .before .before .args .state)) (after (now (c .before .before .before .before .before .before .before .args .earlier))))
-    → out ≡ writtenOut (stepBack (now (c .before .before .before .before .before .before .before .args .block)) (c .before .before .before .before .before .before .before .args .rule) (now (c .before .before .before .before .before .before .before .args .state)) (after (now (c .before .before .before .before .before .before .before .args .earlier)))) (now (c .before .before .before .before .before .before .before .args .out))
-    → outcome (told answer) out ≡ outcome-by (c .before .before .before .before .before .before .before) (verdict-of (c .before .before .before .before .before .before .before))
-told-by c answer out p q = ap₂ (λ (t : Bool) (l : List ℕ). outcome (told t) l) p q ∙ sym (ap (outcome-by (c .before .before .before .before .before .before .before)) (accepted c))
+    (c : tie.After-enum-told) (answer : Bool) (out : List ℕ)
+    → Answered (next (start-from-told c)) answer (now (start-from-told c .args .out)) out
+    → outcome (told answer) out ≡ outcome-by (start-from-told c) (verdict-of (start-from-told c))
+told-by c answer out h =
+    ap₂ (λ (t : Bool) (l : List ℕ). outcome (told t) l) (h .0) (h .1)
+    ∙ sym (ap (outcome-by (start-from-told c)) (accepted c))
 
 next-predecessor-requires : tie.Need-next-predecessor-requires
 next-predecessor-requires c κs =
-    let a = c .before .before .before .before .before .before .before .before .args in
-    let h = step-back-accepted (now (a .block)) (now (a .state)) (a .rule) (length (now (a .out))) (after (now (a .earlier))) (accepted (c .before)) in
+    let a = start-from-told (c .before) .args in
+    let earlier = after (now (a .earlier)) in
+    let h =
+    step-back-accepted (now (a .block)) (now (a .state)) (a .rule) (length (now (a .out))) earlier
+    (accepted (c .before)) in
     (h .valid, h .rule, h .state, h .earlier-state, h .room-left)
 
 same-length : tie.Need-same-length
@@ -66,7 +88,7 @@ returns-2 : tie.Need-returns-2
 unfolding stepBackFrom
 returns-2 c =
     let e = c .before .before .before .next-predecessor .ensures in
-    told-by (c .before .before .before .before .before) _ _ (sym (c .if1 .taken) ∙ e .0) (e .1)
+    told-by (told-from-then1 c) _ _ (sym (c .if1 .taken) ∙ e .0, e .1)
 
 same-length-2 : tie.Need-same-length-2
 same-length-2 c = search needs
@@ -75,7 +97,7 @@ returns-3 : tie.Need-returns-3
 unfolding stepBackFrom
 returns-3 c =
     let e = c .before .before .before .next-predecessor .ensures in
-    told-by (c .before .before .before .before .before) _ _ (sym (c .if1 .left) ∙ e .0) (e .1)
+    told-by (told-from-else1 c) _ _ (sym (c .if1 .left) ∙ e .0, e .1)
 
 pub next-predecessor-spec : {M : Type 1} → statement M
 next-predecessor-spec =

@@ -19,9 +19,19 @@ use Rattle.backward_calls.specs.Reversing.{reversibleConditions, testRev
 use Rattle.backward_calls.proofs.reversing.test_reversible.Statement.{statement}
 use Rattle.backward_calls.proofs.reversing.test_reversible.Tie as tie
 
--- what stands against the call
+-- the places that the facts below go back to
+abbrev start-from-told : tie.After-enum-told → tie.Start
+start-from-told c = c .before .before .before .before
+
+abbrev start-from-known : tie.After-known-told → tie.Start
+start-from-known c = c .before .before .before .before .before
+
+-- what stands against the call, and the answer by that
 abbrev verdict-of : tie.Start → Answer (Unit {0})
 verdict-of s = verdict (reversibleConditions (now (s .args .block)) (s .args .rule))
+
+abbrev settled : tie.Start → Answer (Unit {0}) → Answer Bool
+settled s verdict = answered verdict (reversible (now (s .args .block)) (s .args .rule))
 
 check-requires : tie.Need-check-requires
 check-requires c κs = search needs
@@ -32,24 +42,28 @@ enum-known-checked c = search needs
 returns : tie.Need-returns
 unfolding testReversible reversibleConditions
 returns c =
-    let a = c .before .before .before .before .before .args in
+    let s = start-from-known c in
     let against = sym (c .before .before .before .check .ensures) ∙ ap verdictOf (c .before .checked .given .1) in
-    sym (ap (λ (v : Answer (Unit {0})). answered v (reversible (now (a .block)) (a .rule))) (verdict-before (blockConditions (now (a .block))) _ _ against))
+    sym (ap (settled s) (verdict-before (blockConditions (now (s .args .block))) _ _ against))
 
 enum-told : tie.Need-enum-told
 enum-told c = search needs
 
 -- the block is accepted, and the rule number decides
-accepted : (c : tie.After-enum-told) → verdict (blockConditions (now (c .before .before .before .before .args .block))) ≡ told tt
+accepted : (c : tie.After-enum-told) → verdict (blockConditions (now (start-from-told c .args .block))) ≡ told tt
 accepted c = sym (c .before .before .check .ensures) ∙ ap verdictOf (c .enum-told .given .1)
 
-valid : (c : tie.After-enum-told) → Valid (now (c .before .before .before .before .args .block))
-valid c = accepted-valid (now (c .before .before .before .before .args .block)) (accepted c)
+valid : (c : tie.After-enum-told) → Valid (now (start-from-told c .args .block))
+valid c = accepted-valid (now (start-from-told c .args .block)) (accepted c)
 
-decided : (c : tie.After-enum-told) (rule : Bool) → ltb (c .before .before .before .before .args .rule) (rules (now (c .before .before .before .before .args .block))) ≡ rule → verdict-of (c .before .before .before .before) ≡ verdict (9 unless rule ∷ [])
+decided :
+    (c : tie.After-enum-told) (rule : Bool)
+    → ltb (start-from-told c .args .rule) (rules (now (start-from-told c .args .block))) ≡ rule
+    → verdict-of (start-from-told c) ≡ verdict (9 unless rule ∷ [])
 unfolding reversibleConditions
 decided c rule p =
-    verdict-behind (blockConditions (now (c .before .before .before .before .args .block))) _ (accepted c) ∙ ap (λ (t : Bool). verdict (9 unless t ∷ [])) p
+    verdict-behind (blockConditions (now (start-from-told c .args .block))) _ (accepted c)
+    ∙ ap (λ (t : Bool). verdict (9 unless t ∷ [])) p
 
 rules-requires : tie.Need-rules-requires
 rules-requires c κs = valid c .sized .head .long
@@ -57,8 +71,16 @@ rules-requires c κs = valid c .sized .head .long
 returns-2 : tie.Need-returns-2
 unfolding testReversible
 returns-2 c =
-    let a = c .before .before .before .before .before .before .args in
-    sym (ap (λ (v : Answer (Unit {0})). answered v (reversible (now (a .block)) (a .rule))) (decided (c .before .before) _ (le-ltb (a .rule) (rules (now (a .block))) (omega arith))))
+    let d = c .before .before in
+    let s = start-from-told d in
+    sym (ap (settled s) (decided d _ (le-ltb (s .args .rule) (rules (now (s .args .block))) (omega arith))))
+
+-- the rule number is right, so the call is accepted
+call-accepted : (c : tie.Else1) → verdict-of (start-from-told (c .before .before)) ≡ told tt
+call-accepted c =
+    let d = c .before .before in
+    let a = start-from-told d .args in
+    decided d _ (lt-ltb (a .rule) (rules (now (a .block))) (omega arith))
 
 reversible-requires : tie.Need-reversible-requires
 reversible-requires c κs = (valid (c .before .before) .sized, omega arith)
@@ -66,14 +88,14 @@ reversible-requires c κs = (valid (c .before .before) .sized, omega arith)
 returns-3 : tie.Need-returns-3
 unfolding testReversible
 returns-3 c =
-    let a = c .before .before .before .before .before .before .before .before .args in
-    sym (ap₂ (answered {A = Bool}) (decided (c .before .before .before .before) _ (lt-ltb (a .rule) (rules (now (a .block))) (omega arith))) (sym (c .before .reversible .ensures) ∙ c .if2 .taken))
+    let told-so = sym (c .before .reversible .ensures) ∙ c .if2 .taken in
+    sym (ap₂ (answered {A = Bool}) (call-accepted (c .before .before)) told-so)
 
 returns-4 : tie.Need-returns-4
 unfolding testReversible
 returns-4 c =
-    let a = c .before .before .before .before .before .before .before .before .args in
-    sym (ap₂ (answered {A = Bool}) (decided (c .before .before .before .before) _ (lt-ltb (a .rule) (rules (now (a .block))) (omega arith))) (sym (c .before .reversible .ensures) ∙ c .if2 .left))
+    let told-so = sym (c .before .reversible .ensures) ∙ c .if2 .left in
+    sym (ap₂ (answered {A = Bool}) (call-accepted (c .before .before)) told-so)
 
 pub test-reversible-spec : {M : Type 1} → statement M
 test-reversible-spec =

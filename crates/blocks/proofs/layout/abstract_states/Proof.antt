@@ -46,8 +46,12 @@ loop-less c = search needs
 
 loop-again : tie.Need-loop-again Inv-loop μ-loop
 loop-again c =
-    let l = c .before .loop in
-    (search needs, power-more (c .before .before .abstracts .result) (l .i) (l .power) (l .inv .1), search needs, search needs)
+    let l = c .before .loop in (
+      search needs,
+      power-more (c .before .before .abstracts .result) (l .i) (l .power) (l .inv .1),
+      search needs,
+      search needs,
+    )
 
 returns : tie.Need-returns Inv-loop μ-loop
 unfolding abstractStates
@@ -62,4 +66,5 @@ returns c =
 pub abstract-states-spec : {M : Type 1} → statement M
 abstract-states-spec =
     tie.close
-    (tie.spec Inv-loop μ-loop positions-requires abstracts-requires loop-holds mul-power add-i loop-less loop-again returns)
+    (tie.spec Inv-loop μ-loop positions-requires abstracts-requires loop-holds mul-power add-i loop-less loop-again
+    returns)

@@ -10,6 +10,13 @@ use Rattle.blocks.specs.Layout.{rules, frameLength}
 use Rattle.blocks.proofs.layout.frame_length.Statement.{statement}
 use Rattle.blocks.proofs.layout.frame_length.Tie as tie
 
+-- the places that the facts below go back to
+abbrev start-from-rule-width : tie.After-rule-width → tie.Start
+start-from-rule-width c = c .before .before .before .before .before
+
+abbrev start-from-positions : tie.After-positions → tie.Start
+start-from-positions c = c .before .before .before .before .before
+
 labels-requires : tie.Need-labels-requires
 labels-requires c κs = search needs
 
@@ -26,7 +33,7 @@ rule-width-requires c κs = search needs
 returns-2 : tie.Need-returns-2
 unfolding frameLength
 returns-2 c =
-    let s = c .before .before .before .before .before in
+    let s = start-from-rule-width c in
     let i = s .args .i in
     let among : leb i (rules (now (s .args .block))) ≡ _ = le-leb i (rules (now (s .args .block))) (omega arith) in
     rw (ne-eqb i 0 (c .before .before .before .if1 .left), among) (c .rule-width .ensures .0)
@@ -37,7 +44,7 @@ positions-requires c κs = search needs
 returns-3 : tie.Need-returns-3
 unfolding frameLength
 returns-3 c =
-    let s = c .before .before .before .before .before in
+    let s = start-from-positions c in
     let i = s .args .i in
     let behind : leb i (rules (now (s .args .block))) ≡ _ = lt-leb i (rules (now (s .args .block))) (omega arith) in
     rw (ne-eqb i 0 (c .before .before .before .if1 .left), behind) (c .positions .ensures .0)

@@ -10,6 +10,10 @@ use Rattle.blocks.proofs.Offsets.{goals-reach}
 use Rattle.blocks.proofs.layout.goal_at.Statement.{statement}
 use Rattle.blocks.proofs.layout.goal_at.Tie as tie
 
+-- the places that the facts below go back to
+abbrev start-from-positions : tie.After-positions → tie.Start
+start-from-positions c = c .before .before .before .before
+
 rules-requires : tie.Need-rules-requires
 rules-requires c κs = search needs
 
@@ -22,27 +26,27 @@ positions-requires c κs = search needs
 -- the product is the definition's
 product :
     (c : tie.After-positions)
-    → c .before .before .before .before .args .g * c .positions .result
-    ≡ c .before .before .before .before .args .g * positions (now (c .before .before .before .before .args .block))
-product c = ap (λ (n : ℕ). c .before .before .before .before .args .g * n) (c .positions .ensures .0)
+    → start-from-positions c .args .g * c .positions .result
+    ≡ start-from-positions c .args .g * positions (now (start-from-positions c .args .block))
+product c = ap (λ (n : ℕ). start-from-positions c .args .g * n) (c .positions .ensures .0)
 
 mul-result : tie.Need-mul-result
 mul-result c =
-    let a = c .before .before .before .before .args in
-    let p = c .before .before .before .before .pre in
+    let a = start-from-positions c .args in
+    let p = start-from-positions c .pre in
     omega (arith, product c, goals-reach (now (a .block)) (p .0) (a .g) (p .1))
 
 add-result : tie.Need-add-result
 add-result c =
-    let a = c .before .before .before .before .args in
-    let p = c .before .before .before .before .pre in
+    let a = start-from-positions c .args in
+    let p = start-from-positions c .pre in
     omega (arith, product c, goals-reach (now (a .block)) (p .0) (a .g) (p .1))
 
 returns : tie.Need-returns
 unfolding goalAt
 returns c =
-    let a = c .before .before .before .before .args in
-    let p = c .before .before .before .before .pre in
+    let a = start-from-positions c .args in
+    let p = start-from-positions c .pre in
     let e = ap (ruleAt (now (a .block))) (c .before .before .rules .ensures .0) in
     omega (arith, e, product c, goals-reach (now (a .block)) (p .0) (a .g) (p .1))
 

@@ -7,6 +7,10 @@ use Rattle.blocks.proofs.Offsets.{relabelled-length-is, map-fits}
 use Rattle.blocks.proofs.layout.relabelled_length.Statement.{statement}
 use Rattle.blocks.proofs.layout.relabelled_length.Tie as tie
 
+-- the places that the facts below go back to
+abbrev start-from-abstracts : tie.After-abstracts → tie.Start
+start-from-abstracts c = c .before .before .before .before
+
 block-length-requires : tie.Need-block-length-requires
 block-length-requires c κs = search needs
 
@@ -26,7 +30,7 @@ add-result c = search needs
 
 returns : tie.Need-returns
 returns c =
-    let s = c .before .before .before .before in
+    let s = start-from-abstracts c in
     let b = now (s .args .block) in
     omega (arith, map-fits b, relabelled-length-is b)
 

@@ -21,6 +21,13 @@ Inv-loop block count r₀ r =
 abbrev μ-loop : tie.MeasureT-loop
 μ-loop block rules r₀ r = rules - r
 
+-- the places that the facts below go back to
+abbrev start-from-loop : tie.After-loop Inv-loop μ-loop → tie.Start Inv-loop μ-loop
+start-from-loop c = c .before .before .before .before
+
+abbrev start-from-then1 : tie.Then1 Inv-loop μ-loop → tie.Start Inv-loop μ-loop
+start-from-then1 c = c .before .before .before .before .before .before
+
 rules-requires : tie.Need-rules-requires Inv-loop μ-loop
 rules-requires c κs = search needs
 
@@ -33,8 +40,9 @@ rule-bound-requires c κs = search needs
 returns : tie.Need-returns Inv-loop μ-loop
 unfolding boundOk
 returns c =
-    let b = now (c .before .before .before .before .before .before .args .block) in
-    sym (all-false (ruleBound b) (rules b) (c .before .before .before .loop .r) (omega arith) (sym (c .before .rule-bound .ensures) ∙ not-true _ (c .if1 .taken)))
+    let b = now (start-from-then1 c .args .block) in
+    sym (all-false (ruleBound b) (rules b) (c .before .before .before .loop .r) (omega arith)
+    (sym (c .before .rule-bound .ensures) ∙ not-true _ (c .if1 .taken)))
 
 add-r : tie.Need-add-r Inv-loop μ-loop
 add-r c = search needs
@@ -50,7 +58,7 @@ loop-again c =
 returns-2 : tie.Need-returns-2 Inv-loop μ-loop
 unfolding boundOk
 returns-2 c =
-    let b = now (c .before .before .before .before .args .block) in
+    let b = now (start-from-loop c .args .block) in
     sym (all-passed (ruleBound b) (rules b) (c .before .loop .r) (omega arith) (c .before .loop .inv .2))
 
 pub bound-ok-spec : {M : Type 1} → statement M

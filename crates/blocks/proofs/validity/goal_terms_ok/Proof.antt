@@ -27,6 +27,19 @@ Inv-loop block count g₀ g =
 abbrev μ-loop : tie.MeasureT-loop
 μ-loop block goals g₀ g = goals - g
 
+-- the places that the facts below go back to
+abbrev loop-from-then1 : tie.Then1 Inv-loop μ-loop → tie.At-loop Inv-loop μ-loop
+loop-from-then1 c = c .before .before .before .before
+
+abbrev loop-from-else1 : tie.Else1 Inv-loop μ-loop → tie.At-loop Inv-loop μ-loop
+loop-from-else1 c = c .before .before .before .before
+
+abbrev start-from-loop : tie.After-loop Inv-loop μ-loop → tie.Start Inv-loop μ-loop
+start-from-loop c = c .before .before .before .before
+
+abbrev start-from-goal-at : tie.After-goal-at Inv-loop μ-loop → tie.Start Inv-loop μ-loop
+start-from-goal-at c = c .before .before .before .before .before
+
 goals-requires : tie.Need-goals-requires Inv-loop μ-loop
 goals-requires c κs = search needs
 
@@ -38,20 +51,24 @@ goal-at-requires c κs = search needs
 
 side-ok-requires : tie.Need-side-ok-requires Inv-loop μ-loop
 side-ok-requires c κs =
-    let s = c .before .before .before .before .before in
+    let s = start-from-goal-at c in
     (s .pre, omega (arith, goal-inside (now (s .args .block)) (s .pre) (c .before .before .loop .g) (omega arith)))
 
 -- what `side_ok` answers in a turn
-answer : (c : tie.After-side-ok Inv-loop μ-loop) → c .side-ok .result ≡ holds (now (c .before .before .before .before .before .before .args .block)) (c .before .before .before .loop .g)
+answer :
+    (c : tie.After-side-ok Inv-loop μ-loop)
+    → c .side-ok .result
+    ≡ holds (now (start-from-goal-at (c .before) .args .block)) (c .before .before .before .loop .g)
 answer c =
-    let b = now (c .before .before .before .before .before .before .args .block) in
+    let b = now (start-from-goal-at (c .before) .args .block) in
     c .side-ok .ensures ∙ ap (λ (at : ℕ). sideOk b (sideAt b at)) (c .before .goal-at .ensures .0)
 
 returns : tie.Need-returns Inv-loop μ-loop
 unfolding goalTermsOk
 returns c =
-    let b = now (c .before .before .before .before .before .before .before .args .block) in
-    sym (all-false (holds b) (goals b) (c .before .before .before .before .loop .g) (omega arith) (sym (answer (c .before)) ∙ not-true _ (c .if1 .taken)))
+    let b = now (start-from-goal-at (c .before .before) .args .block) in
+    sym (all-false (holds b) (goals b) (loop-from-then1 c .loop .g) (omega arith)
+    (sym (answer (c .before)) ∙ not-true _ (c .if1 .taken)))
 
 add-g : tie.Need-add-g Inv-loop μ-loop
 add-g c = search needs
@@ -61,13 +78,13 @@ loop-less c = search needs
 
 loop-again : tie.Need-loop-again Inv-loop μ-loop
 loop-again c =
-    let inv = c .before .before .before .before .loop .inv in
+    let inv = loop-from-else1 c .loop .inv in
     (inv .0, search needs, below-more _ _ (inv .2) (sym (answer (c .before)) ∙ not-false _ (c .if1 .left)))
 
 returns-2 : tie.Need-returns-2 Inv-loop μ-loop
 unfolding goalTermsOk
 returns-2 c =
-    let b = now (c .before .before .before .before .args .block) in
+    let b = now (start-from-loop c .args .block) in
     sym (all-passed (holds b) (goals b) (c .before .loop .g) (omega arith) (c .before .loop .inv .2))
 
 pub goal-terms-ok-spec : {M : Type 1} → statement M

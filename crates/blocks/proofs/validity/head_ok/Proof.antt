@@ -14,6 +14,19 @@ use Rattle.blocks.proofs.Accepted.{sizes}
 use Rattle.blocks.proofs.validity.head_ok.Statement.{statement}
 use Rattle.blocks.proofs.validity.head_ok.Tie as tie
 
+-- the places that the facts below go back to
+abbrev sizes-ok-from-power-ok : tie.After-power-ok → tie.After-sizes-ok
+sizes-ok-from-power-ok c = c .before .before .before .before
+
+abbrev start-from-else2 : tie.Else2 → tie.Start
+start-from-else2 c = c .before .before .before .before
+
+abbrev else1-from-power-ok : tie.After-power-ok → tie.Else1
+else1-from-power-ok c = sizes-ok-from-power-ok c .before
+
+abbrev start-from-positions : tie.After-positions → tie.Start
+start-from-positions c = c .before .before .before .before .before .before
+
 returns : tie.Need-returns
 unfolding headOk
 returns c = simp (lt-leb _ _ (c .if1 .taken))
@@ -29,20 +42,27 @@ positions-requires c κs = search needs
 
 power-ok-requires : tie.Need-power-ok-requires
 power-ok-requires c κs =
-    let s = sizes (now (c .before .before .before .before .before .before .args .block)) (sym (c .before .before .before .sizes-ok .ensures) ∙ c .before .before .if2 .taken) in
+    let s =
+    sizes (now (start-from-positions c .args .block))
+    (sym (c .before .before .before .sizes-ok .ensures) ∙ c .before .before .if2 .taken) in
     (omega arith, omega arith, omega arith)
 
 returns-2 : tie.Need-returns-2
 unfolding headOk abstractStates
 returns-2 c =
-    let b = now (c .before .before .before .before .before .before .before .args .block) in
-    c .power-ok .ensures ∙ ap₂ (λ (k n : ℕ). leb (k ^ n) 16384) (c .before .before .abstracts .ensures .0) (c .before .positions .ensures .0)
-    ∙ sym (rw (le-leb 5 (length b) (c .before .before .before .before .before .if1 .left), sym (c .before .before .before .before .sizes-ok .ensures) ∙ c .before .before .before .if2 .taken))
+    let b = now (start-from-positions (c .before) .args .block) in
+    c .power-ok .ensures
+    ∙ ap₂ (λ (k n : ℕ). leb (k ^ n) 16384) (c .before .before .abstracts .ensures .0) (c .before .positions .ensures .0)
+    ∙ sym (rw (
+      le-leb 5 (length b) (else1-from-power-ok c .if1 .left),
+      sym (sizes-ok-from-power-ok c .sizes-ok .ensures)
+          ∙ c .before .before .before .if2 .taken,
+    ))
 
 returns-3 : tie.Need-returns-3
 unfolding headOk
 returns-3 c =
-    let b = now (c .before .before .before .before .args .block) in
+    let b = now (start-from-else2 c .args .block) in
     sym (rw (le-leb 5 (length b) (c .before .before .if1 .left), sym (c .before .sizes-ok .ensures) ∙ c .if2 .left))
 
 pub head-ok-spec : {M : Type 1} → statement M

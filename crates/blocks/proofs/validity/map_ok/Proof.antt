@@ -27,6 +27,22 @@ Inv-loop block count limit x₀ x =
 abbrev μ-loop : tie.MeasureT-loop
 μ-loop block labels abstracts x₀ x = labels - x
 
+-- the places that the facts below go back to
+abbrev loop-from-then1 : tie.Then1 Inv-loop μ-loop → tie.At-loop Inv-loop μ-loop
+loop-from-then1 c = c .before .before .before .before
+
+abbrev loop-from-else1 : tie.Else1 Inv-loop μ-loop → tie.At-loop Inv-loop μ-loop
+loop-from-else1 c = c .before .before .before .before
+
+abbrev start-from-loop : tie.After-loop Inv-loop μ-loop → tie.Start Inv-loop μ-loop
+start-from-loop c = c .before .before .before .before .before
+
+abbrev start-from-then1 : tie.Then1 Inv-loop μ-loop → tie.Start Inv-loop μ-loop
+start-from-then1 c = loop-from-then1 c .before .before .before .before
+
+abbrev start-from-else1 : tie.Else1 Inv-loop μ-loop → tie.Start Inv-loop μ-loop
+start-from-else1 c = loop-from-else1 c .before .before .before .before
+
 labels-requires : tie.Need-labels-requires Inv-loop μ-loop
 labels-requires c κs = search needs
 
@@ -45,8 +61,8 @@ wide-requires c κs = search needs
 returns : tie.Need-returns Inv-loop μ-loop
 unfolding mapOk
 returns c =
-    let b = now (c .before .before .before .before .before .before .before .before .args .block) in
-    let x = c .before .before .before .before .loop .x in
+    let b = now (start-from-then1 c .args .block) in
+    let x = loop-from-then1 c .loop .x in
     sym (all-false (holds b) (labels b) x (omega arith) (le-ltb (mapByte b x) (abstracts b) (omega arith)))
 
 add-x : tie.Need-add-x Inv-loop μ-loop
@@ -57,15 +73,15 @@ loop-less c = search needs
 
 loop-again : tie.Need-loop-again Inv-loop μ-loop
 loop-again c =
-    let b = now (c .before .before .before .before .before .before .before .before .args .block) in
-    let inv = c .before .before .before .before .loop .inv in
-    let small = lt-ltb (mapByte b (c .before .before .before .before .loop .x)) (abstracts b) (omega arith) in
+    let b = now (start-from-else1 c .args .block) in
+    let inv = loop-from-else1 c .loop .inv in
+    let small = lt-ltb (mapByte b (loop-from-else1 c .loop .x)) (abstracts b) (omega arith) in
     (inv .0, inv .1, search needs, below-more _ _ (inv .3) small)
 
 returns-2 : tie.Need-returns-2 Inv-loop μ-loop
 unfolding mapOk
 returns-2 c =
-    let b = now (c .before .before .before .before .before .args .block) in
+    let b = now (start-from-loop c .args .block) in
     sym (all-passed (holds b) (labels b) (c .before .loop .x) (omega arith) (c .before .loop .inv .3))
 
 pub map-ok-spec : {M : Type 1} → statement M

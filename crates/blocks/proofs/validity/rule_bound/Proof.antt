@@ -30,6 +30,22 @@ Inv-loop block r n left right i₀ i =
 abbrev μ-loop : tie.MeasureT-loop
 μ-loop block r n left right i₀ i = n - i
 
+-- the places that the facts below go back to
+abbrev start-from-right-at : tie.After-right-at Inv-loop μ-loop → tie.Start Inv-loop μ-loop
+start-from-right-at c = c .before .before .before .before
+
+abbrev right-at-from-term-bound : tie.After-term-bound Inv-loop μ-loop → tie.After-right-at Inv-loop μ-loop
+right-at-from-term-bound c = c .before .before .before .before
+
+abbrev loop-from-then1 : tie.Then1 Inv-loop μ-loop → tie.At-loop Inv-loop μ-loop
+loop-from-then1 c = c .before .before .before .before
+
+abbrev loop-from-else1 : tie.Else1 Inv-loop μ-loop → tie.At-loop Inv-loop μ-loop
+loop-from-else1 c = c .before .before .before .before
+
+abbrev start-from-term-bound : tie.After-term-bound Inv-loop μ-loop → tie.Start Inv-loop μ-loop
+start-from-term-bound c = right-at-from-term-bound c .before .before .before .before
+
 positions-requires : tie.Need-positions-requires Inv-loop μ-loop
 positions-requires c κs = search needs
 
@@ -41,8 +57,8 @@ right-at-requires c κs = search needs
 
 loop-holds : tie.Need-loop-holds Inv-loop μ-loop
 loop-holds c =
-    let a = c .before .before .before .before .args in
-    let h = c .before .before .before .before .pre in (
+    let a = start-from-right-at c .args in
+    let h = start-from-right-at c .pre in (
       search needs,
       search needs,
       search needs,
@@ -64,22 +80,24 @@ term-bound-requires c κs = search needs
 -- what `term_bound` answers in a turn
 answer :
     (c : tie.After-term-bound Inv-loop μ-loop)
-    → c .term-bound .result ≡ holds (now (c .before .before .before .before .before .before .before .before .args .block)) (c .before .before .before .before .before .before .before .before .args .r) (c .before .before .before .loop .i)
+    → c .term-bound .result
+    ≡ holds (now (start-from-term-bound c .args .block)) (start-from-term-bound c .args .r)
+    (c .before .before .before .loop .i)
 answer c =
-    let b = now (c .before .before .before .before .before .before .before .before .args .block) in
+    let b = now (start-from-term-bound c .args .block) in
     let i = c .before .before .before .loop .i in
     let inv = c .before .before .before .loop .inv in
     let test : ℕ → ℕ → ℕ → Bool = λ n left right. boundIn n (sideAt b left) (termOf (sideAt b right i)) in
     c .term-bound .ensures
-    ∙ ap₂ (λ (n left : ℕ). test n left (c .before .before .before .before .right-at .result)) (inv .0) (inv .1)
-    ∙ ap (test (positions b) (leftAt b (c .before .before .before .before .before .before .before .before .args .r))) (inv .2)
+    ∙ ap₂ (λ (n left : ℕ). test n left (right-at-from-term-bound c .right-at .result)) (inv .0) (inv .1)
+    ∙ ap (test (positions b) (leftAt b (start-from-term-bound c .args .r))) (inv .2)
 
 returns : tie.Need-returns Inv-loop μ-loop
 unfolding ruleBound
 returns c =
-    let a = c .before .before .before .before .before .before .before .before .before .args in
+    let a = start-from-term-bound (c .before) .args in
     let b = now (a .block) in
-    sym (all-false (holds b (a .r)) (positions b) (c .before .before .before .before .loop .i) (omega arith)
+    sym (all-false (holds b (a .r)) (positions b) (loop-from-then1 c .loop .i) (omega arith)
     (sym (answer (c .before)) ∙ not-true _ (c .if1 .taken)))
 
 add-i : tie.Need-add-i Inv-loop μ-loop
@@ -90,7 +108,7 @@ loop-less c = search needs
 
 loop-again : tie.Need-loop-again Inv-loop μ-loop
 loop-again c =
-    let inv = c .before .before .before .before .loop .inv in (
+    let inv = loop-from-else1 c .loop .inv in (
       inv .0,
       inv .1,
       inv .2,
@@ -103,7 +121,7 @@ loop-again c =
 returns-2 : tie.Need-returns-2 Inv-loop μ-loop
 unfolding ruleBound
 returns-2 c =
-    let a = c .before .before .before .before .before .before .args in
+    let a = start-from-right-at (c .before .before) .args in
     let b = now (a .block) in
     sym (all-passed (holds b (a .r)) (positions b) (c .before .loop .i) (omega arith) (c .before .loop .inv .6))
 

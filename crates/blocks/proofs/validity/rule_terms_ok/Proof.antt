@@ -27,6 +27,22 @@ Inv-loop block count r₀ r =
 abbrev μ-loop : tie.MeasureT-loop
 μ-loop block rules r₀ r = rules - r
 
+-- the places that the facts below go back to
+abbrev loop-from-right-at : tie.After-right-at Inv-loop μ-loop → tie.At-loop Inv-loop μ-loop
+loop-from-right-at c = c .before .before .before .before
+
+abbrev left-at-from-and : tie.After-and Inv-loop μ-loop → tie.After-left-at Inv-loop μ-loop
+left-at-from-and c = c .before .before .before .before
+
+abbrev start-from-loop : tie.After-loop Inv-loop μ-loop → tie.Start Inv-loop μ-loop
+start-from-loop c = c .before .before .before .before
+
+abbrev start-from-left-at : tie.After-left-at Inv-loop μ-loop → tie.Start Inv-loop μ-loop
+start-from-left-at c = c .before .before .before .before .before
+
+abbrev start-from-and : tie.After-and Inv-loop μ-loop → tie.Start Inv-loop μ-loop
+start-from-and c = loop-from-right-at (c .before .before) .before .before .before
+
 rules-requires : tie.Need-rules-requires Inv-loop μ-loop
 rules-requires c κs = search needs
 
@@ -38,7 +54,7 @@ left-at-requires c κs = search needs
 
 side-ok-requires : tie.Need-side-ok-requires Inv-loop μ-loop
 side-ok-requires c κs =
-    let s = c .before .before .before .before .before in
+    let s = start-from-left-at c in
     (s .pre, omega (arith, left-inside (now (s .args .block)) (s .pre) (c .before .before .loop .r) (omega arith)))
 
 right-at-requires : tie.Need-right-at-requires Inv-loop μ-loop
@@ -46,25 +62,29 @@ right-at-requires c κs = search needs
 
 side-ok-requires-2 : tie.Need-side-ok-requires-2 Inv-loop μ-loop
 side-ok-requires-2 c κs =
-    let s = c .before .before .before .before .before .before .before in
-    (s .pre, omega (arith, right-inside (now (s .args .block)) (s .pre) (c .before .before .before .before .loop .r) (omega arith)))
+    let s = start-from-left-at (c .before .before) in
+    (s .pre, omega (arith, right-inside (now (s .args .block)) (s .pre) (loop-from-right-at c .loop .r) (omega arith)))
 
 and-requires : tie.Need-and-requires Inv-loop μ-loop
 and-requires c κs = search needs
 
 -- what `and` answers in a turn
-answer : (c : tie.After-and Inv-loop μ-loop) → c .and .result ≡ holds (now (c .before .before .before .before .before .before .before .before .before .args .block)) (c .before .before .before .before .before .before .loop .r)
+answer :
+    (c : tie.After-and Inv-loop μ-loop)
+    → c .and .result ≡ holds (now (start-from-and c .args .block)) (loop-from-right-at (c .before .before) .loop .r)
 answer c =
-    let b = now (c .before .before .before .before .before .before .before .before .before .args .block) in
+    let b = now (start-from-and c .args .block) in
     c .and .ensures
-    ∙ ap₂ _&&_ (c .before .before .before .side-ok .ensures ∙ ap (λ (at : ℕ). sideOk b (sideAt b at)) (c .before .before .before .before .left-at .ensures .0))
+    ∙ ap₂ _&&_ (c .before .before .before .side-ok .ensures
+    ∙ ap (λ (at : ℕ). sideOk b (sideAt b at)) (left-at-from-and c .left-at .ensures .0))
     (c .before .side-ok2 .ensures ∙ ap (λ (at : ℕ). sideOk b (sideAt b at)) (c .before .before .right-at .ensures .0))
 
 returns : tie.Need-returns Inv-loop μ-loop
 unfolding ruleTermsOk
 returns c =
-    let b = now (c .before .before .before .before .before .before .before .before .before .before .args .block) in
-    sym (all-false (holds b) (rules b) (c .before .before .before .before .before .before .before .loop .r) (omega arith) (sym (answer (c .before)) ∙ not-true _ (c .if1 .taken)))
+    let b = now (start-from-and (c .before) .args .block) in
+    sym (all-false (holds b) (rules b) (loop-from-right-at (c .before .before .before) .loop .r) (omega arith)
+    (sym (answer (c .before)) ∙ not-true _ (c .if1 .taken)))
 
 add-r : tie.Need-add-r Inv-loop μ-loop
 add-r c = search needs
@@ -74,13 +94,13 @@ loop-less c = search needs
 
 loop-again : tie.Need-loop-again Inv-loop μ-loop
 loop-again c =
-    let inv = c .before .before .before .before .before .before .before .loop .inv in
+    let inv = loop-from-right-at (c .before .before .before) .loop .inv in
     (inv .0, search needs, below-more _ _ (inv .2) (sym (answer (c .before)) ∙ not-false _ (c .if1 .left)))
 
 returns-2 : tie.Need-returns-2 Inv-loop μ-loop
 unfolding ruleTermsOk
 returns-2 c =
-    let b = now (c .before .before .before .before .args .block) in
+    let b = now (start-from-loop c .args .block) in
     sym (all-passed (holds b) (rules b) (c .before .loop .r) (omega arith) (c .before .loop .inv .2))
 
 pub rule-terms-ok-spec : {M : Type 1} → statement M

@@ -27,6 +27,16 @@ Inv-loop block at n i₀ i =
 abbrev μ-loop : tie.MeasureT-loop
 μ-loop block at n i₀ i = n - i
 
+-- the places that the facts below go back to
+abbrev loop-from-term-ok : tie.After-term-ok Inv-loop μ-loop → tie.At-loop Inv-loop μ-loop
+loop-from-term-ok c = c .before .before .before .before
+
+abbrev start-from-loop : tie.After-loop Inv-loop μ-loop → tie.Start Inv-loop μ-loop
+start-from-loop c = c .before .before .before .before
+
+abbrev start-from-term-ok : tie.After-term-ok Inv-loop μ-loop → tie.Start Inv-loop μ-loop
+start-from-term-ok c = loop-from-term-ok c .before .before .before
+
 positions-requires : tie.Need-positions-requires Inv-loop μ-loop
 positions-requires c κs = search needs
 
@@ -48,18 +58,19 @@ term-ok-requires c κs = search needs
 -- what `term_ok` answers in a turn
 answer :
     (c : tie.After-term-ok Inv-loop μ-loop)
-    → c .term-ok .result ≡ holds (now (c .before .before .before .before .before .before .before .args .block)) (c .before .before .before .before .before .before .before .args .at) (c .before .before .before .before .loop .i)
+    → c .term-ok .result
+    ≡ holds (now (start-from-term-ok c .args .block)) (start-from-term-ok c .args .at) (loop-from-term-ok c .loop .i)
 answer c =
-    let a = c .before .before .before .before .before .before .before .args in
-    let term = termOf (sideAt (now (a .block)) (a .at) (c .before .before .before .before .loop .i)) in
+    let a = start-from-term-ok c .args in
+    let term = termOf (sideAt (now (a .block)) (a .at) (loop-from-term-ok c .loop .i)) in
     c .term-ok .ensures ∙ ap (λ (n : ℕ). termOk n term) (c .before .label-count .ensures .0)
 
 returns : tie.Need-returns Inv-loop μ-loop
 unfolding sideOk
 returns c =
-    let a = c .before .before .before .before .before .before .before .before .args in
+    let a = start-from-term-ok (c .before) .args in
     let b = now (a .block) in
-    sym (all-false (holds b (a .at)) (positions b) (c .before .before .before .before .before .loop .i) (omega arith)
+    sym (all-false (holds b (a .at)) (positions b) (loop-from-term-ok (c .before) .loop .i) (omega arith)
     (sym (answer (c .before)) ∙ not-true _ (c .if1 .taken)))
 
 add-i : tie.Need-add-i Inv-loop μ-loop
@@ -70,13 +81,13 @@ loop-less c = search needs
 
 loop-again : tie.Need-loop-again Inv-loop μ-loop
 loop-again c =
-    let inv = c .before .before .before .before .before .loop .inv in
+    let inv = loop-from-term-ok (c .before) .loop .inv in
     (inv .0, search needs, below-more _ _ (inv .2) (sym (answer (c .before)) ∙ not-false _ (c .if1 .left)))
 
 returns-2 : tie.Need-returns-2 Inv-loop μ-loop
 unfolding sideOk
 returns-2 c =
-    let a = c .before .before .before .before .args in
+    let a = start-from-loop c .args in
     let b = now (a .block) in
     sym (all-passed (holds b (a .at)) (positions b) (c .before .loop .i) (omega arith) (c .before .loop .inv .2))
 

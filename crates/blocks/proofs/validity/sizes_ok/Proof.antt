@@ -9,6 +9,37 @@ use Rattle.blocks.specs.Validity.{within, sizesOk}
 use Rattle.blocks.proofs.validity.sizes_ok.Statement.{statement}
 use Rattle.blocks.proofs.validity.sizes_ok.Tie as tie
 
+-- the places that the facts below go back to
+abbrev lies-within3-from-and4 : tie.After-and4 → tie.After-lies-within3
+lies-within3-from-and4 c = c .before .before .before .before
+
+abbrev labels2-from-and4 : tie.After-and4 → tie.After-labels2
+labels2-from-and4 c = lies-within3-from-and4 c .before
+
+abbrev and2-from-and4 : tie.After-and4 → tie.After-and2
+and2-from-and4 c = labels2-from-and4 c .before
+
+abbrev lies-within2-from-and4 : tie.After-and4 → tie.After-lies-within2
+lies-within2-from-and4 c = and2-from-and4 c .before
+
+abbrev labels-from-and4 : tie.After-and4 → tie.After-labels
+labels-from-and4 c = lies-within2-from-and4 c .before
+
+abbrev abstracts-from-and4 : tie.After-and4 → tie.After-abstracts
+abstracts-from-and4 c = labels-from-and4 c .before
+
+abbrev and-from-and4 : tie.After-and4 → tie.After-and
+and-from-and4 c = abstracts-from-and4 c .before
+
+abbrev lies-within-from-and4 : tie.After-and4 → tie.After-lies-within
+lies-within-from-and4 c = and-from-and4 c .before
+
+abbrev goals-from-and4 : tie.After-and4 → tie.After-goals
+goals-from-and4 c = lies-within-from-and4 c .before
+
+abbrev rules-from-and4 : tie.After-and4 → tie.After-rules
+rules-from-and4 c = goals-from-and4 c .before
+
 rules-requires : tie.Need-rules-requires
 rules-requires c κs = search needs
 
@@ -54,13 +85,20 @@ and-requires-4 c κs = search needs
 returns : tie.Need-returns
 unfolding sizesOk
 returns c =
-    let r = ap (λ (r : ℕ). leb r 64) (c .before .before .before .before .before .before .before .before .before .before .before .before .before .rules .ensures .0) in
-    let g = c .before .before .before .before .before .before .before .before .before .before .before .lies-within .ensures ∙ ap (λ (g : ℕ). within 1 g 8) (c .before .before .before .before .before .before .before .before .before .before .before .before .goals .ensures .0) in
-    let k = c .before .before .before .before .before .before .before .lies-within2 .ensures ∙ ap₂ (within 1) (c .before .before .before .before .before .before .before .before .before .abstracts .ensures .0) (c .before .before .before .before .before .before .before .before .labels .ensures .0) in
-    let l = c .before .before .before .before .lies-within3 .ensures ∙ ap (λ (l : ℕ). within 1 l 16) (c .before .before .before .before .before .labels2 .ensures .0) in
-    let n = c .before .lies-within4 .ensures ∙ ap (λ (n : ℕ). within 1 n 16) (c .before .before .positions .ensures .0) in
-    let from-rules = c .before .before .before .before .before .before .before .before .before .before .and .ensures ∙ ap₂ _&&_ r g in
-    let from-abstracts = c .before .before .before .before .before .before .and2 .ensures ∙ ap₂ _&&_ k from-rules in
+    let r = ap (λ (r : ℕ). leb r 64) (rules-from-and4 c .rules .ensures .0) in
+    let g =
+    lies-within-from-and4 c .lies-within .ensures
+    ∙ ap (λ (g : ℕ). within 1 g 8) (goals-from-and4 c .goals .ensures .0) in
+    let k =
+    lies-within2-from-and4 c .lies-within2 .ensures
+    ∙ ap₂ (within 1) (abstracts-from-and4 c .abstracts .ensures .0) (labels-from-and4 c .labels .ensures .0) in
+    let l =
+    lies-within3-from-and4 c .lies-within3 .ensures
+    ∙ ap (λ (l : ℕ). within 1 l 16) (labels2-from-and4 c .labels2 .ensures .0) in
+    let n =
+    c .before .lies-within4 .ensures ∙ ap (λ (n : ℕ). within 1 n 16) (c .before .before .positions .ensures .0) in
+    let from-rules = and-from-and4 c .and .ensures ∙ ap₂ _&&_ r g in
+    let from-abstracts = and2-from-and4 c .and2 .ensures ∙ ap₂ _&&_ k from-rules in
     let from-labels = c .before .before .before .and3 .ensures ∙ ap₂ _&&_ l from-abstracts in
     c .and4 .ensures ∙ ap₂ _&&_ n from-labels
 

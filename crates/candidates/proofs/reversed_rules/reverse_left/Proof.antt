@@ -8,7 +8,8 @@ use Rattle.candidates.proofs.reversed_rules.reverse_left.Statement.{sta
 use Rattle.candidates.proofs.reversed_rules.reverse_left.Tie as tie
 
 abbrev Inv-loop : tie.InvT-loop
-Inv-loop block left right n sides₀ i₀ sides i = (n ≤ 16) × (i ≤ n) × (left + n ≤ length block) × (right + n ≤ length block) × (length sides ≡ 32)
+Inv-loop block left right n sides₀ i₀ sides i =
+    (n ≤ 16) × (i ≤ n) × (left + n ≤ length block) × (right + n ≤ length block) × (length sides ≡ 32)
 
 abbrev μ-loop : tie.MeasureT-loop
 μ-loop block left right n sides₀ i₀ sides i = n - i

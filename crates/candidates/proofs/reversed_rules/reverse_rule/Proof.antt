@@ -10,14 +10,24 @@ use Rattle.blocks.proofs.Offsets.{left-inside, right-inside}
 use Rattle.candidates.proofs.reversed_rules.reverse_rule.Statement.{statement}
 use Rattle.candidates.proofs.reversed_rules.reverse_rule.Tie as tie
 
+-- the places that the facts below go back to
+abbrev start-from-right-at : tie.After-right-at → tie.Start
+start-from-right-at c = c .before .before .before .before
+
+abbrev right-at-from-sides4 : tie.After-sides4 → tie.After-right-at
+right-at-from-sides4 c = c .before .before .before .before .before .before .before .before
+
+abbrev start-from-groups-of : tie.After-groups-of → tie.Start
+start-from-groups-of c = right-at-from-sides4 (c .before) .before .before .before .before
+
 -- both sides, at the places where the code finds them
 inside :
     (d : tie.After-right-at)
     → let n = d .before .before .positions .result in
-    let b = now (d .before .before .before .before .args .block) in
+    let b = now (start-from-right-at d .args .block) in
     (n ≤ 16) × (d .before .left-at .result + n ≤ length b) × (d .right-at .result + n ≤ length b)
 inside d =
-    let s = d .before .before .before .before in
+    let s = start-from-right-at d in
     let b = now (s .args .block) in (
       omega arith,
       omega (arith, left-inside b (s .pre .0) (s .args .r) (s .pre .1)),
@@ -46,7 +56,7 @@ place-sides-requires : tie.Need-place-sides-requires
 place-sides-requires c κs = search needs
 
 groups-of-requires : tie.Need-groups-of-requires
-groups-of-requires c κs = inside (c .before .before .before .before .before .before .before .before)
+groups-of-requires c κs = inside (right-at-from-sides4 c)
 
 add-code : tie.Need-add-code
 add-code c = search needs
@@ -59,7 +69,7 @@ element-write-code c = search needs
 
 returns : tie.Need-returns
 returns c =
-    let s = c .before .before .before .before .before .before .before .before .before .before .before .before .before in
+    let s = start-from-groups-of c in
     simp length-set (c .before .before .place-sides .ensures .code .len ∙ s .pre .2)
 
 pub reverse-rule-spec : {M : Type 1} → statement M

@@ -6,6 +6,10 @@ use borrow.Author.Needs.{needs}
 use Rattle.compiling.proofs.placing_sides.place_counts.Statement.{statement}
 use Rattle.compiling.proofs.placing_sides.place_counts.Tie as tie
 
+-- the places that the facts below go back to
+abbrev start-from-goals : tie.After-goals → tie.Start
+start-from-goals c = c .before .before .before .before
+
 positions-requires : tie.Need-positions-requires
 positions-requires c κs = search needs
 
@@ -26,7 +30,7 @@ element-write-code-3 c = search needs
 
 returns : tie.Need-returns
 returns c =
-    let s = c .before .before .before .before in
+    let s = start-from-goals c in
     let n = c .before .before .positions in
     let r = c .before .rules in
     let g = c .goals in

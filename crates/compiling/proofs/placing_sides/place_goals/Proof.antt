@@ -24,6 +24,13 @@ Inv-loop block code₀ n count g₀ code g =
 abbrev μ-loop : tie.MeasureT-loop
 μ-loop block code₀ n count g₀ code g = count - g
 
+-- the places that the facts below go back to
+abbrev loop-from-place-side : tie.After-place-side Inv-loop μ-loop → tie.At-loop Inv-loop μ-loop
+loop-from-place-side c = c .before .before .before .before
+
+abbrev start-from-in-loop : tie.In-loop Inv-loop μ-loop → tie.Start Inv-loop μ-loop
+start-from-in-loop c = c .before .before .before .before .before
+
 positions-requires : tie.Need-positions-requires Inv-loop μ-loop
 positions-requires c κs = search needs
 
@@ -41,15 +48,15 @@ loop-holds c =
     )
 
 goal-at-requires : tie.Need-goal-at-requires Inv-loop μ-loop
-goal-at-requires c κs = (c .before .before .before .before .before .pre .0 .head, omega arith)
+goal-at-requires c κs = (start-from-in-loop c .pre .0 .head, omega arith)
 
 add-place-side : tie.Need-add-place-side Inv-loop μ-loop
 add-place-side c = search needs
 
 place-side-requires : tie.Need-place-side-requires Inv-loop μ-loop
 place-side-requires c κs =
-    let b = now (c .before .before .before .before .before .before .before .args .block) in
-    let h = c .before .before .before .before .before .before .before .pre in
+    let b = now (start-from-in-loop (c .before .before) .args .block) in
+    let h = start-from-in-loop (c .before .before) .pre in
     let inv = c .before .before .before .loop .inv in
     let g = c .before .before .before .loop .g in
     let few = h .0 .head .sizes .g-high in
@@ -65,11 +72,11 @@ loop-less c = search needs
 
 loop-again : tie.Need-loop-again Inv-loop μ-loop
 loop-again c =
-    let b = now (c .before .before .before .before .before .before .before .before .args .block) in
-    let h = c .before .before .before .before .before .before .before .before .pre in
+    let b = now (start-from-in-loop (c .before .before .before) .args .block) in
+    let h = start-from-in-loop (c .before .before .before) .pre in
     let few = h .0 .head .sizes .g-high in
-    let inv = c .before .before .before .before .loop .inv in
-    let g = c .before .before .before .before .loop .g in
+    let inv = loop-from-place-side c .loop .inv in
+    let g = loop-from-place-side c .loop .g in
     let at = c .before .before .goal-at .ensures .0 in
     let p = placed-as b (inv .0) at at (c .place-side .ensures) in (
       inv .0,

@@ -10,6 +10,19 @@ use borrow.Author.Needs.{needs}
 use Rattle.compiling.proofs.placing_sides.place_rule.Statement.{statement}
 use Rattle.compiling.proofs.placing_sides.place_rule.Tie as tie
 
+-- the places that the facts below go back to
+abbrev right-at-from-wide : tie.After-wide → tie.After-right-at
+right-at-from-wide c = c .before .before .before .before
+
+abbrev start-from-place-sides-arg : tie.After-place-sides-arg → tie.Start
+start-from-place-sides-arg c = c .before .before .before .before .before
+
+abbrev left-at-from-wide : tie.After-wide → tie.After-left-at
+left-at-from-wide c = right-at-from-wide c .before
+
+abbrev positions-from-wide : tie.After-wide → tie.After-positions
+positions-from-wide c = left-at-from-wide c .before
+
 positions-requires : tie.Need-positions-requires
 positions-requires c κs = search needs
 
@@ -21,7 +34,7 @@ right-at-requires c κs = search needs
 
 place-sides-requires : tie.Need-place-sides-requires
 place-sides-requires c κs =
-    let s = c .before .before .before .before .before in
+    let s = start-from-place-sides-arg c in
     let b = now (s .args .block) in
     let h = s .pre in
     let n = c .before .before .before .positions .ensures .0 in
@@ -48,11 +61,11 @@ element-write-code c = search needs
 
 returns : tie.Need-returns
 returns c =
-    let s = c .before .before .before .before .before .before .before .before in
+    let s = start-from-place-sides-arg (c .before .before .before) in
     let b = now (s .args .block) in
-    let n = c .before .before .before .before .before .before .positions .ensures .0 in
-    let left = c .before .before .before .before .before .left-at .ensures .0 in
-    let right = c .before .before .before .before .right-at .ensures .0 in
+    let n = positions-from-wide c .positions .ensures .0 in
+    let left = left-at-from-wide c .left-at .ensures .0 in
+    let right = right-at-from-wide c .right-at .ensures .0 in
     let few : s .args .r < 64 = omega (arith, s .pre .1, s .pre .0 .head .sizes .r-high) in
     rule-placed b (s .args .r) (c .wide .result) few (omega (arith, s .pre .2))
     (sides-as b n left right (c .before .before .place-sides .ensures))

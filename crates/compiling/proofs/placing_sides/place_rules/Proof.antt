@@ -18,6 +18,10 @@ Inv-loop block code₀ count r₀ code r =
 abbrev μ-loop : tie.MeasureT-loop
 μ-loop block code₀ count r₀ code r = count - r
 
+-- the places that the facts below go back to
+abbrev start-from-place-rule-arg : tie.After-place-rule-arg Inv-loop μ-loop → tie.Start Inv-loop μ-loop
+start-from-place-rule-arg c = c .before .before .before .before .before
+
 rules-requires : tie.Need-rules-requires Inv-loop μ-loop
 rules-requires c κs = search needs
 
@@ -26,7 +30,7 @@ loop-holds c = (search needs, search needs, refl, λ k l. absurd (omega arith))
 
 place-rule-requires : tie.Need-place-rule-requires Inv-loop μ-loop
 place-rule-requires c κs =
-    let h = c .before .before .before .before .before .pre in
+    let h = start-from-place-rule-arg c .pre in
     let inv = c .before .before .loop .inv in
     (h .0, omega arith, inv .2 ∙ h .1)
 

@@ -5,6 +5,10 @@ use Rattle.compiling.proofs.RulesPlaced.{sides-placed}
 use Rattle.compiling.proofs.placing_sides.place_sides.Statement.{statement}
 use Rattle.compiling.proofs.placing_sides.place_sides.Tie as tie
 
+-- the places that the facts below go back to
+abbrev start-from-place-side2 : tie.After-place-side2 → tie.Start
+start-from-place-side2 c = c .before .before .before .before .before
+
 mul-place-side : tie.Need-mul-place-side
 mul-place-side c = search needs
 
@@ -22,7 +26,7 @@ place-side-requires-2 c κs = search needs
 
 returns : tie.Need-returns
 returns c =
-    let r = c .before .before .before .before .before .args .r in
+    let r = start-from-place-side2 c .args .r in
     sides-placed r (c .before .before .place-side .ensures) (c .place-side2 .ensures)
 
 pub place-sides-spec : {M : Type 1} → statement M

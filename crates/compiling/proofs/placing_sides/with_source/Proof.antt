@@ -5,6 +5,10 @@ use borrow.Author.Needs.{needs}
 use Rattle.compiling.proofs.placing_sides.with_source.Statement.{statement}
 use Rattle.compiling.proofs.placing_sides.with_source.Tie as tie
 
+-- the places that the facts below go back to
+abbrev start-from-struct-known3 : tie.After-struct-known3 → tie.Start
+start-from-struct-known3 c = c .before .before .before .before
+
 mul-next : tie.Need-mul-next
 mul-next c = search needs
 
@@ -37,8 +41,8 @@ add-next c = search needs
 
 returns-2 : tie.Need-returns-2
 returns-2 c =
-    let a = c .before .before .before .before .args in
-    let h = c .before .before .before .before .pre in
+    let a = start-from-struct-known3 c .args in
+    let h = start-from-struct-known3 c .pre in
     record {
       begun = λ left side source b.
           move-more (a .n) left side (a .made) (a .i) (h .1) (h .0) b (a .from) source (c .before .before .if2 .taken);

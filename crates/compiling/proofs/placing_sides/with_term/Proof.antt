@@ -8,6 +8,25 @@ use borrow.Author.Needs.{needs}
 use Rattle.compiling.proofs.placing_sides.with_term.Statement.{statement}
 use Rattle.compiling.proofs.placing_sides.with_term.Tie as tie
 
+-- the places that the facts below go back to
+abbrev decode-from-with-constant : tie.After-with-constant → tie.After-decode
+decode-from-with-constant c = c .before .before .before .before
+
+abbrev decode-from-with-source : tie.After-with-source → tie.After-decode
+decode-from-with-source c = c .before .before .before .before .before
+
+abbrev start-from-with-source2 : tie.After-with-source2 → tie.Start
+start-from-with-source2 c = c .before .before .before .before .before .before
+
+abbrev start-from-with-source3 : tie.After-with-source3 → tie.Start
+start-from-with-source3 c = c .before .before .before .before .before .before
+
+abbrev start-from-with-constant : tie.After-with-constant → tie.Start
+start-from-with-constant c = decode-from-with-constant c .before .before .before
+
+abbrev start-from-with-source : tie.After-with-source → tie.Start
+start-from-with-source c = decode-from-with-source c .before .before .before
+
 add-decode : tie.Need-add-decode
 add-decode c = search needs
 
@@ -46,27 +65,28 @@ with-source-requires-3 c κs = search needs
 
 returns : tie.Need-returns
 returns c =
-    let a = c .before .before .before .before .before .before .before .args in
-    let h = c .before .before .before .before .before .before .before .pre in
+    let a = start-from-with-constant c .args in
+    let h = start-from-with-constant c .pre in
     let left = sideAt (now (a .bytes)) (a .left) in
     let side = sideAt (now (a .bytes)) (a .side) in
-    let e = sym (c .before .before .before .before .decode .ensures) ∙ c .before .before .term .given .1 in
+    let e = sym (decode-from-with-constant c .decode .ensures) ∙ c .before .before .term .given .1 in
     c .with-constant .ensures .begun (a .n) left side (h .0 .3) (h .0 .2) e (h .1)
 
 returns-2 : tie.Need-returns-2
 returns-2 c =
-    let a = c .before .before .before .before .before .before .before .before .args in
-    let h = c .before .before .before .before .before .before .before .before .pre in
+    let a = start-from-with-source c .args in
+    let h = start-from-with-source c .pre in
     let left = sideAt (now (a .bytes)) (a .left) in
     let side = sideAt (now (a .bytes)) (a .side) in
-    let e = sym (c .before .before .before .before .before .decode .ensures) ∙ c .before .before .before .term2 .given .1 in
+    let e = sym (decode-from-with-source c .decode .ensures) ∙ c .before .before .before .term2 .given .1 in
     let first = c .before .first-of in
-    c .with-source .ensures .begun left side (taken-variable (a .n) left (a .i) (side (a .i)) _ (first .result) e (first .ensures)) (h .1)
+    c .with-source .ensures .begun left side
+    (taken-variable (a .n) left (a .i) (side (a .i)) _ (first .result) e (first .ensures)) (h .1)
 
 returns-3 : tie.Need-returns-3
 returns-3 c =
-    let a = c .before .before .before .before .before .before .args in
-    let h = c .before .before .before .before .before .before .pre in
+    let a = start-from-with-source2 c .args in
+    let h = start-from-with-source2 c .pre in
     let left = sideAt (now (a .bytes)) (a .left) in
     let side = sideAt (now (a .bytes)) (a .side) in
     let e = sym (c .before .before .before .decode .ensures) ∙ c .before .enum-told .given .1 in
@@ -74,8 +94,8 @@ returns-3 c =
 
 returns-4 : tie.Need-returns-4
 returns-4 c =
-    let a = c .before .before .before .before .before .before .args in
-    let h = c .before .before .before .before .before .before .pre in
+    let a = start-from-with-source3 c .args in
+    let h = start-from-with-source3 c .pre in
     let left = sideAt (now (a .bytes)) (a .left) in
     let side = sideAt (now (a .bytes)) (a .side) in
     let e = sym (c .before .before .before .decode .ensures) ∙ c .before .enum-told2 .given .1 in

@@ -13,10 +13,15 @@ use Rattle.compiling.proofs.placing_weights.place_pairs.Tie as tie
 
 abbrev Inv-loop : tie.InvT-loop
 Inv-loop singles n weights₀ end k₀ weights k =
-    (k ≤ 256 * ((n + 1) / 2)) × (n ≤ 16) × (length weights ≡ 2048) × ((j : ℕ) → j < k → getD weights j 0 ≡ pairWeight singles j)
+    (k ≤ 256 * ((n + 1) / 2)) × (n ≤ 16) × (length weights ≡ 2048)
+    × ((j : ℕ) → j < k → getD weights j 0 ≡ pairWeight singles j)
 
 abbrev μ-loop : tie.MeasureT-loop
 μ-loop singles n weights₀ end k₀ weights k = 256 * ((n + 1) / 2) - k
+
+-- the places that the facts below go back to
+abbrev start-from-weights2 : tie.After-weights2 Inv-loop μ-loop → tie.Start Inv-loop μ-loop
+start-from-weights2 c = c .before .before .before .before
 
 add-end : tie.Need-add-end Inv-loop μ-loop
 add-end c = search needs
@@ -53,7 +58,7 @@ element-copy-out-weights-2 c = search needs
 
 add-weights-4 : tie.Need-add-weights-4 Inv-loop μ-loop
 add-weights-4 c =
-    let low = c .before .before .before .before .pre .1 in
+    let low = start-from-weights2 c .pre .1 in
     let k = c .before .before .before .loop .k in
     omega (arith, low (32 * (k / 256) + k % 16), low (32 * (k / 256) + 16 + k / 16 % 16))
 
@@ -72,7 +77,7 @@ loop-less c = search needs
 loop-again : tie.Need-loop-again Inv-loop μ-loop
 loop-again c =
     let l = c .before .before .before .loop in
-    let pair = pairWeight (now (c .before .before .before .before .args .singles)) in (
+    let pair = pairWeight (now (start-from-weights2 c .args .singles)) in (
       omega (arith, l .inv .0),
       l .inv .1,
       length-set (l .weights) (l .k) (pair (l .k)) ∙ l .inv .2,

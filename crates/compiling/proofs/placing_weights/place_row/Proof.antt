@@ -1,5 +1,6 @@
 -- `compiling::placing_weights::place_row` meets its contract.
--- The loop's invariant: the weights of the labels passed are written, none of them high, and nothing but weights of position i.
+-- The loop's invariant: the weights of the labels passed are
+-- written, none of them high, and nothing but weights of position i.
 use mathlib.Core.Path.{_≡_, ap, _∙_}
 use Prim.Native.Nat.{ℕ, _≤_, _<_, _-_, _+_, _*_}
 use native.Mathlib.Nat.{mul-le-mul-right}
@@ -20,23 +21,33 @@ use Rattle.compiling.proofs.placing_weights.place_row.Tie as tie
 abbrev Inv-loop : tie.InvT-loop
 Inv-loop block i p singles₀ count x₀ singles x =
     (count ≡ labelCount block i) × (count ≤ 16) × (x ≤ count) × Outside (16 * i) (16 * i + 16) singles₀ singles
-    × ((k : ℕ) → k < x → getD singles (16 * i + k) 0 ≡ mapAt block i k * p) × (((k : ℕ) → getD singles₀ k 0 ≤ 16384) → (k : ℕ) → getD singles k 0 ≤ 16384)
+    × ((k : ℕ) → k < x → getD singles (16 * i + k) 0 ≡ mapAt block i k * p)
+    × (((k : ℕ) → getD singles₀ k 0 ≤ 16384) → (k : ℕ) → getD singles k 0 ≤ 16384)
 
 abbrev μ-loop : tie.MeasureT-loop
 μ-loop block i p singles₀ count x₀ singles x = count - x
 
+-- the places that the facts below go back to
+abbrev loop-from-wide : tie.After-wide Inv-loop μ-loop → tie.At-loop Inv-loop μ-loop
+loop-from-wide c = c .before .before .before .before
+
+abbrev start-from-in-loop : tie.In-loop Inv-loop μ-loop → tie.Start Inv-loop μ-loop
+start-from-in-loop c = c .before .before .before .before
+
 -- the label's abstract label, and its weight
 mapped :
     (c : tie.After-wide Inv-loop μ-loop)
-    → let a = c .before .before .before .before .before .before .before .args in
-    c .wide .result ≡ mapAt (now (a .block)) (a .i) (c .before .before .before .before .loop .x)
+    → let a = start-from-in-loop (c .before .before .before) .args in
+    c .wide .result ≡ mapAt (now (a .block)) (a .i) (loop-from-wide c .loop .x)
 mapped c = c .wide .ensures .0 ∙ c .before .byte-of .ensures ∙ c .before .before .abstract-label .ensures
 
-high : (c : tie.After-wide Inv-loop μ-loop) → c .wide .result * c .before .before .before .before .before .before .before .args .p ≤ 16384
+high :
+    (c : tie.After-wide Inv-loop μ-loop)
+    → c .wide .result * start-from-in-loop (c .before .before .before) .args .p ≤ 16384
 high c =
-    let a = c .before .before .before .before .before .before .before .args in
-    let h = c .before .before .before .before .before .before .before .pre in
-    let x = c .before .before .before .before .loop .x in
+    let a = start-from-in-loop (c .before .before .before) .args in
+    let h = start-from-in-loop (c .before .before .before) .pre in
+    let x = loop-from-wide c .loop .x in
     let m = map-below (now (a .block)) (h .0) (a .i) x (omega arith) in
     let le : c .wide .result ≤ abstractCount (now (a .block)) (a .i) = omega (arith, mapped c) in
     omega (arith, h .2, mul-le-mul-right (a .p) le)
@@ -59,7 +70,7 @@ cast-wide : tie.Need-cast-wide Inv-loop μ-loop
 cast-wide c = search needs
 
 abstract-label-requires : tie.Need-abstract-label-requires Inv-loop μ-loop
-abstract-label-requires c κs = (c .before .before .before .before .pre .0 .sized, c .before .before .before .before .pre .1, omega arith)
+abstract-label-requires c κs = (start-from-in-loop c .pre .0 .sized, start-from-in-loop c .pre .1, omega arith)
 
 byte-of-requires : tie.Need-byte-of-requires Inv-loop μ-loop
 byte-of-requires c κs = search needs
@@ -93,11 +104,15 @@ loop-less c = search needs
 
 loop-again : tie.Need-loop-again Inv-loop μ-loop
 loop-again c =
-    let a = c .before .before .before .before .before .before .before .args in
-    let l = c .before .before .before .before .loop in
+    let a = start-from-in-loop (c .before .before .before) .args in
+    let l = loop-from-wide c .loop in
     let at = 16 * a .i + l .x in
     let y = c .wide .result * a .p in
-    let within : at < length (l .singles) = omega (arith, l .inv .3 .len, c .before .before .before .before .before .before .before .pre) in (
+    let within : at < length (l .singles) = omega (
+      arith,
+      l .inv .3 .len,
+      start-from-in-loop (c .before .before .before) .pre,
+    ) in (
       l .inv .0,
       l .inv .1,
       search needs,

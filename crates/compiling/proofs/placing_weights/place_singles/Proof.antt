@@ -1,5 +1,6 @@
 -- `compiling::placing_weights::place_singles` meets its contract.
--- The loop's invariant: the weights from position i on are written, all are low and 0 behind the last position, and p is the product of the bases from i on.
+-- The loop's invariant: the weights from position i on are written, all are low and 0 behind the last position, and p
+-- is the product of the bases from i on.
 use mathlib.Core.Path.{_≡_, sym, ap, _∙_}
 use Prim.Native.Nat.{ℕ, suc, _≤_, _<_, _-_, _+_, _*_}
 use native.Mathlib.Nat.{mul-comm}
@@ -19,52 +20,62 @@ use Rattle.compiling.proofs.placing_weights.place_singles.Tie as tie
 abbrev Inv-loop : tie.InvT-loop
 Inv-loop block singles₀ p₀ i₀ singles p i =
     (i ≤ positions block) × (p ≡ placeValue (abstractCount block) i (positions block - i)) × (length singles ≡ 256)
-    × ((j x : ℕ) → i ≤ j → j < positions block → x < labelCount block j → getD singles (16 * j + x) 0 ≡ weightOf block j x)
+    × ((j x : ℕ) → i ≤ j → j < positions block → x < labelCount block j
+    → getD singles (16 * j + x) 0 ≡ weightOf block j x)
     × ((k : ℕ) → 16 * positions block ≤ k → getD singles k 0 ≡ 0) × ((k : ℕ) → getD singles k 0 ≤ 16384)
 
 abbrev μ-loop : tie.MeasureT-loop
 μ-loop block singles₀ p₀ i₀ singles p i = i
 
+-- the places that the facts below go back to
+abbrev start-from-in-loop : tie.In-loop Inv-loop μ-loop → tie.Start Inv-loop μ-loop
+start-from-in-loop c = c .before .before .before .before
+
+abbrev loop-from-abstract-count : tie.After-abstract-count Inv-loop μ-loop → tie.At-loop Inv-loop μ-loop
+loop-from-abstract-count c = c .before .before .before .before
+
 -- p is the place value behind position i, and with its base that at i
 behind :
     (c : tie.In-loop Inv-loop μ-loop)
-    → let b = now (c .before .before .before .before .args .block) in
+    → let b = now (start-from-in-loop c .args .block) in
     let i = c .before .loop .i - 1 in
     c .before .loop .p ≡ placeValue (abstractCount b) (suc i) (positions b - suc i)
 behind c =
-    let b = now (c .before .before .before .before .args .block) in
+    let b = now (start-from-in-loop c .args .block) in
     let e : c .before .loop .i ≡ suc (c .before .loop .i - 1) = omega arith in
     c .before .loop .inv .1 ∙ ap (λ (i : ℕ). placeValue (abstractCount b) i (positions b - i)) e
 
 counted :
     (c : tie.In-loop Inv-loop μ-loop)
-    → let b = now (c .before .before .before .before .args .block) in
+    → let b = now (start-from-in-loop c .args .block) in
     let i = c .before .loop .i - 1 in
     abstractCount b i * c .before .loop .p ≡ placeValue (abstractCount b) i (positions b - i)
 counted c =
-    let b = now (c .before .before .before .before .args .block) in
+    let b = now (start-from-in-loop c .args .block) in
     let i = c .before .loop .i - 1 in
     ap (λ (p : ℕ). abstractCount b i * p) (behind c) ∙ sym (place-more (abstractCount b) (positions b) i (omega arith))
 
 few :
     (c : tie.In-loop Inv-loop μ-loop)
-    → let b = now (c .before .before .before .before .args .block) in
+    → let b = now (start-from-in-loop c .args .block) in
     let i = c .before .loop .i - 1 in
     placeValue (abstractCount b) i (positions b - i) ≤ 16384
 few c =
-    let b = now (c .before .before .before .before .args .block) in
-    let h = c .before .before .before .before .pre .0 .sized .head in
-    let below = place-below (abstractCount b) (some-abstract b h) (positions b) (c .before .loop .i - 1) (omega arith) in
+    let b = now (start-from-in-loop c .args .block) in
+    let h = start-from-in-loop c .pre .0 .sized .head in
+    let below =
+    place-below (abstractCount b) (some-abstract b h) (positions b) (c .before .loop .i - 1) (omega arith) in
     omega (arith, states-span b, h .few)
 
 product :
     (c : tie.After-abstract-count Inv-loop μ-loop)
-    → let b = now (c .before .before .before .before .before .before .before .args .block) in
-    let i = c .before .before .before .before .loop .i - 1 in
-    c .before .before .before .before .loop .p * c .abstract-count .result ≡ placeValue (abstractCount b) i (positions b - i)
+    → let b = now (start-from-in-loop (c .before .before .before) .args .block) in
+    let i = loop-from-abstract-count c .loop .i - 1 in
+    loop-from-abstract-count c .loop .p * c .abstract-count .result ≡ placeValue (abstractCount b) i (positions b - i)
 product c =
-    let l = c .before .before .before .before .loop in
-    mul-comm (l .p) (c .abstract-count .result) ∙ ap (λ (k : ℕ). k * l .p) (c .abstract-count .ensures .0) ∙ counted (c .before .before .before)
+    let l = loop-from-abstract-count c .loop in
+    mul-comm (l .p) (c .abstract-count .result) ∙ ap (λ (k : ℕ). k * l .p) (c .abstract-count .ensures .0)
+    ∙ counted (c .before .before .before)
 
 positions-requires : tie.Need-positions-requires Inv-loop μ-loop
 positions-requires c κs = search needs
@@ -85,10 +96,15 @@ sub-i : tie.Need-sub-i Inv-loop μ-loop
 sub-i c = search needs
 
 place-row-requires : tie.Need-place-row-requires Inv-loop μ-loop
-place-row-requires c κs = (c .before .before .before .before .before .pre .0, omega arith, omega (arith, counted (c .before), few (c .before)), c .before .before .loop .inv .2)
+place-row-requires c κs = (
+  start-from-in-loop (c .before) .pre .0,
+  omega arith,
+  omega (arith, counted (c .before), few (c .before)),
+  c .before .before .loop .inv .2,
+)
 
 abstract-count-requires : tie.Need-abstract-count-requires Inv-loop μ-loop
-abstract-count-requires c κs = (c .before .before .before .before .before .before .pre .0 .sized .head, omega arith)
+abstract-count-requires c κs = (start-from-in-loop (c .before .before) .pre .0 .sized .head, omega arith)
 
 mul-p : tie.Need-mul-p Inv-loop μ-loop
 mul-p c = omega (arith, product c, few (c .before .before .before))
@@ -98,7 +114,7 @@ loop-less c = search needs
 
 loop-again : tie.Need-loop-again Inv-loop μ-loop
 loop-again c =
-    let l = c .before .before .before .before .loop in
+    let l = loop-from-abstract-count c .loop in
     let i = l .i - 1 in
     let row = c .before .place-row .ensures in (
       omega arith,

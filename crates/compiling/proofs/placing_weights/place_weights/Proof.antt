@@ -6,6 +6,13 @@ use borrow.Author.Needs.{needs}
 use Rattle.compiling.proofs.placing_weights.place_weights.Statement.{statement}
 use Rattle.compiling.proofs.placing_weights.place_weights.Tie as tie
 
+-- the places that the facts below go back to
+abbrev place-singles-from-place-pairs : tie.After-place-pairs → tie.After-place-singles
+place-singles-from-place-pairs c = c .before .before .before .before
+
+abbrev start-from-place-pairs : tie.After-place-pairs → tie.Start
+start-from-place-pairs c = place-singles-from-place-pairs c .before .before .before
+
 place-singles-requires : tie.Need-place-singles-requires
 place-singles-requires c κs = (c .before .before .pre .0, refl, zeros 256)
 
@@ -17,9 +24,9 @@ place-pairs-requires c κs = search needs
 
 returns : tie.Need-returns
 returns c =
-    let s = c .before .before .before .before .before .before .before in
+    let s = start-from-place-pairs c in
     let pairs = rw (c .before .before .positions .ensures .0) at (c .place-pairs .ensures) in
-    pairs-weighted (s .pre .0 .sized .head) (c .before .before .before .before .place-singles .ensures) pairs
+    pairs-weighted (s .pre .0 .sized .head) (place-singles-from-place-pairs c .place-singles .ensures) pairs
 
 pub place-weights-spec : {M : Type 1} → statement M
 place-weights-spec =

@@ -10,6 +10,10 @@ use Rattle.blocks.proofs.Accepted.{accepted-valid}
 use Rattle.fill_order.proofs.fills.order_of.Statement.{statement}
 use Rattle.fill_order.proofs.fills.order_of.Tie as tie
 
+-- the place that the facts below go back to
+abbrev start-from-told : tie.After-enum-told2 → tie.Start
+start-from-told c = c .before .before .before .before .before
+
 check-requires : tie.Need-check-requires
 check-requires c κs = search needs
 
@@ -23,10 +27,9 @@ enum-told-2 : tie.Need-enum-told-2
 enum-told-2 c = search needs
 
 -- the block is accepted
-valid : (c : tie.After-enum-told2) → Valid (now (c .before .before .before .before .before .args .block))
+valid : (c : tie.After-enum-told2) → Valid (now (start-from-told c .args .block))
 valid c =
-    accepted-valid
-    (now (c .before .before .before .before .before .args .block))
+    accepted-valid (now (start-from-told c .args .block))
     (sym (c .before .before .check .ensures) ∙ ap verdictOf (c .enum-told2 .given .1))
 
 abstract-states-requires : tie.Need-abstract-states-requires

@@ -22,19 +22,28 @@ use Rattle.filling.proofs.filling.clear.Tie as tie
 
 abbrev Inv-loop : tie.InvT-loop
 Inv-loop block code weights ranked₀ table₀ word₀ u₀ ranked table word u =
-    (u ≤ abstractStates block) × (abstractStates block ≤ 16384) × (length ranked ≡ 16384) × (length table ≡ abstractStates block)
-    × ((w : ℕ) → w < u → getD ranked w 0 ≡ wordOf block w) × Cleared (graphOf block) table u × (0 < u → word ≡ wordOf block (u - 1))
+    (u ≤ abstractStates block) × (abstractStates block ≤ 16384) × (length ranked ≡ 16384)
+    × (length table ≡ abstractStates block)
+    × ((w : ℕ) → w < u → getD ranked w 0 ≡ wordOf block w) × Cleared (graphOf block) table u
+    × (0 < u → word ≡ wordOf block (u - 1))
 
 abbrev μ-loop : tie.MeasureT-loop
 μ-loop block code weights ranked₀ table₀ word₀ u₀ ranked table word u = abstractStates block - u
 
+-- the places that the facts below go back to
+abbrev start-from-in-loop : tie.In-loop Inv-loop μ-loop → tie.Start Inv-loop μ-loop
+start-from-in-loop c = c .before .before .before .before
+
+abbrev start-from-loop : tie.After-loop Inv-loop μ-loop → tie.Start Inv-loop μ-loop
+start-from-loop c = c .before .before .before .before
+
 -- the entry that is written
 entry :
     (c : tie.After-cleared-entry Inv-loop μ-loop)
-    → c .cleared-entry .result
-    ≡ cond (meets (now (c .before .before .before .before .before .before .args .block)) (unrank (now (c .before .before .before .before .before .before .args .block)) (c .before .before .before .loop .u))) 0 mark
+    → let b = now (start-from-in-loop (c .before .before) .args .block) in
+    c .cleared-entry .result ≡ cond (meets b (unrank b (c .before .before .before .loop .u))) 0 mark
 entry c =
-    let s = c .before .before .before .before .before .before in
+    let s = start-from-in-loop (c .before .before) in
     let b = now (s .args .block) in
     let w = now (s .args .code) in
     c .cleared-entry .ensures
@@ -45,12 +54,19 @@ entry c =
 loop-holds : tie.Need-loop-holds Inv-loop μ-loop
 loop-holds c =
     let s = c .before .before in
-    let a = s .args in
-    (search needs, few (now (a .block)) (now (a .code)) (now (a .weights)) (s .pre .0), s .pre .1, s .pre .2, λ w h. absurd (omega arith), λ w h. absurd (omega arith), λ z. absurd (omega arith))
+    let a = s .args in (
+      search needs,
+      few (now (a .block)) (now (a .code)) (now (a .weights)) (s .pre .0),
+      s .pre .1,
+      s .pre .2,
+      λ w h. absurd (omega arith),
+      λ w h. absurd (omega arith),
+      λ z. absurd (omega arith),
+    )
 
 word-at-requires : tie.Need-word-at-requires Inv-loop μ-loop
 word-at-requires c κs =
-    let s = c .before .before .before .before in
+    let s = start-from-in-loop c in
     let l = c .before .loop in
     (s .pre .0 .relabelled .valid .sized .head, omega (arith, l .inv .3, c .loop-test .taken), l .inv .6)
 
@@ -77,7 +93,7 @@ loop-less c = search needs
 
 loop-again : tie.Need-loop-again Inv-loop μ-loop
 loop-again c =
-    let b = now (c .before .before .before .before .before .before .args .block) in
+    let b = now (start-from-in-loop (c .before .before) .args .block) in
     let l = c .before .before .before .loop in
     let word = c .before .word-at .result in
     let e = c .cleared-entry .result in (
@@ -95,7 +111,7 @@ same-length c = search needs
 
 returns : tie.Need-returns Inv-loop μ-loop
 returns c =
-    let b = now (c .before .before .before .before .args .block) in
+    let b = now (start-from-loop c .args .block) in
     let l = c .before .loop in (
       record { len = l .inv .2; word = λ w h. l .inv .4 w (omega arith) },
       good-clear (graphOf b) (l .table) (l .inv .3) (λ w h. l .inv .5 w (omega arith)),

@@ -14,11 +14,12 @@ use Rattle.filling.proofs.filling.cleared_entry.Tie as tie
 -- the test, of the block's goals
 tested :
     (c : tie.After-meets-word)
-    → meetsWord (now (c .before .before .before .args .code)) (goals (now (c .before .before .before .args .block))) (c .before .before .before .args .word)
-    ≡ c .meets-word .result
+    → let a = c .before .before .before .args in
+    meetsWord (now (a .code)) (goals (now (a .block))) (a .word) ≡ c .meets-word .result
 tested c =
     let a = c .before .before .before .args in
-    ap (λ (g : ℕ). meetsWord (now (a .code)) g (a .word)) (sym (c .before .goals .ensures .0)) ∙ sym (c .meets-word .ensures)
+    ap (λ (g : ℕ). meetsWord (now (a .code)) g (a .word)) (sym (c .before .goals .ensures .0))
+    ∙ sym (c .meets-word .ensures)
 
 goals-requires : tie.Need-goals-requires
 goals-requires c κs = search needs

@@ -1,6 +1,6 @@
 -- `filling::filling::fill_relabelled` meets its contract.
--- The arrays are ready once the block is compiled, and every step keeps the table good; the last leaves the least
--- costs.
+-- The arrays are ready once the block is compiled, and every
+-- step keeps the table good; the last leaves the least costs.
 use denote.Ref.{now}
 use borrow.Author.Needs.{needs}
 use Rattle.distances.proofs.LeastCostLaws.{least-costs-only}
@@ -9,11 +9,27 @@ use Rattle.tables.proofs.WordEdges.{cheap, few}
 use Rattle.filling.proofs.filling.fill_relabelled.Statement.{statement}
 use Rattle.filling.proofs.filling.fill_relabelled.Tie as tie
 
+-- the places that the facts below go back to
+abbrev start-from-compile : tie.After-compile → tie.Start
+start-from-compile c = c .before .before .before .before .before
+
+abbrev compile-from-clear : tie.After-clear → tie.After-compile
+compile-from-clear c = c .before .before .before .before .before
+
+abbrev spread-from-links2 : tie.After-links2 → tie.After-spread
+spread-from-links2 c = c .before .before .before .before .before .before .before
+
+abbrev clear-from-spread : tie.After-spread → tie.After-clear
+clear-from-spread c = c .before .before .before .before .before .before .before .before
+
+abbrev compile-from-spread : tie.After-spread → tie.After-compile
+compile-from-spread c = clear-from-spread c .before .before .before .before .before
+
 -- the arrays, once compiled
 ready :
     (c : tie.After-compile)
-    → Ready (now (c .before .before .before .before .before .args .block)) (c .compile .last .1 .0) (c .compile .last .1 .1 .0)
-ready c = record { relabelled = c .before .before .before .before .before .pre .0; compiled = c .compile .ensures .0 }
+    → Ready (now (start-from-compile c .args .block)) (c .compile .last .1 .0) (c .compile .last .1 .1 .0)
+ready c = record { relabelled = start-from-compile c .pre .0; compiled = c .compile .ensures .0 }
 
 compile-requires : tie.Need-compile-requires
 compile-requires c κs = search needs
@@ -26,10 +42,10 @@ spread-requires c κs = search needs
 
 settle-requires : tie.Need-settle-requires
 settle-requires c κs =
-    let d = c .before .before .before .before .before .before .before in
-    let e = d .before .before .before .before .before .before .before .before in
+    let d = spread-from-links2 c in
+    let e = clear-from-spread d in
     let s = d .spread .ensures in
-    ((ready (e .before .before .before .before .before), e .clear .ensures .0, s .0), s .1)
+    ((ready (compile-from-clear e), e .clear .ensures .0, s .0), s .1)
 
 same-length : tie.Need-same-length
 same-length c = search needs
@@ -37,9 +53,9 @@ same-length c = search needs
 returns : tie.Need-returns
 returns c =
     let d = c .before .before in
-    let k = d .before .before .before .before .before .before .before .before in
-    let e = k .before .before .before .before .before .before .before .before .before .before .before .before .before in
-    let a = now (e .before .before .before .before .before .args .block) in
+    let k = spread-from-links2 (d .before) in
+    let e = compile-from-spread k in
+    let a = now (start-from-compile e .args .block) in
     let code = e .compile .last .1 .0 in
     let weights = e .compile .last .1 .1 .0 in
     least-costs-only (graphOf a) (cheap a code weights (ready e)) (few a code weights (ready e))

@@ -6,6 +6,10 @@ use borrow.Author.Needs.{needs}
 use Rattle.filling.proofs.queue.put_in.Statement.{statement}
 use Rattle.filling.proofs.queue.put_in.Tie as tie
 
+-- the places that the facts below go back to
+abbrev start-from-link-to2 : tie.After-link-to2 → tie.Start
+start-from-link-to2 c = c .before .before .before .before
+
 add-head : tie.Need-add-head
 add-head c = search needs
 
@@ -62,7 +66,7 @@ element-write-links-4 c = search needs
 
 returns : tie.Need-returns
 returns c =
-    let p = c .before .before .before .before .pre in
+    let p = start-from-link-to2 c .pre in
     simp length-set
     (⊎-elim (λ w. rw (w .2) (simp length-set (p .2))) (λ w. rw (w .1) (simp length-set (p .2))) (c .before .if1 .came))
 

@@ -8,9 +8,13 @@ use Rattle.edge_ranks.specs.Lists.{listsLength}
 use Rattle.filling.proofs.queue.take_out.Statement.{statement}
 use Rattle.filling.proofs.queue.take_out.Tie as tie
 
+-- the places that the facts below go back to
+abbrev start-from-joined1 : tie.Joined1 → tie.Start
+start-from-joined1 c = c .before .before .before .before
+
 kept : (d : tie.Joined1) → length (d .if1 .links) ≡ listsLength
 kept d =
-    let p = d .before .before .before .before .pre in
+    let p = start-from-joined1 d .pre in
     ⊎-elim (λ w. rw (w .2) (simp length-set (p .2))) (λ w. rw (w .1) (simp length-set (p .2))) (d .if1 .came)
 
 add-before : tie.Need-add-before

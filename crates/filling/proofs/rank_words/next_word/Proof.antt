@@ -18,6 +18,22 @@ Inv-loop block word u labels next₀ i₀ next i = (labels ≡ abstracts block) 
 abbrev μ-loop : tie.MeasureT-loop
 μ-loop block word u labels next₀ i₀ next i = i
 
+-- the places that the facts below go back to
+abbrev loop-from-unit : tie.After-unit Inv-loop μ-loop → tie.At-loop Inv-loop μ-loop
+loop-from-unit c = c .before .before .before .before
+
+abbrev loop-from-unit2 : tie.After-unit2 Inv-loop μ-loop → tie.At-loop Inv-loop μ-loop
+loop-from-unit2 c = c .before .before .before .before
+
+abbrev start-from-loop : tie.After-loop Inv-loop μ-loop → tie.Start Inv-loop μ-loop
+start-from-loop c = c .before .before .before .before .before
+
+abbrev start-from-unit : tie.After-unit Inv-loop μ-loop → tie.Start Inv-loop μ-loop
+start-from-unit c = loop-from-unit c .before .before .before .before
+
+abbrev start-from-unit2 : tie.After-unit2 Inv-loop μ-loop → tie.Start Inv-loop μ-loop
+start-from-unit2 c = loop-from-unit2 c .before .before .before .before
+
 abstracts-requires : tie.Need-abstracts-requires Inv-loop μ-loop
 abstracts-requires c κs = search needs
 
@@ -48,27 +64,30 @@ unit-requires c κs = search needs
 -- a label that can rise
 up :
     (c : tie.After-unit Inv-loop μ-loop)
-    → (c .before .before .before .before .loop .next + 16 ^ (c .before .before .before .before .loop .i - 1) ≡ wordOf (now (c .before .before .before .before .before .before .before .before .args .block)) (c .before .before .before .before .before .before .before .before .args .u + 1))
-    × (c .before .before .before .before .loop .next + 16 ^ (c .before .before .before .before .loop .i - 1) < 2 ^ 64)
+    → let a = start-from-unit c .args in
+    let l = loop-from-unit c .loop in
+    (l .next + 16 ^ (l .i - 1) ≡ wordOf (now (a .block)) (a .u + 1)) × (l .next + 16 ^ (l .i - 1) < 2 ^ 64)
 unfolding abstractCount
 up c =
-    let s = c .before .before .before .before .before .before .before .before in
-    let l = c .before .before .before .before .loop in
-    let i : l .i ≡ suc (l .i - 1) = omega (arith, c .before .before .before .loop-test .taken) in
-    counting-up (now (s .args .block)) (s .pre .0) (s .args .u) (l .next) (l .i - 1) (rw i at (l .inv .2)) (omega (arith, l .inv .1, c .before .before .before .loop-test .taken))
+    let s = start-from-unit c in
+    let tested = c .before .before .before in
+    let l = tested .before .loop in
+    let i : l .i ≡ suc (l .i - 1) = omega (arith, tested .loop-test .taken) in
+    counting-up (now (s .args .block)) (s .pre .0) (s .args .u) (l .next) (l .i - 1) (rw i at (l .inv .2))
+    (omega (arith, l .inv .1, tested .loop-test .taken))
     (omega (arith, l .inv .0, c .before .if1 .taken, c .before .before .digit .ensures .0))
 
 add-result : tie.Need-add-result Inv-loop μ-loop
 add-result c = omega (arith, up c .1, c .unit .ensures)
 
 returns : tie.Need-returns Inv-loop μ-loop
-returns c = ap (λ (x : ℕ). c .before .before .before .before .loop .next + x) (c .unit .ensures) ∙ up c .0
+returns c = ap (λ (x : ℕ). loop-from-unit c .loop .next + x) (c .unit .ensures) ∙ up c .0
 
 unit-requires-2 : tie.Need-unit-requires-2 Inv-loop μ-loop
 unit-requires-2 c κs = search needs
 
 rem-next : tie.Need-rem-next Inv-loop μ-loop
-rem-next c = rw (c .unit2 .ensures) (one-le-pow (c .before .before .before .before .loop .i - 1) 16 (zero-lt-suc 15))
+rem-next c = rw (c .unit2 .ensures) (one-le-pow (loop-from-unit2 c .loop .i - 1) 16 (zero-lt-suc 15))
 
 loop-less : tie.Need-loop-less Inv-loop μ-loop
 loop-less c = search needs
@@ -76,16 +95,17 @@ loop-less c = search needs
 loop-again : tie.Need-loop-again Inv-loop μ-loop
 unfolding abstractCount
 loop-again c =
-    let s = c .before .before .before .before .before .before .before .before in
-    let l = c .before .before .before .before .loop in
-    let i : l .i ≡ suc (l .i - 1) = omega (arith, c .before .before .before .loop-test .taken) in
+    let s = start-from-unit2 c in
+    let tested = c .before .before .before in
+    let l = tested .before .loop in
+    let i : l .i ≡ suc (l .i - 1) = omega (arith, tested .loop-test .taken) in
     let k = counting-on (now (s .args .block)) (s .pre .0) (s .args .u) (l .next) (l .i - 1) (rw i at (l .inv .2))
     (omega (arith, l .inv .0, c .before .if1 .left, c .before .before .digit .ensures .0)) in
     (l .inv .0, omega (arith, l .inv .1), rw (c .unit2 .ensures) k)
 
 returns-2 : tie.Need-returns-2 Inv-loop μ-loop
 returns-2 c =
-    let s = c .before .before .before .before .before in
+    let s = start-from-loop c in
     let l = c .before .loop in
     let e : l .i ≡ 0 = omega arith in
     counting-end (now (s .args .block)) (s .pre .0) (s .args .u) (l .next) (rw e at (l .inv .2))

@@ -18,6 +18,16 @@ Inv-loop block code weights ranked back table₀ links₀ v rules rest₀ table 
 abbrev μ-loop : tie.MeasureT-loop
 μ-loop block code weights ranked back table₀ links₀ v rules rest₀ table links rest = rest
 
+-- the places that the facts below go back to
+abbrev start-from-agreeing-with-arg : tie.After-agreeing-with-arg Inv-loop μ-loop → tie.Start Inv-loop μ-loop
+start-from-agreeing-with-arg c = c .before .before .before .before .before
+
+abbrev loop-from-pull-arg2 : tie.After-pull-arg2 Inv-loop μ-loop → tie.At-loop Inv-loop μ-loop
+loop-from-pull-arg2 c = c .before .before .before .before .before
+
+abbrev start-from-pull-arg2 : tie.After-pull-arg2 Inv-loop μ-loop → tie.Start Inv-loop μ-loop
+start-from-pull-arg2 c = loop-from-pull-arg2 c .before .before .before .before .before .before .before
+
 rules-requires : tie.Need-rules-requires Inv-loop μ-loop
 rules-requires c κs = search needs
 
@@ -32,12 +42,12 @@ element-copy-out-agreeing-with c = search needs
 
 agreeing-with-requires : tie.Need-agreeing-with-requires Inv-loop μ-loop
 agreeing-with-requires c κs =
-    let z = c .before .before .before .before .before .pre .0 .0 .relabelled .valid .sized .head .sizes in
+    let z = start-from-agreeing-with-arg c .pre .0 .0 .relabelled .valid .sized .head .sizes in
     omega (arith, c .before .positions .ensures .0, z .n-high)
 
 loop-holds : tie.Need-loop-holds Inv-loop μ-loop
 loop-holds c =
-    let p = c .before .before .before .before .before .before .pre in
+    let p = start-from-agreeing-with-arg (c .before) .pre in
     (c .before .before .before .rules .ensures .0, p .0 .2, p .1 .1)
 
 lowest-of-requires : tie.Need-lowest-of-requires Inv-loop μ-loop
@@ -46,15 +56,15 @@ lowest-of-requires c κs = search needs
 same-length : tie.Need-same-length Inv-loop μ-loop
 same-length c =
     let l = c .before .before .before in
-    l .loop .inv .1 .len ∙ sym (l .before .before .before .before .before .before .before .pre .0 .2 .len)
+    l .loop .inv .1 .len ∙ sym (start-from-agreeing-with-arg (l .before .before) .pre .0 .2 .len)
 
 returns : tie.Need-returns Inv-loop μ-loop
 returns c = let i = c .before .before .before .loop .inv in (i .1, i .2)
 
 pull-requires : tie.Need-pull-requires Inv-loop μ-loop
 pull-requires c κs =
-    let p = c .before .before .before .before .before .before .before .before .before .before .before .before .pre in
-    let l = c .before .before .before .before .before .loop in
+    let p = start-from-pull-arg2 c .pre in
+    let l = loop-from-pull-arg2 c .loop in
     ((p .0 .0, p .0 .1, l .inv .1), (omega (arith, l .inv .0, c .before .before .if1 .left), p .1 .0, l .inv .2))
 
 without-lowest-requires : tie.Need-without-lowest-requires Inv-loop μ-loop
@@ -66,12 +76,12 @@ loop-less c = c .without-lowest .ensures .1
 loop-again : tie.Need-loop-again Inv-loop μ-loop
 loop-again c =
     let d = c .before .before .before in
-    (d .before .before .before .before .before .before .loop .inv .0, d .pull .ensures .0, d .pull .ensures .1)
+    (loop-from-pull-arg2 (d .before) .loop .inv .0, d .pull .ensures .0, d .pull .ensures .1)
 
 same-length-2 : tie.Need-same-length-2 Inv-loop μ-loop
 same-length-2 c =
     let l = c .before in
-    l .loop .inv .1 .len ∙ sym (l .before .before .before .before .before .before .before .pre .0 .2 .len)
+    l .loop .inv .1 .len ∙ sym (start-from-agreeing-with-arg (l .before .before) .pre .0 .2 .len)
 
 returns-2 : tie.Need-returns-2 Inv-loop μ-loop
 returns-2 c = let i = c .before .loop .inv in (i .1, i .2)

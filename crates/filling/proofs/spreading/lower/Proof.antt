@@ -12,6 +12,13 @@ use Rattle.tables.specs.Abstraction.{graphOf}
 use Rattle.filling.proofs.spreading.lower.Statement.{statement}
 use Rattle.filling.proofs.spreading.lower.Tie as tie
 
+-- the places that the facts below go back to
+abbrev start-from-slice-known3 : tie.After-slice-known3 → tie.Start
+start-from-slice-known3 c = c .before .before .before .before
+
+abbrev slice-known-from-put-in : tie.After-put-in → tie.After-slice-known
+slice-known-from-put-in c = c .before .before .before .before .before .before
+
 mul-old : tie.Need-mul-old
 mul-old c = search needs
 
@@ -26,7 +33,7 @@ slice-read-new c = search needs
 
 add-new : tie.Need-add-new
 add-new c =
-    let s = c .before .before .before .before in
+    let s = start-from-slice-known3 c in
     omega (arith, s .pre .1, c .before .before .slice-known .given (s .args .u))
 
 list-of-requires : tie.Need-list-of-requires
@@ -47,7 +54,7 @@ list-of-requires-2 c κs = search needs
 put-in-requires : tie.Need-put-in-requires
 put-in-requires c κs =
     let d = c .before .before in
-    let p = d .before .before .before .before .before .pre in
+    let p = start-from-slice-known3 (d .before) .pre in
     (search needs, search needs, ⊎-elim (λ w. rw (w .4) (w .3 .ensures)) (λ w. rw (w .1) (p .0 .3)) (d .if1 .came))
 
 same-length : tie.Need-same-length
@@ -56,7 +63,7 @@ same-length c = search needs
 returns : tie.Need-returns
 unfolding costOf
 returns c =
-    let d = c .before .before .before .before .before .before in
+    let d = slice-known-from-put-in c in
     let e = d .before in
     let a = e .before .args in
     let p = e .before .pre .0 .0 in

@@ -18,6 +18,10 @@ Inv-loop block code weights ranked back table₀ links₀ list₀ left₀ table 
 abbrev μ-loop : tie.MeasureT-loop
 μ-loop block code weights ranked back table₀ links₀ list₀ left₀ table links list left = left
 
+-- the places that the facts below go back to
+abbrev loop-from-expand-arg2 : tie.After-expand-arg2 Inv-loop μ-loop → tie.At-loop Inv-loop μ-loop
+loop-from-expand-arg2 c = c .before .before .before .before .before .before .before .before .before .before
+
 loop-holds : tie.Need-loop-holds Inv-loop μ-loop
 loop-holds c = search needs
 
@@ -38,7 +42,7 @@ take-out-requires c κs = search needs
 
 expand-requires : tie.Need-expand-requires Inv-loop μ-loop
 expand-requires c κs =
-    let l = c .before .before .before .before .before .before .before .before .before .before in
+    let l = loop-from-expand-arg2 c in
     let p = l .before .before .before .pre in
     let i = l .loop .inv in
     ((p .0 .0, p .0 .1, i .1), (omega (arith, i .1 .len), c .before .before .take-out .ensures))

@@ -9,6 +9,13 @@ use Rattle.filling.proofs.Predecessors.{candidate-lowers}
 use Rattle.filling.proofs.spreading.try_candidate.Statement.{statement}
 use Rattle.filling.proofs.spreading.try_candidate.Tie as tie
 
+-- the places that the facts below go back to
+abbrev cost-word-from-else2 : tie.Else2 → tie.After-cost-word
+cost-word-from-else2 c = c .before .before .before .before .before
+
+abbrev start-from-else1 : tie.Else1 → tie.Start
+start-from-else1 c = c .before .before .before .before .before .before
+
 positions-requires : tie.Need-positions-requires
 positions-requires c κs = search needs
 
@@ -81,9 +88,9 @@ lower-requires c κs =
     let d = t .before .before in
     let f = d .before .before .before in
     let g = f .before .before in
-    let h = g .before .before .before .before .before in
+    let h = cost-word-from-else2 g in
     let i = h .before in
-    let s = i .before .before .before .before .before .before in
+    let s = start-from-else1 i in
     let a = s .args in
     let p = s .pre in (
       (

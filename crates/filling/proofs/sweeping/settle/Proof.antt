@@ -1,6 +1,6 @@
 -- `filling::sweeping::settle` meets its contract.
--- A table that passes is left as it is. The loop's invariant: the table is good. The sum of its entries falls with every
--- pass but the last.
+-- A table that passes is left as it is. The loop's invariant: the table is good. The sum of its entries falls with
+-- every pass but the last.
 use mathlib.Core.Path.{_≡_, refl, _∙_}
 use native.Mathlib.Omega.{arith}
 use lib.ListN.{length}
@@ -20,9 +20,19 @@ Inv-loop block code weights ranked table₀ lists lowered₀ table lowered =
 abbrev μ-loop : tie.MeasureT-loop
 μ-loop block code weights ranked table₀ lists lowered₀ table lowered = total table
 
+-- the places that the facts below go back to
+abbrev start-from-passes-by-sides-arg2 : tie.After-passes-by-sides-arg2 Inv-loop μ-loop → tie.Start Inv-loop μ-loop
+start-from-passes-by-sides-arg2 c = c .before .before .before .before
+
+abbrev slice-known-from-then1 : tie.Then1 Inv-loop μ-loop → tie.After-slice-known Inv-loop μ-loop
+slice-known-from-then1 c = c .before .before .before .before
+
+abbrev start-from-sweep : tie.After-sweep Inv-loop μ-loop → tie.Start Inv-loop μ-loop
+start-from-sweep c = c .before .before .before .before .before .before .before .before .before
+
 passes-by-sides-requires : tie.Need-passes-by-sides-requires Inv-loop μ-loop
 passes-by-sides-requires c κs =
-    let p = c .before .before .before .before .pre in
+    let p = start-from-passes-by-sides-arg2 c .pre in
     (p .0 .0, omega (arith, p .0 .2 .len), p .1)
 
 same-length : tie.Need-same-length Inv-loop μ-loop
@@ -30,13 +40,13 @@ same-length c = refl
 
 returns : tie.Need-returns Inv-loop μ-loop
 returns c =
-    let k = c .before .before .before .before in
+    let k = slice-known-from-then1 c in
     let s = k .before .before in
     exact (graphOf (now (s .args .block))) (now (s .args .table)) (s .pre .0 .2)
     (c .before .passes-by-sides .ensures .0 (c .if1 .taken)) (λ u. omega (arith, k .slice-known .given u))
 
 loop-holds : tie.Need-loop-holds Inv-loop μ-loop
-loop-holds c = (refl, c .before .before .before .before .before .before .pre .0 .2)
+loop-holds c = (refl, start-from-passes-by-sides-arg2 (c .before .before) .pre .0 .2)
 
 sweep-requires : tie.Need-sweep-requires Inv-loop μ-loop
 sweep-requires c κs = search needs
@@ -49,7 +59,7 @@ same-length-2 c =
 returns-2 : tie.Need-returns-2 Inv-loop μ-loop
 returns-2 c =
     let d = c .before .before .before in
-    let b = now (d .before .before .before .before .before .before .before .before .before .args .block) in
+    let b = now (start-from-sweep d .args .block) in
     let s = d .sweep .ensures in
     exact (graphOf b) (d .sweep .last .1 .1 .1 .1 .0) (s .good) (s .passes (not-true _ (c .if2 .taken)))
     (λ u. omega (arith, c .before .slice-known2 .given u))

@@ -6,6 +6,13 @@ use Rattle.frames.proofs.DigitLaws.{decimal, letter, below, between, ab
 use Rattle.frames.proofs.digits.digit_value.Statement.{statement}
 use Rattle.frames.proofs.digits.digit_value.Tie as tie
 
+-- the places that the facts below go back to
+abbrev start-from-then4 : tie.Then4 → tie.Start
+start-from-then4 c = c .before .before .before .before
+
+abbrev start-from-else4 : tie.Else4 → tie.Start
+start-from-else4 c = c .before .before .before .before
+
 sub-result : tie.Need-sub-result
 sub-result c = search needs
 
@@ -13,7 +20,7 @@ returns : tie.Need-returns
 returns c = omega (arith, decimal (c .before .before .args .c) (omega arith) (omega arith) .value)
 
 returns-2 : tie.Need-returns-2
-returns-2 c = omega (arith, letter (c .before .before .before .before .args .c) (omega arith) (omega arith) .value)
+returns-2 c = omega (arith, letter (start-from-then4 c .args .c) (omega arith) (omega arith) .value)
 
 returns-3 : tie.Need-returns-3
 returns-3 c = omega (arith, below (c .before .args .c) (omega arith) .value)
@@ -22,7 +29,7 @@ returns-4 : tie.Need-returns-4
 returns-4 c = omega (arith, between (c .before .before .before .args .c) (omega arith) (omega arith) .value)
 
 returns-5 : tie.Need-returns-5
-returns-5 c = omega (arith, above (c .before .before .before .before .args .c) (omega arith) .value)
+returns-5 c = omega (arith, above (start-from-else4 c .args .c) (omega arith) .value)
 
 pub digit-value-spec : {M : Type 1} → statement M
 digit-value-spec = tie.close (tie.spec sub-result returns returns-2 returns-3 returns-4 returns-5)

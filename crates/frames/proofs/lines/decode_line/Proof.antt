@@ -1,7 +1,7 @@
 -- `frames::lines::decode_line` meets its contract.
 -- The loop's invariant: writing the bytes that are left where the loop stands leaves what writing all of them does.
 use mathlib.Core.Path.{_≡_, refl, sym, ap, ap₂, _∙_}
-use mathlib.Core.List.{[], _∷_}
+use mathlib.Core.List.{List, [], _∷_}
 use Prim.Native.Nat.{ℕ, _+_, _*_, _-_, _≤_}
 use native.Mathlib.Omega.{arith}
 use native.Mathlib.Numerals.{add-one}
@@ -22,6 +22,16 @@ Inv-loop line out₀ to at₀ i₀ out at i =
 
 abbrev μ-loop : tie.MeasureT-loop
 μ-loop line out₀ to at₀ i₀ out at i = length line - i
+
+-- the places that the facts below go back to
+abbrev start-from-in-loop : tie.In-loop Inv-loop μ-loop → tie.Start Inv-loop μ-loop
+start-from-in-loop c = c .before .before .before .before
+
+abbrev in-loop-from-digit2 : tie.After-digit-value2 Inv-loop μ-loop → tie.In-loop Inv-loop μ-loop
+in-loop-from-digit2 c = c .before .before .before .before
+
+abbrev start-from-loop : tie.After-loop Inv-loop μ-loop → tie.Start Inv-loop μ-loop
+start-from-loop c = c .before .before .before .before
 
 loop-holds : tie.Need-loop-holds Inv-loop μ-loop
 loop-holds c = (search needs, refl, refl, refl)
@@ -51,16 +61,22 @@ add-out : tie.Need-add-out Inv-loop μ-loop
 add-out c = search needs
 
 -- the byte of this pair, in front of those that are left
-pair :
-    (c : tie.After-digit-value2 Inv-loop μ-loop)
-    → lineBytes (drop (c .before .before .before .before .before .loop .i) (now (c .before .before .before .before .before .before .before .before .args .line)))
-    ≡ (16 * c .before .before .digit-value .result + c .digit-value2 .result)
-    ∷ lineBytes (drop (c .before .before .before .before .before .loop .i + 2) (now (c .before .before .before .before .before .before .before .before .args .line)))
-pair c =
-    let l = now (c .before .before .before .before .before .before .before .before .args .line) in
-    let i = c .before .before .before .before .before .loop .i in
-    pair-bytes l i (c .before .before .before .before .loop-test .taken)
-    ∙ ap₂ (λ (a b : ℕ). (16 * a + b) ∷ lineBytes (drop (i + 2) l)) (sym (c .before .before .digit-value .ensures .0)) (sym (c .digit-value2 .ensures .0))
+module _ (c : tie.After-digit-value2 Inv-loop μ-loop) where
+  abbrev line : List ℕ
+  line = now (start-from-in-loop (in-loop-from-digit2 c) .args .line)
+
+  abbrev i : ℕ
+  i = in-loop-from-digit2 c .before .loop .i
+
+  abbrev byte : ℕ
+  byte = 16 * c .before .before .digit-value .result + c .digit-value2 .result
+
+  pair : lineBytes (drop i line) ≡ byte ∷ lineBytes (drop (i + 2) line)
+  pair =
+      let high = c .before .before .digit-value .ensures .0 in
+      let low = c .digit-value2 .ensures .0 in
+      pair-bytes line i (in-loop-from-digit2 c .loop-test .taken)
+      ∙ ap₂ (λ (a b : ℕ). (16 * a + b) ∷ lineBytes (drop (i + 2) line)) (sym high) (sym low)
 
 slice-write-out : tie.Need-slice-write-out Inv-loop μ-loop
 slice-write-out c = omega (arith, ap length (pair c))
@@ -76,21 +92,22 @@ loop-less c = search needs
 
 loop-again : tie.Need-loop-again Inv-loop μ-loop
 loop-again c =
-    let l = now (c .before .before .before .before .before .before .before .before .args .line) in
-    let loop = c .before .before .before .before .before .loop in
-    let x = 16 * c .before .before .digit-value .result + c .digit-value2 .result in (
+    let loop = in-loop-from-digit2 c .before .loop in
+    let left = lineBytes (drop (i c + 2) (line c)) in (
       search needs,
-      length-set (loop .out) (loop .at) x ∙ loop .inv .1,
+      length-set (loop .out) (loop .at) (byte c) ∙ loop .inv .1,
       omega (arith, ap length (pair c)),
-      ap (λ (k : ℕ). sets (set (loop .out) (loop .at) x) k (lineBytes (drop (loop .i + 2) l))) (add-one (loop .at))
+      ap (λ (k : ℕ). sets (set (loop .out) (loop .at) (byte c)) k left) (add-one (loop .at))
           ∙ ap (sets (loop .out) (loop .at)) (sym (pair c))
           ∙ loop .inv .3,
     )
 
 -- no byte is left
-none : (c : tie.After-loop Inv-loop μ-loop) → lineBytes (drop (c .before .loop .i) (now (c .before .before .before .before .args .line))) ≡ []
+none :
+    (c : tie.After-loop Inv-loop μ-loop)
+    → lineBytes (drop (c .before .loop .i) (now (start-from-loop c .args .line))) ≡ []
 none c =
-    let l = now (c .before .before .before .before .args .line) in
+    let l = now (start-from-loop c .args .line) in
     let i = c .before .loop .i in
     no-bytes (drop i l) (omega (arith, length-drop i l))
 

@@ -1,16 +1,16 @@
 -- `frames::lines::encode_line` meets its contract.
 -- The loop's invariant: writing the bytes that are left where the loop stands leaves what writing all of them does.
 use mathlib.Core.Path.{_≡_, refl, sym, ap, ap₂, _∙_}
-use mathlib.Core.List.{[], _∷_}
-use Prim.Native.Nat.{ℕ, _+_, _-_, _≤_}
+use mathlib.Core.List.{List, [], _∷_}
+use Prim.Native.Nat.{ℕ, _+_, _-_, _/_, _%_, _≤_}
 use native.Mathlib.Omega.{arith}
 use native.Mathlib.Numerals.{add-one, add-two}
-use lib.ListN.{length, set, drop, length-set, drop-of-length-le}
+use lib.ListN.{length, getD, set, drop, length-set, drop-of-length-le}
 use lib.Seq.{sets}
 use denote.Ref.{now}
 use borrow.Author.Needs.{needs}
 use Rattle.basics.proofs.Lists.{sets-front}
-use Rattle.frames.specs.Lines.{lineFeed, lineOf}
+use Rattle.frames.specs.Lines.{lineFeed, digitOf, lineOf}
 use Rattle.frames.proofs.PairLaws.{byte-apart}
 use Rattle.frames.proofs.lines.encode_line.Statement.{statement}
 use Rattle.frames.proofs.lines.encode_line.Tie as tie
@@ -24,6 +24,27 @@ Inv-loop bytes out₀ at₀ i₀ out at i =
 abbrev μ-loop : tie.MeasureT-loop
 μ-loop bytes out₀ at₀ i₀ out at i = length bytes - i
 
+-- the places that the facts below go back to
+abbrev start-from-in-loop : tie.In-loop Inv-loop μ-loop → tie.Start Inv-loop μ-loop
+start-from-in-loop c = c .before .before .before .before
+
+abbrev start-from-loop : tie.After-loop Inv-loop μ-loop → tie.Start Inv-loop μ-loop
+start-from-loop c = c .before .before .before .before
+
+-- the digits of the first of the bytes that are left, in front of those of the others
+module _ (c : tie.In-loop Inv-loop μ-loop) where
+  abbrev bytes : List ℕ
+  bytes = now (start-from-in-loop c .args .bytes)
+
+  abbrev i : ℕ
+  i = c .before .loop .i
+
+  abbrev byte : ℕ
+  byte = getD bytes i 0
+
+  next : lineOf (drop i bytes) ≡ digitOf (byte / 16) ∷ digitOf (byte % 16) ∷ lineOf (drop (i + 1) bytes)
+  next = byte-apart bytes i (c .loop-test .taken)
+
 loop-holds : tie.Need-loop-holds Inv-loop μ-loop
 loop-holds c = (search needs, refl, omega arith, refl)
 
@@ -34,28 +55,22 @@ digit-of-requires : tie.Need-digit-of-requires Inv-loop μ-loop
 digit-of-requires c κs = omega (arith, c .shared-slice-known2 .given (c .before .before .loop .i))
 
 slice-write-out : tie.Need-slice-write-out Inv-loop μ-loop
-slice-write-out c =
-    let b = now (c .before .before .before .before .before .before .args .bytes) in
-    omega (arith, ap length (byte-apart b (c .before .before .before .loop .i) (c .before .before .loop-test .taken)))
+slice-write-out c = omega (arith, ap length (next (c .before .before)))
 
 digit-of-requires-2 : tie.Need-digit-of-requires-2 Inv-loop μ-loop
 digit-of-requires-2 c κs = search needs
 
 add-out : tie.Need-add-out Inv-loop μ-loop
-add-out c =
-    let b = now (c .before .before .before .before .before .before .before .args .bytes) in
-    omega (arith, ap length (byte-apart b (c .before .before .before .before .loop .i) (c .before .before .before .loop-test .taken)))
+add-out c = omega (arith, ap length (next (c .before .before .before)))
 
 slice-write-out-2 : tie.Need-slice-write-out-2 Inv-loop μ-loop
 slice-write-out-2 c =
-    let b = now (c .before .before .before .before .before .before .before .args .bytes) in
-    let loop = c .before .before .before .before .loop in
-    omega (arith, ap length (byte-apart b (loop .i) (c .before .before .before .loop-test .taken)), length-set (loop .out) (loop .at) (c .before .digit-of .result))
+    let d = c .before .before .before in
+    let loop = d .before .loop in
+    omega (arith, ap length (next d), length-set (loop .out) (loop .at) (c .before .digit-of .result))
 
 add-at : tie.Need-add-at Inv-loop μ-loop
-add-at c =
-    let b = now (c .before .before .before .before .before .before .before .args .bytes) in
-    omega (arith, ap length (byte-apart b (c .before .before .before .before .loop .i) (c .before .before .before .loop-test .taken)))
+add-at c = omega (arith, ap length (next (c .before .before .before)))
 
 add-i : tie.Need-add-i Inv-loop μ-loop
 add-i c = search needs
@@ -65,24 +80,25 @@ loop-less c = search needs
 
 loop-again : tie.Need-loop-again Inv-loop μ-loop
 loop-again c =
-    let b = now (c .before .before .before .before .before .before .before .args .bytes) in
-    let loop = c .before .before .before .before .loop in
+    let d = c .before .before .before in
+    let loop = d .before .loop in
     let x = c .before .digit-of .result in
     let y = c .digit-of2 .result in
-    let next = byte-apart b (loop .i) (c .before .before .before .loop-test .taken) in
-    let rest = lineOf (drop (loop .i + 1) b) in (
+    let rest = lineOf (drop (i d + 1) (bytes d)) in
+    let digits = ap₂ (λ (p q : ℕ). p ∷ q ∷ rest) (c .before .digit-of .ensures) (c .digit-of2 .ensures) in (
       search needs,
       length-set (set (loop .out) (loop .at) x) (loop .at + 1) y ∙ length-set (loop .out) (loop .at) x ∙ loop .inv .1,
-      omega (arith, ap length next),
+      omega (arith, ap length (next d)),
       ap₂ (λ (k j : ℕ). sets (set (set (loop .out) (loop .at) x) k y) j rest) (add-one (loop .at)) (add-two (loop .at))
-          ∙ ap₂ (λ (p q : ℕ). sets (loop .out) (loop .at) (p ∷ q ∷ rest)) (c .before .digit-of .ensures) (c .digit-of2 .ensures)
-          ∙ ap (sets (loop .out) (loop .at)) (sym next)
+          ∙ ap (sets (loop .out) (loop .at)) (digits ∙ sym (next d))
           ∙ loop .inv .3,
     )
 
 -- the line feed alone is left
-left : (c : tie.After-loop Inv-loop μ-loop) → lineOf (drop (c .before .loop .i) (now (c .before .before .before .before .args .bytes))) ≡ lineFeed ∷ []
-left c = ap lineOf (drop-of-length-le (now (c .before .before .before .before .args .bytes)) (c .loop-test .left))
+left :
+    (c : tie.After-loop Inv-loop μ-loop)
+    → lineOf (drop (c .before .loop .i) (now (start-from-loop c .args .bytes))) ≡ lineFeed ∷ []
+left c = ap lineOf (drop-of-length-le (now (start-from-loop c .args .bytes)) (c .loop-test .left))
 
 slice-write-out-3 : tie.Need-slice-write-out-3 Inv-loop μ-loop
 slice-write-out-3 c = omega (arith, ap length (left c))
@@ -95,7 +111,7 @@ same-length c = length-set (c .before .loop .out) (c .before .loop .at) lineFeed
 
 returns : tie.Need-returns Inv-loop μ-loop
 returns c =
-    let s = c .before .before .before .before in
+    let s = start-from-loop c in
     let loop = c .before .loop in (
       omega (arith, ap length (left c)),
       ap (sets (loop .out) (loop .at)) (sym (left c)) ∙ loop .inv .3

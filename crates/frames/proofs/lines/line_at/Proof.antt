@@ -16,6 +16,10 @@ use Rattle.frames.proofs.LineLaws.{line-none, line-part, line-inside}
 use Rattle.frames.proofs.lines.line_at.Statement.{statement}
 use Rattle.frames.proofs.lines.line_at.Tie as tie
 
+-- the places that the facts below go back to
+abbrev start-from-line-ok : tie.After-line-ok → tie.Start
+start-from-line-ok c = c .before .before .before .before .before
+
 -- what is told of a line, part by part
 told :
     (x : List ℕ) (at : ℕ) (a : Bool) (n m : ℕ) → a ≡ lineOk (lineFrom x at) → n ≡ length (lineBytes (lineFrom x at))
@@ -27,7 +31,8 @@ returns c =
     let x = now (c .before .before .args .text) in
     let at = c .before .before .args .at in
     let none = line-none x at (c .if1 .taken) in
-    told x at _ 0 at (ap lineOk (sym none)) (ap (λ (l : List ℕ). length (lineBytes l)) (sym none)) (omega (arith, ap length none))
+    told x at _ 0 at (ap lineOk (sym none)) (ap (λ (l : List ℕ). length (lineBytes l)) (sym none))
+    (omega (arith, ap length none))
 
 line-end-requires : tie.Need-line-end-requires
 line-end-requires c κs = search needs
@@ -51,7 +56,7 @@ sub-t5 c = search needs
 
 returns-2 : tie.Need-returns-2
 returns-2 c =
-    let s = c .before .before .before .before .before in
+    let s = start-from-line-ok c in
     let x = now (s .args .text) in
     let at = s .args .at in
     let next = c .before .before .line-end .result in

@@ -18,6 +18,13 @@ Inv-loop text at i₀ i = i + length (lineFrom text i) ≡ at + length (lineFrom
 abbrev μ-loop : tie.MeasureT-loop
 μ-loop text at i₀ i = length text - i
 
+-- the places that the facts below go back to
+abbrev start-from-then1 : tie.Then1 Inv-loop μ-loop → tie.Start Inv-loop μ-loop
+start-from-then1 c = c .before .before .before .before
+
+abbrev start-from-else1 : tie.Else1 Inv-loop μ-loop → tie.Start Inv-loop μ-loop
+start-from-else1 c = c .before .before .before .before
+
 loop-holds : tie.Need-loop-holds Inv-loop μ-loop
 loop-holds c = search needs
 
@@ -29,7 +36,7 @@ add-result c = search needs
 
 returns : tie.Need-returns Inv-loop μ-loop
 returns c =
-    let x = now (c .before .before .before .before .args .text) in
+    let x = now (start-from-then1 c .args .text) in
     let i = c .before .before .before .loop .i in
     omega (arith, ap length (line-feed x i (c .before .before .loop-test .taken) (c .if1 .taken)))
 
@@ -41,9 +48,10 @@ loop-less c = search needs
 
 loop-again : tie.Need-loop-again Inv-loop μ-loop
 loop-again c =
-    let x = now (c .before .before .before .before .args .text) in
+    let x = now (start-from-else1 c .args .text) in
     let i = c .before .before .before .loop .i in
-    omega (arith, ap length (line-more x i (c .before .before .loop-test .taken) (c .if1 .left)), ap (λ (k : ℕ). length (lineFrom x k)) (add-one i))
+    let more = line-more x i (c .before .before .loop-test .taken) (c .if1 .left) in
+    omega (arith, ap length more, ap (λ (k : ℕ). length (lineFrom x k)) (add-one i))
 
 returns-2 : tie.Need-returns-2 Inv-loop μ-loop
 returns-2 c =

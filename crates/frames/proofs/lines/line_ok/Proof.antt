@@ -2,7 +2,8 @@
 -- The loop's invariant: what is left of the line is as good as the whole.
 use mathlib.Core.Path.{_≡_, refl, sym, ap, ap₂, _∙_}
 use mathlib.Core.Bool.{Bool, _&&_}
-use Prim.Native.Nat.{_+_, _-_, _≤_}
+use mathlib.Core.List.{List}
+use Prim.Native.Nat.{ℕ, _+_, _-_, _≤_}
 use native.Mathlib.Omega.{arith}
 use lib.ListN.{length, drop}
 use denote.Ref.{now}
@@ -18,6 +19,16 @@ Inv-loop line i₀ i = (i ≤ length line) × (lineOk (drop i line) ≡ lineOk l
 
 abbrev μ-loop : tie.MeasureT-loop
 μ-loop line i₀ i = length line - i
+
+-- the places that the facts below go back to
+abbrev in-loop-from-and : tie.After-and Inv-loop μ-loop → tie.In-loop Inv-loop μ-loop
+in-loop-from-and c = c .before .before .before .before .before
+
+abbrev start-from-slice4 : tie.After-shared-slice-known4 Inv-loop μ-loop → tie.Start Inv-loop μ-loop
+start-from-slice4 c = c .before .before .before .before .before
+
+abbrev start-from-else2 : tie.Else2 Inv-loop μ-loop → tie.Start Inv-loop μ-loop
+start-from-else2 c = c .before .before .before .before
 
 loop-holds : tie.Need-loop-holds Inv-loop μ-loop
 loop-holds c = (search needs, refl)
@@ -44,23 +55,23 @@ and-requires : tie.Need-and-requires Inv-loop μ-loop
 and-requires c κs = search needs
 
 -- the line is right exactly where this pair and what is left behind it are
-turn :
-    (c : tie.After-and Inv-loop μ-loop)
-    → lineOk (now (c .before .before .before .before .before .before .before .before .args .line))
-    ≡ (c .and .result && lineOk (drop (c .before .before .before .before .before .before .loop .i + 2) (now (c .before .before .before .before .before .before .before .before .args .line))))
-turn c =
-    let l = now (c .before .before .before .before .before .before .before .before .args .line) in
-    let i = c .before .before .before .before .before .before .loop .i in
-    sym (c .before .before .before .before .before .before .loop .inv .1)
-    ∙ pair-ok l i (c .before .before .before .before .before .loop-test .taken)
-    ∙ ap (λ (t : Bool). t && lineOk (drop (i + 2) l))
-    (sym (c .and .ensures ∙ ap₂ _&&_ (c .before .before .before .is-digit .ensures) (c .before .is-digit2 .ensures)))
+module _ (c : tie.After-and Inv-loop μ-loop) where
+  abbrev line : List ℕ
+  line = now (in-loop-from-and c .before .before .before .args .line)
+
+  abbrev i : ℕ
+  i = in-loop-from-and c .before .loop .i
+
+  turn : (good : Bool) → c .and .result ≡ good → lineOk line ≡ (good && lineOk (drop (i + 2) line))
+  turn good e =
+      let d = in-loop-from-and c in
+      let tested = ap₂ _&&_ (c .before .before .before .is-digit .ensures) (c .before .is-digit2 .ensures) in
+      sym (d .before .loop .inv .1)
+      ∙ pair-ok line i (d .loop-test .taken)
+      ∙ ap (λ (t : Bool). t && lineOk (drop (i + 2) line)) (sym (c .and .ensures ∙ tested) ∙ e)
 
 returns : tie.Need-returns Inv-loop μ-loop
-returns c =
-    let l = now (c .before .before .before .before .before .before .before .before .before .args .line) in
-    let i = c .before .before .before .before .before .before .before .loop .i in
-    sym (turn (c .before) ∙ ap (λ (t : Bool). t && lineOk (drop (i + 2) l)) (not-true (c .before .and .result) (c .if1 .taken)))
+returns c = sym (turn (c .before) _ (not-true (c .before .and .result) (c .if1 .taken)))
 
 add-i : tie.Need-add-i Inv-loop μ-loop
 add-i c = search needs
@@ -69,23 +80,20 @@ loop-less : tie.Need-loop-less Inv-loop μ-loop
 loop-less c = search needs
 
 loop-again : tie.Need-loop-again Inv-loop μ-loop
-loop-again c =
-    let l = now (c .before .before .before .before .before .before .before .before .before .args .line) in
-    let i = c .before .before .before .before .before .before .before .loop .i in
-    (search needs, sym (turn (c .before) ∙ ap (λ (t : Bool). t && lineOk (drop (i + 2) l)) (not-false (c .before .and .result) (c .if1 .left))))
+loop-again c = (search needs, sym (turn (c .before) _ (not-false (c .before .and .result) (c .if1 .left))))
 
 shared-slice-read-result : tie.Need-shared-slice-read-result Inv-loop μ-loop
 shared-slice-read-result c = search needs
 
 returns-2 : tie.Need-returns-2 Inv-loop μ-loop
 returns-2 c =
-    let l = now (c .before .before .before .before .before .args .line) in
+    let l = now (start-from-slice4 c .args .line) in
     let i = c .before .before .before .loop .i in
     sym (sym (c .before .before .before .loop .inv .1) ∙ last-ok l i (omega arith))
 
 returns-3 : tie.Need-returns-3 Inv-loop μ-loop
 returns-3 c =
-    let l = now (c .before .before .before .before .args .line) in
+    let l = now (start-from-else2 c .args .line) in
     let i = c .before .before .loop .i in
     sym (sym (c .before .before .loop .inv .1) ∙ none-ok l i (omega arith))
 

@@ -18,6 +18,10 @@ use Rattle.frames.proofs.LineLaws.{line-part, line-inside}
 use Rattle.frames.proofs.reading.decode_head.Statement.{statement}
 use Rattle.frames.proofs.reading.decode_head.Tie as tie
 
+-- the places that the facts below go back to
+abbrev line-end-from-head2 : tie.After-head2 → tie.After-line-end
+line-end-from-head2 c = c .before .before .before .before
+
 line-end-requires : tie.Need-line-end-requires
 line-end-requires c κs = search needs
 
@@ -50,7 +54,7 @@ decode-line-requires c κs = omega (arith, ap length (part (c .before .before)),
 
 returns : tie.Need-returns
 returns c =
-    let d = c .before .before .before .before in
+    let d = line-end-from-head2 c in
     let head = headOf (linesOf (x d)) in
     c .before .decode-line .ensures .1
     ∙ ap (sets (replicate 5 0) 0) (part d)

@@ -1,5 +1,6 @@
 -- `frames::reading::decode_lines` meets its contract.
--- The loop's invariant: writing the bytes of the lines that are left where the loop stands leaves what writing those of all lines does.
+-- The loop's invariant: writing the bytes of the lines that are left where the loop stands leaves what writing those of
+-- all lines does.
 use mathlib.Core.Path.{_≡_, refl, sym, ap, _∙_}
 use mathlib.Core.List.{List, _++_}
 use Prim.Native.Nat.{ℕ, _+_, _-_, _≤_}
@@ -26,6 +27,16 @@ Inv-loop text out₀ at₀ to₀ out at to =
 abbrev μ-loop : tie.MeasureT-loop
 μ-loop text out₀ at₀ to₀ out at to = length text - at
 
+-- the places that the facts below go back to
+abbrev start-from-line-end : tie.After-line-end Inv-loop μ-loop → tie.Start Inv-loop μ-loop
+start-from-line-end c = c .before .before .before .before .before
+
+abbrev line-end-from-slice2 : tie.After-slice-known2 Inv-loop μ-loop → tie.After-line-end Inv-loop μ-loop
+line-end-from-slice2 c = c .before .before .before .before .before
+
+abbrev start-from-loop : tie.After-loop Inv-loop μ-loop → tie.Start Inv-loop μ-loop
+start-from-loop c = c .before .before .before .before
+
 loop-holds : tie.Need-loop-holds Inv-loop μ-loop
 loop-holds c = (refl, omega arith, refl)
 
@@ -34,7 +45,7 @@ line-end-requires c κs = search needs
 
 module _ (c : tie.After-line-end Inv-loop μ-loop) where
   abbrev x : List ℕ
-  x = now (c .before .before .before .before .before .args .text)
+  x = now (start-from-line-end c .args .text)
 
   abbrev at : ℕ
   at = c .before .before .loop .at
@@ -56,7 +67,8 @@ module _ (c : tie.After-line-end Inv-loop μ-loop) where
   bytes : blockOf (linesOf (drop at x)) ≡ lineBytes (lineFrom x at) ++ blockOf (behind x at)
   bytes = block-from x at (c .before .loop-test .taken)
 
-  bytes-length : length (blockOf (linesOf (drop at x))) ≡ length (lineBytes (lineFrom x at)) + length (blockOf (behind x at))
+  bytes-length :
+      length (blockOf (linesOf (drop at x))) ≡ length (lineBytes (lineFrom x at)) + length (blockOf (behind x at))
   bytes-length = ap length bytes ∙ length-append (lineBytes (lineFrom x at)) (blockOf (behind x at))
 
 sub-decode-line : tie.Need-sub-decode-line Inv-loop μ-loop
@@ -75,13 +87,13 @@ decode-line-requires c κs =
 
 loop-less : tie.Need-loop-less Inv-loop μ-loop
 loop-less c =
-    let d = c .before .before .before .before .before in
+    let d = line-end-from-slice2 c in
     omega (arith, onward d, line-some (x d) (at d) (d .before .loop-test .taken))
 
 loop-again : tie.Need-loop-again Inv-loop μ-loop
 loop-again c =
-    let d = c .before .before .before .before .before in
-    let loop = c .before .before .before .before .before .before .before .loop in
+    let d = line-end-from-slice2 c in
+    let loop = d .before .before .loop in
     let call = c .before .before .decode-line in
     let mine = lineBytes (lineFrom (x d) (at d)) in
     let rest = blockOf (behind (x d) (at d)) in
@@ -104,7 +116,7 @@ same-length c = c .before .loop .inv .0
 
 returns : tie.Need-returns Inv-loop μ-loop
 returns c =
-    let s = c .before .before .before .before in
+    let s = start-from-loop c in
     let loop = c .before .loop in
     let none = block-end (now (s .args .text)) (loop .at) (c .loop-test .left) in (
       omega (arith, ap length none),

@@ -29,6 +29,13 @@ Inv-loop head text «from» count at₀ i₀ at i =
 abbrev μ-loop : tie.MeasureT-loop
 μ-loop head text «from» count at₀ i₀ at i = length text - at
 
+-- the places that the facts below go back to
+abbrev start-from-line-end : tie.After-line-end Inv-loop μ-loop → tie.Start Inv-loop μ-loop
+start-from-line-end c = c .before .before .before .before .before .before
+
+abbrev start-from-loop : tie.After-loop Inv-loop μ-loop → tie.Start Inv-loop μ-loop
+start-from-loop c = c .before .before .before .before .before
+
 frame-count-requires : tie.Need-frame-count-requires Inv-loop μ-loop
 frame-count-requires c κs = search needs
 
@@ -40,7 +47,7 @@ line-end-requires c κs = search needs
 
 module _ (c : tie.After-line-end Inv-loop μ-loop) where
   abbrev start : tie.Start Inv-loop μ-loop
-  start = c .before .before .before .before .before .before
+  start = start-from-line-end c
 
   abbrev x : List ℕ
   x = now (start .args .text)
@@ -58,7 +65,10 @@ module _ (c : tie.After-line-end Inv-loop μ-loop) where
   onward : c .line-end .result ≡ at + length (lineFrom x at)
   onward = c .line-end .ensures
 
-  counted : (c .line-end .result - at) / 2 ≡ length (lineBytes (lineFrom x at))
+  abbrev many : ℕ
+  many = length (lineBytes (lineFrom x at))
+
+  counted : (c .line-end .result - at) / 2 ≡ many
   counted = omega (arith, onward, half-length (lineFrom x at))
 
   -- the tests of this line
@@ -66,7 +76,7 @@ module _ (c : tie.After-line-end Inv-loop μ-loop) where
   tested few fits = few && (fits && linesFit head (suc i) (behind x at))
 
   turn :
-      (few fits : Bool) → ltb i (frameCount head) ≡ few → eqb (length (lineBytes (lineFrom x at))) (frameLength head i) ≡ fits
+      (few fits : Bool) → ltb i (frameCount head) ≡ few → eqb many (frameLength head i) ≡ fits
       → linesFit head 0 (linesOf (drop (start .args .«from») x)) ≡ tested few fits
   turn few fits p q =
       sym (c .before .before .loop .inv .1) ∙ fit-from x at (c .before .loop-test .taken) head i ∙ ap₂ tested p q
@@ -85,8 +95,9 @@ frame-length-requires c κs = search needs
 returns-2 : tie.Need-returns-2 Inv-loop μ-loop
 returns-2 c =
     let d = c .before .before .before in
-    sym (turn d _ _ refl (ne-eqb (length (lineBytes (lineFrom (x d) (at d)))) (frameLength (head d) (i d)) (λ e. c .if2 .taken (counted d ∙ e ∙ sym (c .before .frame-length .ensures))))
-    ∙ and-right-false (ltb (i d) (frameCount (head d))) _ refl)
+    let long = c .before .frame-length .ensures in
+    let wrong = ne-eqb (many d) (frameLength (head d) (i d)) (λ e. c .if2 .taken (counted d ∙ e ∙ sym long)) in
+    sym (turn d _ _ refl wrong ∙ and-right-false (ltb (i d) (frameCount (head d))) _ refl)
 
 add-i : tie.Need-add-i Inv-loop μ-loop
 add-i c = search needs
@@ -100,15 +111,19 @@ loop-again : tie.Need-loop-again Inv-loop μ-loop
 loop-again c =
     let d = c .before .before .before in
     let few = lt-ltb (i d) (frameCount (head d)) (omega arith) in
-    let fits = eq-eqb (length (lineBytes (lineFrom (x d) (at d)))) (frameLength (head d) (i d)) (sym (counted d) ∙ c .if2 .left ∙ c .before .frame-length .ensures) in
-    (search needs, ap₂ (λ (j k : ℕ). linesFit (head d) j (linesOf (drop k (x d)))) (add-one (i d)) (onward d) ∙ sym (turn d _ _ few fits))
+    let long = c .before .frame-length .ensures in
+    let fits = eq-eqb (many d) (frameLength (head d) (i d)) (sym (counted d) ∙ c .if2 .left ∙ long) in (
+      search needs,
+      ap₂ (λ (j k : ℕ). linesFit (head d) j (linesOf (drop k (x d)))) (add-one (i d)) (onward d)
+          ∙ sym (turn d _ _ few fits),
+    )
 
 returns-3 : tie.Need-returns-3 Inv-loop μ-loop
 returns-3 c =
-    let s = c .before .before .before .before .before in
+    let a = start-from-loop c .args in
     let loop = c .before .loop in
-    ap (eqb (loop .i)) (c .before .before .frame-count .ensures .0)
-    ∙ sym (sym (loop .inv .1) ∙ fit-end (now (s .args .text)) (loop .at) (c .loop-test .left) (now (s .args .head)) (loop .i))
+    let ended = fit-end (now (a .text)) (loop .at) (c .loop-test .left) (now (a .head)) (loop .i) in
+    ap (eqb (loop .i)) (c .before .before .frame-count .ensures .0) ∙ sym (sym (loop .inv .1) ∙ ended)
 
 pub lines-fit-spec : {M : Type 1} → statement M
 lines-fit-spec =

@@ -2,6 +2,7 @@
 -- The loop's invariant: the lines that are left are as good as all of them.
 use mathlib.Core.Path.{_≡_, refl, sym, ap, ap₂, _∙_}
 use mathlib.Core.Bool.{Bool, _&&_}
+use mathlib.Core.List.{List}
 use Prim.Native.Nat.{ℕ, _+_, _-_}
 use native.Mathlib.Omega.{arith}
 use lib.ListN.{length, drop}
@@ -23,46 +24,52 @@ Inv-loop text at₀ at = linesOk (linesOf (drop at text)) ≡ linesOk (linesOf t
 abbrev μ-loop : tie.MeasureT-loop
 μ-loop text at₀ at = length text - at
 
+-- the places that the facts below go back to
+abbrev start-from-read-line : tie.After-read-line Inv-loop μ-loop → tie.Start Inv-loop μ-loop
+start-from-read-line c = c .before .before .before .before
+
 loop-holds : tie.Need-loop-holds Inv-loop μ-loop
 loop-holds c = refl
 
 read-line-requires : tie.Need-read-line-requires Inv-loop μ-loop
 read-line-requires c κs = search needs
 
--- where the next line begins
-onward :
-    (c : tie.After-read-line Inv-loop μ-loop)
-    → c .read-line .result .next ≡ c .before .before .loop .at + length (lineFrom (now (c .before .before .before .before .args .text)) (c .before .before .loop .at))
-onward c = ap (λ (l : Line). l .next) (c .read-line .ensures)
+module _ (c : tie.After-read-line Inv-loop μ-loop) where
+  abbrev x : List ℕ
+  x = now (start-from-read-line c .args .text)
 
--- all lines are right exactly where this one and those behind it are
-turn :
-    (c : tie.After-read-line Inv-loop μ-loop)
-    → linesOk (linesOf (now (c .before .before .before .before .args .text)))
-    ≡ (c .read-line .result .ok && linesOk (linesOf (drop (c .read-line .result .next) (now (c .before .before .before .before .args .text)))))
-turn c =
-    let x = now (c .before .before .before .before .args .text) in
-    let at = c .before .before .loop .at in
-    sym (c .before .before .loop .inv)
-    ∙ ok-from x at (c .before .loop-test .taken)
-    ∙ ap₂ (λ (t : Bool) (k : ℕ). t && linesOk (linesOf (drop k x))) (sym (ap (λ (l : Line). l .ok) (c .read-line .ensures))) (sym (onward c))
+  abbrev at : ℕ
+  at = c .before .before .loop .at
+
+  abbrev line : Line
+  line = c .read-line .result
+
+  -- where the next line begins
+  onward : line .next ≡ at + length (lineFrom x at)
+  onward = ap (λ (l : Line). l .next) (c .read-line .ensures)
+
+  -- all lines are right exactly where this one and those behind it are
+  turn : (right : Bool) → line .ok ≡ right → linesOk (linesOf x) ≡ (right && linesOk (linesOf (drop (line .next) x)))
+  turn right e =
+      let told = ap (λ (l : Line). l .ok) (c .read-line .ensures) in
+      sym (c .before .before .loop .inv)
+      ∙ ok-from x at (c .before .loop-test .taken)
+      ∙ ap₂ (λ (t : Bool) (k : ℕ). t && linesOk (linesOf (drop k x))) (sym told ∙ e) (sym onward)
 
 returns : tie.Need-returns Inv-loop μ-loop
 returns c =
-    let x = now (c .before .before .before .before .before .before .args .text) in
-    let line = c .before .before .read-line .result in
-    sym (turn (c .before .before) ∙ ap (λ (t : Bool). t && linesOk (linesOf (drop (line .next) x))) (not-true (line .ok) (c .if1 .taken)))
+    let d = c .before .before in
+    sym (turn d _ (not-true (line d .ok) (c .if1 .taken)))
 
 loop-less : tie.Need-loop-less Inv-loop μ-loop
 loop-less c =
-    let x = now (c .before .before .before .before .before .before .args .text) in
-    omega (arith, onward (c .before .before), line-some x (c .before .before .before .before .loop .at) (c .before .before .before .loop-test .taken))
+    let d = c .before .before in
+    omega (arith, onward d, line-some (x d) (at d) (d .before .loop-test .taken))
 
 loop-again : tie.Need-loop-again Inv-loop μ-loop
 loop-again c =
-    let x = now (c .before .before .before .before .before .before .args .text) in
-    let line = c .before .before .read-line .result in
-    sym (turn (c .before .before) ∙ ap (λ (t : Bool). t && linesOk (linesOf (drop (line .next) x))) (not-false (line .ok) (c .if1 .left)))
+    let d = c .before .before in
+    sym (turn d _ (not-false (line d .ok) (c .if1 .left)))
 
 returns-2 : tie.Need-returns-2 Inv-loop μ-loop
 returns-2 c =

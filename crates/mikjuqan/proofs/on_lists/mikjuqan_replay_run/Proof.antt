@@ -1,7 +1,7 @@
 -- `mikjuqan::on_lists::mikjuqan_replay_run` meets its contract.
 -- The answer and the buffer are those of the call of `engine`.
 use borrow.Author.Needs.{needs}
-use Rattle.c_answers.specs.Numbers.{runEndOf}
+use Rattle.c_answers.specs.Numbers.{replayNumbersOf}
 use Rattle.mikjuqan.proofs.Carried.{carried}
 use Rattle.mikjuqan.proofs.on_lists.mikjuqan_replay_run.Statement.{statement}
 use Rattle.mikjuqan.proofs.on_lists.mikjuqan_replay_run.Tie as tie
@@ -16,7 +16,7 @@ same-length : tie.Need-same-length
 same-length c = search needs
 
 returns : tie.Need-returns
-returns c = carried runEndOf (c .before .before .before .replay-run .ensures) (c .replayed .ensures)
+returns c = carried replayNumbersOf (c .before .before .before .replay-run .ensures) (c .replayed .ensures)
 
 pub mikjuqan-replay-run-spec : {M : Type 1} → statement M
 mikjuqan-replay-run-spec =

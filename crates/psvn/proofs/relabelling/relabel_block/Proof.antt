@@ -12,42 +12,63 @@ use Rattle.psvn.specs.Relabelling.{relabelRules, relabelGoals, relabelBl
 use Rattle.psvn.proofs.relabelling.relabel_block.Statement.{statement}
 use Rattle.psvn.proofs.relabelling.relabel_block.Tie as tie
 
+-- the places that the facts below go back to
+abbrev relabel-rules-from-slice-known4 : tie.After-slice-known4 → tie.After-relabel-rules
+relabel-rules-from-slice-known4 c = c .before .before .before .before .before .before
+
+abbrev start-from-relabel-rules-arg : tie.After-relabel-rules-arg → tie.Start
+start-from-relabel-rules-arg c = c .before .before .before .before .before .before .before
+
+abbrev relabel-head-from-relabel-goals-arg : tie.After-relabel-goals-arg → tie.After-relabel-head
+relabel-head-from-relabel-goals-arg c = c .before .before .before .before .before .before .before
+
+abbrev start-from-relabel-goals-arg : tie.After-relabel-goals-arg → tie.Start
+start-from-relabel-goals-arg c = relabel-head-from-relabel-goals-arg c .before .before .before .before
+
 -- the three parts' lengths
-parts : (b : List ℕ) → length (relabelBlock b) ≡ length (relabelHead b) + (length (relabelRules b) + length (relabelGoals b))
+parts :
+    (b : List ℕ) → length (relabelBlock b)
+    ≡ length (relabelHead b) + (length (relabelRules b) + length (relabelGoals b))
 unfolding relabelBlock
 parts b =
     length-append (relabelHead b) (relabelRules b ++ relabelGoals b)
     ∙ ap (λ (k : ℕ). length (relabelHead b) + k) (length-append (relabelRules b) (relabelGoals b))
 
 relabel-head-requires : tie.Need-relabel-head-requires
-relabel-head-requires c κs = (c .before .before .before .pre .0 .sized .head, omega (arith, parts (now (c .before .before .before .args .block))))
+relabel-head-requires c κs = (
+  c .before .before .before .pre .0 .sized .head,
+  omega (arith, parts (now (c .before .before .before .args .block))),
+)
 
 relabel-rules-requires : tie.Need-relabel-rules-requires
 relabel-rules-requires c κs =
-    let s = c .before .before .before .before .before .before .before in
+    let s = start-from-relabel-rules-arg c in
     (s .pre .0, omega (arith, parts (now (s .args .block)), c .before .before .before .relabel-head .kept .1 .0))
 
 relabel-goals-requires : tie.Need-relabel-goals-requires
 relabel-goals-requires c κs =
-    let s = c .before .before .before .before .before .before .before .before .before .before .before in
-    let kept = (c .before .before .before .relabel-rules .kept .1 .0 ∙ c .before .before .before .before .before .before .before .relabel-head .kept .1 .0) in
+    let s = start-from-relabel-goals-arg c in
+    let kept =
+    (c .before .before .before .relabel-rules .kept .1 .0
+    ∙ relabel-head-from-relabel-goals-arg c .relabel-head .kept .1 .0) in
     (s .pre .0, omega (arith, parts (now (s .args .block)), kept))
 
 same-length : tie.Need-same-length
 same-length c =
-    let rules-kept = c .before .before .before .before .before .before .relabel-rules .kept .1 .0 in
-    let head-kept = c .before .before .before .before .before .before .before .before .before .before .relabel-head .kept .1 .0 in
+    let rules-kept = relabel-rules-from-slice-known4 c .relabel-rules .kept .1 .0 in
+    let head-kept = relabel-head-from-relabel-goals-arg (c .before .before .before) .relabel-head .kept .1 .0 in
     c .before .before .relabel-goals .kept .1 .0 ∙ rules-kept ∙ head-kept
 
 returns : tie.Need-returns
 unfolding relabelBlock
 returns c =
-    let s = c .before .before .before .before .before .before .before .before .before .before .before .before .before .before in
+    let s = start-from-relabel-goals-arg (c .before .before .before) in
     let b = now (s .args .block) in
     let o = now (s .args .out) in
-    let h = c .before .before .before .before .before .before .before .before .before .before .relabel-head .ensures in
-    let r = c .before .before .before .before .before .before .relabel-rules .ensures in
-    let body = sets-behind _ _ (relabelRules b) (relabelGoals b) (r .1) (r .0) (c .before .before .relabel-goals .ensures) in
+    let h = relabel-head-from-relabel-goals-arg (c .before .before .before) .relabel-head .ensures in
+    let r = relabel-rules-from-slice-known4 c .relabel-rules .ensures in
+    let body =
+    sets-behind _ _ (relabelRules b) (relabelGoals b) (r .1) (r .0) (c .before .before .relabel-goals .ensures) in
     sets-behind o 0 (relabelHead b) (relabelRules b ++ relabelGoals b) (h .1) (omega (arith, h .0)) body
     ∙ sets-front o (relabelHead b ++ (relabelRules b ++ relabelGoals b)) (s .pre .1)
 

@@ -26,6 +26,19 @@ Inv-loop block out₀ to count at₀ g₀ out at g =
 abbrev μ-loop : tie.MeasureT-loop
 μ-loop block out₀ to goals at₀ g₀ out at g = goals - g
 
+-- the places that the facts below go back to
+abbrev goal-at-from-slice-known2 : tie.After-slice-known2 Inv-loop μ-loop → tie.After-goal-at Inv-loop μ-loop
+goal-at-from-slice-known2 c = c .before .before .before .before
+
+abbrev start-from-loop : tie.After-loop Inv-loop μ-loop → tie.Start Inv-loop μ-loop
+start-from-loop c = c .before .before .before .before .before
+
+abbrev loop-from-slice-known2 : tie.After-slice-known2 Inv-loop μ-loop → tie.At-loop Inv-loop μ-loop
+loop-from-slice-known2 c = goal-at-from-slice-known2 c .before .before
+
+abbrev start-from-relabel-side-arg : tie.After-relabel-side-arg Inv-loop μ-loop → tie.Start Inv-loop μ-loop
+start-from-relabel-side-arg c = c .before .before .before .before .before .before .before
+
 goals-requires : tie.Need-goals-requires Inv-loop μ-loop
 goals-requires c κs = search needs
 
@@ -37,9 +50,9 @@ goal-at-requires c κs = search needs
 
 relabel-side-requires : tie.Need-relabel-side-requires Inv-loop μ-loop
 relabel-side-requires c κs =
-    let a = c .before .before .before .before .before .before .before .args in
+    let a = start-from-relabel-side-arg c .args in
     let b = now (a .block) in
-    let h = c .before .before .before .before .before .before .before .pre .0 in
+    let h = start-from-relabel-side-arg c .pre .0 in
     let g = c .before .before .before .loop .g in
     let l : g < goals b = omega arith in (
       h .sized,
@@ -52,13 +65,16 @@ relabel-side-requires c κs =
 written :
     (c : tie.After-slice-known2 Inv-loop μ-loop)
     → c .before .before .relabel-side .last .1 .1 .0
-    ≡ sets (c .before .before .before .before .before .before .loop .out) (c .before .before .before .before .before .before .loop .at) (relabelGoal (now (c .before .before .before .before .before .before .before .before .before .before .args .block)) (c .before .before .before .before .before .before .loop .g))
+    ≡ sets (loop-from-slice-known2 c .loop .out) (loop-from-slice-known2 c .loop .at)
+    (relabelGoal (now (start-from-relabel-side-arg (c .before .before .before) .args .block))
+    (loop-from-slice-known2 c .loop .g))
 unfolding relabelGoal
 written c =
-    let b = now (c .before .before .before .before .before .before .before .before .before .before .args .block) in
-    let l = c .before .before .before .before .before .before .loop in
+    let b = now (start-from-relabel-side-arg (c .before .before .before) .args .block) in
+    let l = loop-from-slice-known2 c .loop in
     c .before .before .relabel-side .ensures .1
-    ∙ ap (λ (at : ℕ). sets (l .out) (l .at) (relabelSide b (sideAt b at))) (c .before .before .before .before .goal-at .ensures .0)
+    ∙ ap (λ (at : ℕ). sets (l .out) (l .at) (relabelSide b (sideAt b at)))
+    (goal-at-from-slice-known2 c .goal-at .ensures .0)
 
 add-g : tie.Need-add-g Inv-loop μ-loop
 add-g c = search needs
@@ -68,16 +84,22 @@ loop-less c = search needs
 
 loop-again : tie.Need-loop-again Inv-loop μ-loop
 loop-again c =
-    let a = c .before .before .before .before .before .before .before .before .before .before .args in
+    let a = start-from-relabel-side-arg (c .before .before .before) .args in
     let b = now (a .block) in
     let f = relabelGoal b in
-    let g = c .before .before .before .before .before .before .loop .g in
-    let inv = c .before .before .before .before .before .before .loop .inv in
+    let g = loop-from-slice-known2 c .loop .g in
+    let inv = loop-from-slice-known2 c .loop .inv in
     let more = joined-more f g in (
       inv .0,
       search needs,
       c .before .before .relabel-side .kept .1 .1 .0 ∙ inv .2,
-      omega (arith, ap length more, length-append (joined g f) (f g), c .before .before .relabel-side .ensures .0, goal-length b g),
+      omega (
+        arith,
+        ap length more,
+        length-append (joined g f) (f g),
+        c .before .before .relabel-side .ensures .0,
+        goal-length b g,
+      ),
       sets-behind (now (a .out)) (a .to) (joined g f) (f g) (inv .4) (inv .3) (written c)
           ∙ ap (sets (now (a .out)) (a .to)) (sym more),
     )
@@ -87,7 +109,7 @@ same-length c = c .before .loop .inv .2
 
 returns : tie.Need-returns Inv-loop μ-loop
 returns c =
-    let a = c .before .before .before .before .before .args in
+    let a = start-from-loop c .args in
     let b = now (a .block) in
     let e : c .before .loop .g ≡ goals b = omega arith in
     c .before .loop .inv .4 ∙ ap (λ (k : ℕ). sets (now (a .out)) (a .to) (joined k (relabelGoal b))) e

@@ -23,6 +23,16 @@ Inv-loop block out₀ to count at₀ r₀ out at r =
 abbrev μ-loop : tie.MeasureT-loop
 μ-loop block out₀ to rules at₀ r₀ out at r = rules - r
 
+-- the places that the facts below go back to
+abbrev loop-from-slice-known2 : tie.After-slice-known2 Inv-loop μ-loop → tie.At-loop Inv-loop μ-loop
+loop-from-slice-known2 c = c .before .before .before .before .before
+
+abbrev start-from-loop : tie.After-loop Inv-loop μ-loop → tie.Start Inv-loop μ-loop
+start-from-loop c = c .before .before .before .before .before
+
+abbrev start-from-relabel-rule-arg : tie.After-relabel-rule-arg Inv-loop μ-loop → tie.Start Inv-loop μ-loop
+start-from-relabel-rule-arg c = c .before .before .before .before .before .before
+
 rules-requires : tie.Need-rules-requires Inv-loop μ-loop
 rules-requires c κs = search needs
 
@@ -31,10 +41,16 @@ loop-holds c = (search needs, search needs, refl, omega arith, refl)
 
 relabel-rule-requires : tie.Need-relabel-rule-requires Inv-loop μ-loop
 relabel-rule-requires c κs =
-    let a = c .before .before .before .before .before .before .args in
+    let a = start-from-relabel-rule-arg c .args in
     let b = now (a .block) in
-    let h = c .before .before .before .before .before .before .pre in
-    (h .0, omega arith, omega (arith, joined-within (relabelRule b) (rules b) (c .before .before .loop .r) (omega arith)))
+    let h = start-from-relabel-rule-arg c .pre in (
+      h .0,
+      omega arith,
+      omega (
+        arith,
+        joined-within (relabelRule b) (rules b) (c .before .before .loop .r) (omega arith),
+      ),
+    )
 
 add-r : tie.Need-add-r Inv-loop μ-loop
 add-r c = search needs
@@ -44,16 +60,17 @@ loop-less c = search needs
 
 loop-again : tie.Need-loop-again Inv-loop μ-loop
 loop-again c =
-    let a = c .before .before .before .before .before .before .before .before .before .args in
+    let a = start-from-relabel-rule-arg (c .before .before .before) .args in
     let f = relabelRule (now (a .block)) in
-    let r = c .before .before .before .before .before .loop .r in
-    let inv = c .before .before .before .before .before .loop .inv in
+    let r = loop-from-slice-known2 c .loop .r in
+    let inv = loop-from-slice-known2 c .loop .inv in
     let more = joined-more f r in (
       inv .0,
       search needs,
       c .before .before .relabel-rule .kept .1 .1 .0 ∙ inv .2,
       omega (arith, ap length more, length-append (joined r f) (f r), c .before .before .relabel-rule .ensures .0),
-      sets-behind (now (a .out)) (a .to) (joined r f) (f r) (inv .4) (inv .3) (c .before .before .relabel-rule .ensures .1)
+      sets-behind (now (a .out)) (a .to) (joined r f) (f r) (inv .4) (inv .3)
+          (c .before .before .relabel-rule .ensures .1)
           ∙ ap (sets (now (a .out)) (a .to)) (sym more),
     )
 
@@ -62,7 +79,7 @@ same-length c = c .before .loop .inv .2
 
 returns : tie.Need-returns Inv-loop μ-loop
 returns c =
-    let a = c .before .before .before .before .before .args in
+    let a = start-from-loop c .args in
     let b = now (a .block) in
     let inv = c .before .loop .inv in
     let e : c .before .loop .r ≡ rules b = omega arith in

@@ -27,6 +27,10 @@ Inv-loop block from out₀ to n i₀ out i =
 abbrev μ-loop : tie.MeasureT-loop
 μ-loop block from out₀ to n i₀ out i = n - i
 
+-- the places that the facts below go back to
+abbrev start-from-loop : tie.At-loop Inv-loop μ-loop → tie.Start Inv-loop μ-loop
+start-from-loop c = c .before .before .before .before
+
 positions-requires : tie.Need-positions-requires Inv-loop μ-loop
 positions-requires c κs = search needs
 
@@ -34,10 +38,11 @@ loop-holds : tie.Need-loop-holds Inv-loop μ-loop
 loop-holds c = search needs
 
 -- the buffer keeps its length
-kept : (c : tie.At-loop Inv-loop μ-loop) → length (c .loop .out) ≡ length (now (c .before .before .before .before .args .out))
+kept : (c : tie.At-loop Inv-loop μ-loop) → length (c .loop .out) ≡ length (now (start-from-loop c .args .out))
 kept c =
-    let a = c .before .before .before .before .args in
-    ap length (c .loop .inv .2) ∙ length-sets (now (a .out)) (a .to) (tabulate (c .loop .i) (made (now (a .block)) (a .from)))
+    let a = start-from-loop c .args in
+    ap length (c .loop .inv .2)
+    ∙ length-sets (now (a .out)) (a .to) (tabulate (c .loop .i) (made (now (a .block)) (a .from)))
 
 add-relabel-term : tie.Need-add-relabel-term Inv-loop μ-loop
 add-relabel-term c = search needs
@@ -47,9 +52,13 @@ shared-slice-read-relabel-term c = search needs
 
 relabel-term-requires : tie.Need-relabel-term-requires Inv-loop μ-loop
 relabel-term-requires c κs =
-    let a = c .before .before .before .before .before .before .args in
-    let h = c .before .before .before .before .before .before .pre in
-    (h .0, omega arith, side-term (now (a .block)) (sideAt (now (a .block)) (a .from)) (h .2) (c .before .before .loop .i) (omega arith))
+    let a = start-from-loop (c .before .before) .args in
+    let h = start-from-loop (c .before .before) .pre in (
+      h .0,
+      omega arith,
+      side-term (now (a .block)) (sideAt (now (a .block)) (a .from)) (h .2)
+          (c .before .before .loop .i) (omega arith),
+    )
 
 add-out : tie.Need-add-out Inv-loop μ-loop
 add-out c = search needs
@@ -65,7 +74,7 @@ loop-less c = search needs
 
 loop-again : tie.Need-loop-again Inv-loop μ-loop
 loop-again c =
-    let a = c .before .before .before .before .before .before .before .args in
+    let a = start-from-loop (c .before .before .before) .args in
     let i = c .before .before .before .loop .i in
     let x = c .relabel-term .result in (
       search needs,
@@ -83,10 +92,13 @@ same-length c = kept (c .before)
 returns : tie.Need-returns Inv-loop μ-loop
 unfolding relabelSide
 returns c =
-    let a = c .before .before .before .before .before .args in
+    let a = start-from-loop (c .before) .args in
     let b = now (a .block) in
-    let e : c .before .loop .i ≡ positions b = omega arith in
-    (omega arith, c .before .loop .inv .2 ∙ ap (λ (k : ℕ). sets (now (a .out)) (a .to) (tabulate k (made b (a .from)))) e)
+    let e : c .before .loop .i ≡ positions b = omega arith in (
+      omega arith,
+      c .before .loop .inv .2
+          ∙ ap (λ (k : ℕ). sets (now (a .out)) (a .to) (tabulate k (made b (a .from)))) e,
+    )
 
 pub relabel-side-spec : {M : Type 1} → statement M
 relabel-side-spec =

@@ -11,6 +11,10 @@ use Rattle.blocks.proofs.Offsets.{left-inside}
 use Rattle.psvn.proofs.rules.applies.Statement.{statement}
 use Rattle.psvn.proofs.rules.applies.Tie as tie
 
+-- the places that the facts below go back to
+abbrev start-from-side-matches : tie.After-side-matches → tie.Start
+start-from-side-matches c = c .before .before .before .before
+
 left-at-requires : tie.Need-left-at-requires
 left-at-requires c κs = search needs
 
@@ -23,8 +27,10 @@ side-matches-requires c κs =
 returns : tie.Need-returns
 unfolding applies
 returns c =
-    let a = c .before .before .before .before .args in
-    c .side-matches .ensures ∙ ap₂ (λ (n at : ℕ). matches n (sideAt (now (a .block)) at) (now (a .state))) (c .before .before .before .before .pre .2) (c .before .left-at .ensures .0)
+    let a = start-from-side-matches c .args in
+    c .side-matches .ensures
+    ∙ ap₂ (λ (n at : ℕ). matches n (sideAt (now (a .block)) at) (now (a .state))) (start-from-side-matches c .pre .2)
+    (c .before .left-at .ensures .0)
 
 pub applies-spec : {M : Type 1} → statement M
 applies-spec = tie.close (tie.spec left-at-requires side-matches-requires returns)

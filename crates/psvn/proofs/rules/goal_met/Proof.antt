@@ -11,6 +11,10 @@ use Rattle.blocks.proofs.Offsets.{goal-inside}
 use Rattle.psvn.proofs.rules.goal_met.Statement.{statement}
 use Rattle.psvn.proofs.rules.goal_met.Tie as tie
 
+-- the places that the facts below go back to
+abbrev start-from-side-matches : tie.After-side-matches → tie.Start
+start-from-side-matches c = c .before .before .before .before
+
 goal-at-requires : tie.Need-goal-at-requires
 goal-at-requires c κs = search needs
 
@@ -23,8 +27,10 @@ side-matches-requires c κs =
 returns : tie.Need-returns
 unfolding goalMet
 returns c =
-    let a = c .before .before .before .before .args in
-    c .side-matches .ensures ∙ ap₂ (λ (n at : ℕ). matches n (sideAt (now (a .block)) at) (now (a .state))) (c .before .before .before .before .pre .2) (c .before .goal-at .ensures .0)
+    let a = start-from-side-matches c .args in
+    c .side-matches .ensures
+    ∙ ap₂ (λ (n at : ℕ). matches n (sideAt (now (a .block)) at) (now (a .state))) (start-from-side-matches c .pre .2)
+    (c .before .goal-at .ensures .0)
 
 pub goal-met-spec : {M : Type 1} → statement M
 goal-met-spec = tie.close (tie.spec goal-at-requires side-matches-requires returns)

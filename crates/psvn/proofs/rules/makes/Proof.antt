@@ -30,6 +30,22 @@ Inv-loop block left right old new n i₀ i =
 abbrev μ-loop : tie.MeasureT-loop
 μ-loop block left right old new n i₀ i = n - i
 
+-- the places that the facts below go back to
+abbrev start-from-loop : tie.After-loop Inv-loop μ-loop → tie.Start Inv-loop μ-loop
+start-from-loop c = c .before .before .before .before .before
+
+abbrev loop-from-then1 : tie.Then1 Inv-loop μ-loop → tie.At-loop Inv-loop μ-loop
+loop-from-then1 c = c .before .before .before .before .before .before
+
+abbrev loop-from-else1 : tie.Else1 Inv-loop μ-loop → tie.At-loop Inv-loop μ-loop
+loop-from-else1 c = c .before .before .before .before .before .before
+
+abbrev start-from-then1 : tie.Then1 Inv-loop μ-loop → tie.Start Inv-loop μ-loop
+start-from-then1 c = loop-from-then1 c .before .before .before .before
+
+abbrev start-from-else1 : tie.Else1 Inv-loop μ-loop → tie.Start Inv-loop μ-loop
+start-from-else1 c = loop-from-else1 c .before .before .before .before
+
 loop-holds : tie.Need-loop-holds Inv-loop μ-loop
 loop-holds c = (search needs, search needs, λ k l. absurd (omega arith))
 
@@ -47,11 +63,14 @@ shared-slice-read-if1 c = search needs
 
 returns : tie.Need-returns Inv-loop μ-loop
 returns c =
-    let a = c .before .before .before .before .before .before .before .before .before .before .args in
+    let a = start-from-then1 c .args in
     let o = now (a .old) in
-    let i = c .before .before .before .before .before .before .loop .i in
+    let i = loop-from-then1 c .loop .i in
     sym (all-false (holds (now (a .block)) (a .left) (a .right) o (now (a .new))) (length o) i (omega arith)
-    (ne-eqb _ _ (λ e. c .if1 .taken (c .before .before .before .label-given .ensures ∙ sym (rewritten-at (length o) (sideAt (now (a .block)) (a .left)) (sideAt (now (a .block)) (a .right)) o i (omega arith)) ∙ e))))
+    (ne-eqb _ _ (λ e. c .if1 .taken
+    (c .before .before .before .label-given .ensures
+    ∙ sym (rewritten-at (length o) (sideAt (now (a .block)) (a .left)) (sideAt (now (a .block)) (a .right)) o i
+    (omega arith)) ∙ e))))
 
 add-i : tie.Need-add-i Inv-loop μ-loop
 add-i c = search needs
@@ -61,19 +80,21 @@ loop-less c = search needs
 
 loop-again : tie.Need-loop-again Inv-loop μ-loop
 loop-again c =
-    let a = c .before .before .before .before .before .before .before .before .before .before .args in
+    let a = start-from-else1 c .args in
     let o = now (a .old) in
-    let i = c .before .before .before .before .before .before .loop .i in (
+    let i = loop-from-else1 c .loop .i in (
       search needs,
       search needs,
-      below-more _ _ (c .before .before .before .before .before .before .loop .inv .2)
-          (eq-eqb _ _ (rewritten-at (length o) (sideAt (now (a .block)) (a .left)) (sideAt (now (a .block)) (a .right)) o i (omega arith) ∙ sym (c .before .before .before .label-given .ensures) ∙ c .if1 .left)),
+      below-more _ _ (loop-from-else1 c .loop .inv .2)
+          (eq-eqb _ _ (rewritten-at (length o) (sideAt (now (a .block)) (a .left)) (sideAt (now (a .block)) (a .right))
+          o i (omega arith) ∙ sym (c .before .before .before .label-given .ensures) ∙ c .if1 .left)),
     )
 
 returns-2 : tie.Need-returns-2 Inv-loop μ-loop
 returns-2 c =
-    let a = c .before .before .before .before .before .args in
-    sym (all-passed (holds (now (a .block)) (a .left) (a .right) (now (a .old)) (now (a .new))) (length (now (a .old))) (c .before .loop .i) (omega arith) (c .before .loop .inv .2))
+    let a = start-from-loop c .args in
+    sym (all-passed (holds (now (a .block)) (a .left) (a .right) (now (a .old)) (now (a .new))) (length (now (a .old)))
+    (c .before .loop .i) (omega arith) (c .before .loop .inv .2))
 
 pub makes-spec : {M : Type 1} → statement M
 makes-spec =

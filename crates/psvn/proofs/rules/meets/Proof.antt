@@ -20,6 +20,13 @@ Inv-loop block state count g₀ g =
 abbrev μ-loop : tie.MeasureT-loop
 μ-loop block state goals g₀ g = goals - g
 
+-- the places that the facts below go back to
+abbrev start-from-loop : tie.After-loop Inv-loop μ-loop → tie.Start Inv-loop μ-loop
+start-from-loop c = c .before .before .before .before .before
+
+abbrev start-from-then1 : tie.Then1 Inv-loop μ-loop → tie.Start Inv-loop μ-loop
+start-from-then1 c = c .before .before .before .before .before .before .before
+
 goals-requires : tie.Need-goals-requires Inv-loop μ-loop
 goals-requires c κs = search needs
 
@@ -32,9 +39,10 @@ goal-met-requires c κs = search needs
 returns : tie.Need-returns Inv-loop μ-loop
 unfolding meets
 returns c =
-    let a = c .before .before .before .before .before .before .before .args in
+    let a = start-from-then1 c .args in
     let b = now (a .block) in
-    sym (some-intro (λ g. goalMet b g (now (a .state))) (goals b) (c .before .before .before .loop .g) (omega arith) (sym (c .before .goal-met .ensures) ∙ c .if1 .taken))
+    sym (some-intro (λ g. goalMet b g (now (a .state))) (goals b) (c .before .before .before .loop .g) (omega arith)
+    (sym (c .before .goal-met .ensures) ∙ c .if1 .taken))
 
 add-g : tie.Need-add-g Inv-loop μ-loop
 add-g c = search needs
@@ -50,9 +58,10 @@ loop-again c =
 returns-2 : tie.Need-returns-2 Inv-loop μ-loop
 unfolding meets
 returns-2 c =
-    let a = c .before .before .before .before .before .args in
+    let a = start-from-loop c .args in
     let b = now (a .block) in
-    sym (some-passed (λ g. goalMet b g (now (a .state))) (goals b) (c .before .loop .g) (omega arith) (c .before .loop .inv .2))
+    sym (some-passed (λ g. goalMet b g (now (a .state))) (goals b) (c .before .loop .g) (omega arith)
+    (c .before .loop .inv .2))
 
 pub meets-spec : {M : Type 1} → statement M
 meets-spec =

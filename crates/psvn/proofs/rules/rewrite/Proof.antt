@@ -28,11 +28,16 @@ Inv-loop block left right state out₀ n i₀ out i =
 abbrev μ-loop : tie.MeasureT-loop
 μ-loop block left right state out₀ n i₀ out i = n - i
 
+-- the places that the facts below go back to
+abbrev start-from-loop : tie.At-loop Inv-loop μ-loop → tie.Start Inv-loop μ-loop
+start-from-loop c = c .before .before .before .before
+
 -- the buffer keeps its length
-kept : (c : tie.At-loop Inv-loop μ-loop) → length (c .loop .out) ≡ length (now (c .before .before .before .before .args .out))
+kept : (c : tie.At-loop Inv-loop μ-loop) → length (c .loop .out) ≡ length (now (start-from-loop c .args .out))
 kept c =
-    let a = c .before .before .before .before .args in
-    ap length (c .loop .inv .2) ∙ length-sets (now (a .out)) 0 (tabulate (c .loop .i) (made (now (a .block)) (a .left) (a .right) (now (a .state))))
+    let a = start-from-loop c .args in
+    ap length (c .loop .inv .2)
+    ∙ length-sets (now (a .out)) 0 (tabulate (c .loop .i) (made (now (a .block)) (a .left) (a .right) (now (a .state))))
 
 loop-holds : tie.Need-loop-holds Inv-loop μ-loop
 loop-holds c = search needs
@@ -57,12 +62,13 @@ loop-less c = search needs
 
 loop-again : tie.Need-loop-again Inv-loop μ-loop
 loop-again c =
-    let a = c .before .before .before .before .before .before .before .args in
+    let a = start-from-loop (c .before .before .before) .args in
     let i = c .before .before .before .loop .i in
     let f = made (now (a .block)) (a .left) (a .right) (now (a .state)) in (
       search needs,
       search needs,
-      ap₂ (λ (l : List ℕ) (k : ℕ). set l k (c .label-given .result .0)) (c .before .before .before .loop .inv .2) (sym (zero-add i))
+      ap₂ (λ (l : List ℕ) (k : ℕ). set l k (c .label-given .result .0)) (c .before .before .before .loop .inv .2)
+          (sym (zero-add i))
           ∙ sets-more (now (a .out)) 0 i f (c .label-given .result .0) (c .label-given .ensures),
     )
 
@@ -72,7 +78,7 @@ same-length c = kept (c .before)
 returns : tie.Need-returns Inv-loop μ-loop
 unfolding rewritten
 returns c =
-    let a = c .before .before .before .before .before .args in
+    let a = start-from-loop (c .before) .args in
     let n = length (now (a .state)) in
     let f = made (now (a .block)) (a .left) (a .right) (now (a .state)) in
     let e : c .before .loop .i ≡ n = omega arith in

@@ -22,6 +22,19 @@ Inv-loop block at state n i₀ i =
 abbrev μ-loop : tie.MeasureT-loop
 μ-loop block at state n i₀ i = n - i
 
+-- the places that the facts below go back to
+abbrev start-from-loop : tie.After-loop Inv-loop μ-loop → tie.Start Inv-loop μ-loop
+start-from-loop c = c .before .before .before .before
+
+abbrev loop-from-then1 : tie.Then1 Inv-loop μ-loop → tie.At-loop Inv-loop μ-loop
+loop-from-then1 c = c .before .before .before .before .before .before
+
+abbrev loop-from-else1 : tie.Else1 Inv-loop μ-loop → tie.At-loop Inv-loop μ-loop
+loop-from-else1 c = c .before .before .before .before .before .before
+
+abbrev start-from-then1 : tie.Then1 Inv-loop μ-loop → tie.Start Inv-loop μ-loop
+start-from-then1 c = loop-from-then1 c .before .before .before
+
 loop-holds : tie.Need-loop-holds Inv-loop μ-loop
 loop-holds c = (search needs, search needs, λ k l. absurd (omega arith))
 
@@ -40,9 +53,10 @@ shared-slice-read-if1 c = search needs
 returns : tie.Need-returns Inv-loop μ-loop
 unfolding matches
 returns c =
-    let a = c .before .before .before .before .before .before .before .before .before .args in
+    let a = start-from-then1 c .args in
     let s = now (a .state) in
-    sym (all-false (agrees (length s) (sideAt (now (a .block)) (a .at)) s) (length s) (c .before .before .before .before .before .before .loop .i) (omega arith)
+    sym (all-false (agrees (length s) (sideAt (now (a .block)) (a .at)) s) (length s) (loop-from-then1 c .loop .i)
+    (omega arith)
     (ne-eqb _ _ (λ e. c .if1 .taken (e ∙ sym (c .before .before .before .label-given .ensures)))))
 
 add-i : tie.Need-add-i Inv-loop μ-loop
@@ -52,14 +66,20 @@ loop-less : tie.Need-loop-less Inv-loop μ-loop
 loop-less c = search needs
 
 loop-again : tie.Need-loop-again Inv-loop μ-loop
-loop-again c = (search needs, search needs, below-more _ _ (c .before .before .before .before .before .before .loop .inv .2) (eq-eqb _ _ (c .if1 .left ∙ c .before .before .before .label-given .ensures)))
+loop-again c = (
+  search needs,
+  search needs,
+  below-more _ _ (loop-from-else1 c .loop .inv .2)
+      (eq-eqb _ _ (c .if1 .left ∙ c .before .before .before .label-given .ensures)),
+)
 
 returns-2 : tie.Need-returns-2 Inv-loop μ-loop
 unfolding matches
 returns-2 c =
-    let a = c .before .before .before .before .args in
+    let a = start-from-loop c .args in
     let s = now (a .state) in
-    sym (all-passed (agrees (length s) (sideAt (now (a .block)) (a .at)) s) (length s) (c .before .loop .i) (omega arith) (c .before .loop .inv .2))
+    sym (all-passed (agrees (length s) (sideAt (now (a .block)) (a .at)) s) (length s) (c .before .loop .i)
+    (omega arith) (c .before .loop .inv .2))
 
 pub side-matches-spec : {M : Type 1} → statement M
 side-matches-spec =

@@ -13,6 +13,16 @@ use Rattle.blocks.proofs.Offsets.{left-inside, right-inside}
 use Rattle.psvn.proofs.rules.step.Statement.{statement}
 use Rattle.psvn.proofs.rules.step.Tie as tie
 
+-- the places that the facts below go back to
+abbrev right-at-from-slice-known2 : tie.After-slice-known2 → tie.After-right-at
+right-at-from-slice-known2 c = c .before .before .before .before
+
+abbrev left-at-from-slice-known2 : tie.After-slice-known2 → tie.After-left-at
+left-at-from-slice-known2 c = right-at-from-slice-known2 c .before
+
+abbrev start-from-rewrite-arg : tie.After-rewrite-arg → tie.Start
+start-from-rewrite-arg c = c .before .before .before .before .before .before
+
 left-at-requires : tie.Need-left-at-requires
 left-at-requires c κs = search needs
 
@@ -21,8 +31,8 @@ right-at-requires c κs = search needs
 
 rewrite-requires : tie.Need-rewrite-requires
 rewrite-requires c κs =
-    let a = c .before .before .before .before .before .before .args in
-    let h = c .before .before .before .before .before .before .pre in (
+    let a = start-from-rewrite-arg c .args in
+    let h = start-from-rewrite-arg c .pre in (
       omega (arith, left-inside (now (a .block)) (h .0) (a .r) (h .1)),
       omega (arith, right-inside (now (a .block)) (h .0) (a .r) (h .1)),
       search needs,
@@ -34,12 +44,14 @@ same-length c = search needs
 returns : tie.Need-returns
 unfolding step
 returns c =
-    let a = c .before .before .before .before .before .before .before .before .before .args in
+    let a = start-from-rewrite-arg (c .before .before .before) .args in
     let b = now (a .block) in
-    let made : ℕ → ℕ → ℕ → List ℕ = λ n left right. atFront (rewritten n (sideAt b left) (sideAt b right) (now (a .state))) (now (a .out)) in
+    let made : ℕ → ℕ → ℕ → List ℕ =
+    λ n left right. atFront (rewritten n (sideAt b left) (sideAt b right) (now (a .state))) (now (a .out)) in
     c .before .before .rewrite .ensures
-    ∙ ap₂ (λ (n left : ℕ). made n left (c .before .before .before .before .right-at .result)) (c .before .before .before .before .before .before .before .before .before .pre .2) (c .before .before .before .before .before .left-at .ensures .0)
-    ∙ ap (made (positions b) (leftAt b (a .r))) (c .before .before .before .before .right-at .ensures .0)
+    ∙ ap₂ (λ (n left : ℕ). made n left (right-at-from-slice-known2 c .right-at .result))
+    (start-from-rewrite-arg (c .before .before .before) .pre .2) (left-at-from-slice-known2 c .left-at .ensures .0)
+    ∙ ap (made (positions b) (leftAt b (a .r))) (right-at-from-slice-known2 c .right-at .ensures .0)
 
 pub step-spec : {M : Type 1} → statement M
 step-spec =

@@ -16,16 +16,28 @@ use Rattle.psvn_calls.proofs.Conditions.{ApplyAccepted, apply-accepted}
 use Rattle.psvn_calls.proofs.applying.apply_rule.Statement.{statement}
 use Rattle.psvn_calls.proofs.applying.apply_rule.Tie as tie
 
+-- the places that the facts below go back to
+abbrev start-from-told : tie.After-enum-told → tie.Start
+start-from-told c = c .before .before .before .before .before .before
+
+abbrev start-from-known : tie.After-known-told → tie.Start
+start-from-known c = c .before .before .before .before .before .before .before
+
+abbrev then-from-slice2 : tie.After-slice-known2 → tie.Then1
+then-from-slice2 c = c .before .before .before .before
+
 -- what stands against the call
 abbrev verdict-of : tie.Start → Answer (Unit {0})
 verdict-of s =
-    verdict (applyConditions (now (s .args .block)) (s .args .rule) (now (s .args .state)) (length (now (s .args .out))))
+    let a = s .args in
+    verdict (applyConditions (now (a .block)) (a .rule) (now (a .state)) (length (now (a .out))))
 
 -- the outcome by the verdict and by whether the rule applies
 abbrev settled : tie.Start → Answer (Unit {0}) → Bool → Outcome Applied
 settled s verdict applies =
-    let out = now (s .args .out) in
-    let new = step (now (s .args .block)) (s .args .rule) (now (s .args .state)) in
+    let a = s .args in
+    let out = now (a .out) in
+    let new = step (now (a .block)) (a .rule) (now (a .state)) in
     guarded verdict out (cond applies (outcome (told done) (atFront new out)) (outcome (told does-not-apply) out))
 
 check-application-requires : tie.Need-check-application-requires
@@ -37,29 +49,36 @@ enum-known-checked c = search needs
 returns : tie.Need-returns
 unfolding applyRule
 returns c =
-    let a = c .before .before .before .before .before .before .before .args in
-    let against = sym (c .before .before .before .check-application .ensures) ∙ ap verdictOf (c .before .checked .given .1) in
-    sym (ap (λ (v : Answer (Unit {0})). settled (c .before .before .before .before .before .before .before) v (applies (now (a .block)) (a .rule) (now (a .state)))) against)
+    let s = start-from-known c in
+    let checked = c .before .before .before .check-application .ensures in
+    let against = sym checked ∙ ap verdictOf (c .before .checked .given .1) in
+    let applied = applies (now (s .args .block)) (s .args .rule) (now (s .args .state)) in
+    sym (ap (λ (v : Answer (Unit {0})). settled s v applied) against)
 
 enum-told : tie.Need-enum-told
 enum-told c = search needs
 
 -- the call is accepted
-accepted : (c : tie.After-enum-told) → verdict-of (c .before .before .before .before .before .before) ≡ told tt
+accepted : (c : tie.After-enum-told) → verdict-of (start-from-told c) ≡ told tt
 accepted c = sym (c .before .before .check-application .ensures) ∙ ap verdictOf (c .enum-told .given .1)
 
+-- so the conditions hold
 abbrev Ready : tie.Start → Type 0
-Ready s = ApplyAccepted (now (s .args .block)) (now (s .args .state)) (s .args .rule) (length (now (s .args .out)))
+Ready s =
+    let a = s .args in
+    ApplyAccepted (now (a .block)) (now (a .state)) (a .rule) (length (now (a .out)))
 
-ready : (c : tie.After-enum-told) → Ready (c .before .before .before .before .before .before)
+ready : (c : tie.After-enum-told) → Ready (start-from-told c)
 ready c =
-    let a = c .before .before .before .before .before .before .args in
+    let a = start-from-told c .args in
     apply-accepted (now (a .block)) (now (a .state)) (a .rule) (length (now (a .out))) (accepted c)
 
-long : (c : tie.After-enum-told) → length (now (c .before .before .before .before .before .before .args .state)) ≡ positions (now (c .before .before .before .before .before .before .args .block))
+long :
+    (c : tie.After-enum-told)
+    → length (now (start-from-told c .args .state)) ≡ positions (now (start-from-told c .args .block))
 long c =
-    let b = now (c .before .before .before .before .before .before .args .block) in
-    state-length b (now (c .before .before .before .before .before .before .args .state)) (ready c .state)
+    let a = start-from-told c .args in
+    state-length (now (a .block)) (now (a .state)) (ready c .state)
 
 applies-requires : tie.Need-applies-requires
 applies-requires c κs = (ready c .valid .sized, ready c .rule, long c)
@@ -75,12 +94,17 @@ same-length c = search needs
 returns-2 : tie.Need-returns-2
 unfolding applyRule
 returns-2 c =
-    let applies = sym (c .before .before .before .before .before .applies .ensures) ∙ c .before .before .before .before .if1 .taken in
-    ap (outcome (told done)) (c .before .before .step .ensures) ∙ sym (ap₂ (settled (c .before .before .before .before .before .before .before .before .before .before .before .before)) (accepted (c .before .before .before .before .before .before)) applies)
+    let k = then-from-slice2 c in
+    let d = k .before .before in
+    let applies = sym (k .before .applies .ensures) ∙ k .if1 .taken in
+    ap (outcome (told done)) (c .before .before .step .ensures)
+    ∙ sym (ap₂ (settled (start-from-told d)) (accepted d) applies)
 
 returns-3 : tie.Need-returns-3
 unfolding applyRule
-returns-3 c = sym (ap₂ (settled (c .before .before .before .before .before .before .before .before)) (accepted (c .before .before)) (sym (c .before .applies .ensures) ∙ c .if1 .left))
+returns-3 c =
+    let d = c .before .before in
+    sym (ap₂ (settled (start-from-told d)) (accepted d) (sym (c .before .applies .ensures) ∙ c .if1 .left))
 
 pub apply-rule-spec : {M : Type 1} → statement M
 apply-rule-spec =

@@ -10,9 +10,23 @@ use Rattle.psvn.specs.Rules.{meets}
 use Rattle.blocks.proofs.StateLaws.{state-length}
 use Rattle.psvn_calls.specs.Checking.{stateConditions}
 use Rattle.psvn_calls.specs.Goals.{testGoals}
-use Rattle.psvn_calls.proofs.Conditions.{StateAccepted, state-accepted}
+use Rattle.psvn_calls.proofs.Conditions.{state-accepted}
 use Rattle.psvn_calls.proofs.goals.test_goals.Statement.{statement}
 use Rattle.psvn_calls.proofs.goals.test_goals.Tie as tie
+
+-- the places that the facts below go back to
+abbrev start-from-told : tie.After-enum-told → tie.Start
+start-from-told c = c .before .before .before .before .before
+
+abbrev start-from-known : tie.After-known-told → tie.Start
+start-from-known c = c .before .before .before .before .before .before
+
+-- what stands against the call, and the answer by that
+abbrev verdict-of : tie.Start → Answer (Unit {0})
+verdict-of s = verdict (stateConditions (now (s .args .block)) (now (s .args .state)))
+
+abbrev settled : tie.Start → Answer (Unit {0}) → Answer Bool
+settled s verdict = answered verdict (meets (now (s .args .block)) (now (s .args .state)))
 
 check-state-requires : tie.Need-check-state-requires
 check-state-requires c κs = search needs
@@ -23,31 +37,31 @@ enum-known-checked c = search needs
 returns : tie.Need-returns
 unfolding testGoals
 returns c =
-    let a = c .before .before .before .before .before .before .args in
-    sym (ap (λ (v : Answer (Unit {0})). answered v (meets (now (a .block)) (now (a .state)))) (sym (c .before .before .before .check-state .ensures) ∙ ap verdictOf (c .before .checked .given .1)))
+    let against = sym (c .before .before .before .check-state .ensures) ∙ ap verdictOf (c .before .checked .given .1) in
+    sym (ap (settled (start-from-known c)) against)
 
 enum-told : tie.Need-enum-told
 enum-told c = search needs
 
 -- the call is accepted
-accepted : (c : tie.After-enum-told) → verdict (stateConditions (now (c .before .before .before .before .before .args .block)) (now (c .before .before .before .before .before .args .state))) ≡ told tt
+accepted : (c : tie.After-enum-told) → verdict-of (start-from-told c) ≡ told tt
 accepted c = sym (c .before .before .check-state .ensures) ∙ ap verdictOf (c .enum-told .given .1)
-
-ready : (c : tie.After-enum-told) → StateAccepted (now (c .before .before .before .before .before .args .block)) (now (c .before .before .before .before .before .args .state))
-ready c = state-accepted (now (c .before .before .before .before .before .args .block)) (now (c .before .before .before .before .before .args .state)) (accepted c)
 
 meets-requires : tie.Need-meets-requires
 meets-requires c κs =
-    let b = now (c .before .before .before .before .before .args .block) in
-    (ready c .valid .sized, state-length b (now (c .before .before .before .before .before .args .state)) (ready c .state))
+    let a = start-from-told c .args in
+    let ready = state-accepted (now (a .block)) (now (a .state)) (accepted c) in
+    (ready .valid .sized, state-length (now (a .block)) (now (a .state)) (ready .state))
 
 returns-2 : tie.Need-returns-2
 unfolding testGoals
-returns-2 c = sym (ap₂ (answered {A = Bool}) (accepted (c .before .before)) (sym (c .before .meets .ensures) ∙ c .if1 .taken))
+returns-2 c =
+    sym (ap₂ (answered {A = Bool}) (accepted (c .before .before)) (sym (c .before .meets .ensures) ∙ c .if1 .taken))
 
 returns-3 : tie.Need-returns-3
 unfolding testGoals
-returns-3 c = sym (ap₂ (answered {A = Bool}) (accepted (c .before .before)) (sym (c .before .meets .ensures) ∙ c .if1 .left))
+returns-3 c =
+    sym (ap₂ (answered {A = Bool}) (accepted (c .before .before)) (sym (c .before .meets .ensures) ∙ c .if1 .left))
 
 pub test-goals-spec : {M : Type 1} → statement M
 test-goals-spec =

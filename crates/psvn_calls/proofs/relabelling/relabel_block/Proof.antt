@@ -2,7 +2,7 @@
 -- Refused with the buffer as it was, or the relabelled block at its front.
 use mathlib.Core.Path.{_≡_, sym, ap, ap₂, _∙_}
 use mathlib.Core.Bool.{Bool}
-use mathlib.Core.List.{[], _∷_}
+use mathlib.Core.List.{List, [], _∷_}
 use Prim.Native.Nat.{ℕ}
 use native.Mathlib.Omega.{arith}
 use lib.Dec.{leb}
@@ -22,10 +22,27 @@ use Rattle.psvn_calls.specs.Relabelling.{relabelConditions, relabelExerc
 use Rattle.psvn_calls.proofs.relabelling.relabel_block.Statement.{statement}
 use Rattle.psvn_calls.proofs.relabelling.relabel_block.Tie as tie
 
+-- the places that the facts below go back to
+abbrev start-from-told : tie.After-enum-told → tie.Start
+start-from-told c = c .before .before .before .before .before
+
+abbrev start-from-known : tie.After-known-told → tie.Start
+start-from-known c = c .before .before .before .before .before .before
+
+abbrev length-from-slice2 : tie.After-slice-known2 → tie.After-relabelled-length
+length-from-slice2 c = c .before .before .before .before .before
+
+-- the block and the room at the start
+abbrev block : tie.Start → List ℕ
+block s = now (s .args .block)
+
+abbrev room : tie.Start → ℕ
+room s = length (now (s .args .out))
+
 -- the outcome by the verdict
 abbrev settled : tie.Start → Answer (Unit {0}) → Outcome ℕ
 settled s verdict =
-    let new = relabelBlock (now (s .args .block)) in
+    let new = relabelBlock (block s) in
     let out = now (s .args .out) in
     guarded verdict out (outcome (told (length new)) (atFront new out))
 
@@ -39,31 +56,34 @@ returns : tie.Need-returns
 unfolding relabelExercise relabelConditions
 returns c =
     let against = sym (c .before .before .before .check .ensures) ∙ ap verdictOf (c .before .checked .given .1) in
-    sym (ap (settled (c .before .before .before .before .before .before)) (verdict-before (blockConditions (now (c .before .before .before .before .before .before .args .block))) _ _ against))
+    let s = start-from-known c in
+    sym (ap (settled s) (verdict-before (blockConditions (block s)) _ _ against))
 
 enum-told : tie.Need-enum-told
 enum-told c = search needs
 
 -- the block is accepted
-accepted : (c : tie.After-enum-told) → verdict (blockConditions (now (c .before .before .before .before .before .args .block))) ≡ told tt
+accepted : (c : tie.After-enum-told) → verdict (blockConditions (block (start-from-told c))) ≡ told tt
 accepted c = sym (c .before .before .check .ensures) ∙ ap verdictOf (c .enum-told .given .1)
 
-valid : (c : tie.After-enum-told) → Valid (now (c .before .before .before .before .before .args .block))
-valid c = accepted-valid (now (c .before .before .before .before .before .args .block)) (accepted c)
+valid : (c : tie.After-enum-told) → Valid (block (start-from-told c))
+valid c = accepted-valid (block (start-from-told c)) (accepted c)
 
 -- then the room decides
 decided :
-    (c : tie.After-enum-told) (room : Bool)
-    → leb (length (relabelBlock (now (c .before .before .before .before .before .args .block)))) (length (now (c .before .before .before .before .before .args .out))) ≡ room
-    → verdict (relabelConditions (now (c .before .before .before .before .before .args .block)) (length (now (c .before .before .before .before .before .args .out)))) ≡ verdict (11 unless room ∷ [])
+    (c : tie.After-enum-told) (fits : Bool)
+    → leb (length (relabelBlock (block (start-from-told c)))) (room (start-from-told c)) ≡ fits
+    → verdict (relabelConditions (block (start-from-told c)) (room (start-from-told c))) ≡ verdict (11 unless fits ∷ [])
 unfolding relabelConditions
-decided c room p =
-    verdict-behind (blockConditions (now (c .before .before .before .before .before .args .block))) _ (accepted c)
+decided c fits p =
+    verdict-behind (blockConditions (block (start-from-told c))) _ (accepted c)
     ∙ ap (λ (t : Bool). verdict (11 unless t ∷ [])) p
 
 -- the length measured is that of the relabelled block
-measured : (c : tie.After-relabelled-length) → c .relabelled-length .result ≡ length (relabelBlock (now (c .before .before .before .before .before .before .args .block)))
-measured c = c .relabelled-length .ensures .0 ∙ sym (relabelled-length (now (c .before .before .before .before .before .before .args .block)))
+measured :
+    (c : tie.After-relabelled-length)
+    → c .relabelled-length .result ≡ length (relabelBlock (block (start-from-told (c .before))))
+measured c = c .relabelled-length .ensures .0 ∙ sym (relabelled-length (block (start-from-told (c .before))))
 
 relabelled-length-requires : tie.Need-relabelled-length-requires
 relabelled-length-requires c κs = valid c .sized .head
@@ -71,9 +91,10 @@ relabelled-length-requires c κs = valid c .sized .head
 returns-2 : tie.Need-returns-2
 unfolding relabelExercise
 returns-2 c =
-    let a = c .before .before .before .before .before .before .before .args in
-    let short = lt-leb (length (relabelBlock (now (a .block)))) (length (now (a .out))) (omega (arith, measured (c .before))) in
-    sym (ap (settled (c .before .before .before .before .before .before .before)) (decided (c .before .before) _ short))
+    let d = c .before .before in
+    let s = start-from-told d in
+    let short = lt-leb (length (relabelBlock (block s))) (room s) (omega (arith, measured (c .before))) in
+    sym (ap (settled s) (decided d _ short))
 
 relabel-block-requires : tie.Need-relabel-block-requires
 relabel-block-requires c κs = (valid (c .before .before .before), omega (arith, measured (c .before .before)))
@@ -84,10 +105,11 @@ same-length c = search needs
 returns-3 : tie.Need-returns-3
 unfolding relabelExercise
 returns-3 c =
-    let a = c .before .before .before .before .before .before .before .before .before .before .before .args in
-    let long = le-leb (length (relabelBlock (now (a .block)))) (length (now (a .out))) (omega (arith, measured (c .before .before .before .before .before))) in
-    ap₂ (λ (k : ℕ). outcome (told k)) (measured (c .before .before .before .before .before)) (c .before .before .relabel-block .ensures)
-    ∙ sym (ap (settled (c .before .before .before .before .before .before .before .before .before .before .before)) (decided (c .before .before .before .before .before .before) _ long))
+    let k = length-from-slice2 c in
+    let s = start-from-told (k .before) in
+    let long = le-leb (length (relabelBlock (block s))) (room s) (omega (arith, measured k)) in
+    ap₂ (λ (n : ℕ). outcome (told n)) (measured k) (c .before .before .relabel-block .ensures)
+    ∙ sym (ap (settled s) (decided (k .before) _ long))
 
 pub relabel-block-spec : {M : Type 1} → statement M
 relabel-block-spec =

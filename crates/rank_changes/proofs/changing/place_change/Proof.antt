@@ -1,5 +1,6 @@
 -- `rank_changes::changing::place_change` meets its contract.
--- Both sides lie in the block, and every right variable stands on the left; the constant is folded into the row of the first part, which is one of the positions.
+-- Both sides lie in the block, and every right variable stands on the left; the constant is folded into the row of the
+-- first part, which is one of the positions.
 use mathlib.Core.Path.{refl, sym}
 use Prim.Native.Nat.{_<_}
 use native.Mathlib.Omega.{arith}
@@ -16,6 +17,37 @@ use borrow.Author.Needs.{needs}
 use Rattle.rank_changes.proofs.changing.place_change.Statement.{statement}
 use Rattle.rank_changes.proofs.changing.place_change.Tie as tie
 
+-- the places that the facts below go back to
+abbrev left-at-from-rows2 : tie.After-rows2 → tie.After-left-at
+left-at-from-rows2 c = c .before .before .before .before
+
+abbrev start-from-rows : tie.After-rows → tie.Start
+start-from-rows c = c .before .before .before .before .before
+
+abbrev positions-from-rows2 : tie.After-rows2 → tie.After-positions
+positions-from-rows2 c = left-at-from-rows2 c .before
+
+abbrev first-part-from-place-parts : tie.After-place-parts → tie.After-first-part
+first-part-from-place-parts c = c .before .before .before .before .before
+
+abbrev fold-terms-from-place-parts : tie.After-place-parts → tie.After-fold-terms
+fold-terms-from-place-parts c = first-part-from-place-parts c .before .before
+
+abbrev add-terms-from-place-parts : tie.After-place-parts → tie.After-add-terms
+add-terms-from-place-parts c = fold-terms-from-place-parts c .before .before
+
+abbrev right-at-from-place-parts : tie.After-place-parts → tie.After-right-at
+right-at-from-place-parts c = add-terms-from-place-parts c .before .before
+
+abbrev left-at-from-place-parts : tie.After-place-parts → tie.After-left-at
+left-at-from-place-parts c = right-at-from-place-parts c .before
+
+abbrev positions-from-place-parts : tie.After-place-parts → tie.After-positions
+positions-from-place-parts c = left-at-from-place-parts c .before
+
+abbrev start-from-place-parts : tie.After-place-parts → tie.Start
+start-from-place-parts c = positions-from-place-parts c .before .before
+
 positions-requires : tie.Need-positions-requires
 positions-requires c κs = search needs
 
@@ -27,7 +59,7 @@ right-at-requires c κs = search needs
 
 add-terms-requires : tie.Need-add-terms-requires
 add-terms-requires c κs =
-    let s = c .before .before .before .before .before in
+    let s = start-from-rows c in
     let b = now (s .args .block) in
     let h = s .pre in
     let n = c .before .before .before .positions .ensures .0 in
@@ -41,10 +73,10 @@ add-terms-requires c κs =
 
 fold-terms-requires : tie.Need-fold-terms-requires
 fold-terms-requires c κs =
-    let s = c .before .before .before .before .before .before .before in
+    let s = start-from-rows (c .before .before) in
     let h = s .pre in
-    let n = c .before .before .before .before .before .positions .ensures .0 in
-    let left = c .before .before .before .before .left-at .ensures .0 in
+    let n = positions-from-rows2 c .positions .ensures .0 in
+    let left = left-at-from-rows2 c .left-at .ensures .0 in
     let l = left-inside (now (s .args .block)) (h .0 .sized) (s .args .r) (h .1) in
     let made = c .before .add-terms .ensures in
     (omega arith, omega (arith, h .0 .sized .head .sizes .n-high), made .low, made .constant-low)
@@ -62,8 +94,8 @@ cast-changes : tie.Need-cast-changes
 cast-changes c = search needs
 
 -- the rule is one of 64
-few-rules : (c : tie.After-place-parts) → c .before .before .before .before .before .before .before .before .before .before .before .before .before .before .before .args .r < 64
-few-rules c = omega (arith, c .before .before .before .before .before .before .before .before .before .before .before .before .before .before .before .pre .0 .sized .head .sizes .r-high)
+few-rules : (c : tie.After-place-parts) → start-from-place-parts c .args .r < 64
+few-rules c = omega (arith, start-from-place-parts c .pre .0 .sized .head .sizes .r-high)
 
 mul-changes : tie.Need-mul-changes
 mul-changes c = omega (arith, few-rules c)
@@ -79,18 +111,19 @@ element-write-changes c = omega (arith, few-rules c)
 
 returns : tie.Need-returns
 returns c =
-    let s = c .before .before .before .before .before .before .before .before .before .before .before .before .before .before .before in
+    let s = start-from-place-parts c in
     let b = now (s .args .block) in
     let h = s .pre in
-    let n = c .before .before .before .before .before .before .before .before .before .before .before .before .before .positions .ensures .0 in
-    let left = c .before .before .before .before .before .before .before .before .before .before .before .before .left-at .ensures .0 in
-    let right = c .before .before .before .before .before .before .before .before .before .before .before .right-at .ensures .0 in
-    let first = c .before .before .before .before .before .first-part in
-    let balanced = balanced-as b n left right (c .before .before .before .before .before .before .before .before .before .add-terms .ensures) in
+    let n = positions-from-place-parts c .positions .ensures .0 in
+    let left = left-at-from-place-parts c .left-at .ensures .0 in
+    let right = right-at-from-place-parts c .right-at .ensures .0 in
+    let first = first-part-from-place-parts c .first-part in
+    let balanced = balanced-as b n left right (add-terms-from-place-parts c .add-terms .ensures) in
     let folded =
-    constant-folded _ _ (first .result) (first .ensures) (c .before .before .before .before .before .before .before .fold-terms .ensures)
+    constant-folded _ _ (first .result) (first .ensures) (fold-terms-from-place-parts c .fold-terms .ensures)
     (c .before .before .before .add-constant .ensures) in
-    change-placed b (h .0) (h .2) (h .1) balanced (folded-as b n left folded) (omega arith) (parts-as n (c .place-parts .ensures)) (h .3)
+    change-placed b (h .0) (h .2) (h .1) balanced (folded-as b n left folded) (omega arith)
+    (parts-as n (c .place-parts .ensures)) (h .3)
 
 pub place-change-spec : {M : Type 1} → statement M
 place-change-spec =

@@ -15,11 +15,16 @@ use Rattle.rank_changes.proofs.changing.place_rule_changes.Tie as tie
 
 abbrev Inv-loop : tie.InvT-loop
 Inv-loop block singles changes₀ count r₀ changes r =
-    (count ≡ rules block) × (r ≤ count) × (length changes ≡ changesLength) × ((k : ℕ) → k < r → ChangeAt block changes k)
+    (count ≡ rules block) × (r ≤ count) × (length changes ≡ changesLength)
+    × ((k : ℕ) → k < r → ChangeAt block changes k)
     × ((k : ℕ) → k < 2048 → getD changes k 0 ≡ getD changes₀ k 0)
 
 abbrev μ-loop : tie.MeasureT-loop
 μ-loop block singles changes₀ count r₀ changes r = count - r
+
+-- the places that the facts below go back to
+abbrev start-from-place-change-arg : tie.After-place-change-arg Inv-loop μ-loop → tie.Start Inv-loop μ-loop
+start-from-place-change-arg c = c .before .before .before .before .before
 
 rules-requires : tie.Need-rules-requires Inv-loop μ-loop
 rules-requires c κs = search needs
@@ -29,7 +34,7 @@ loop-holds c = (search needs, search needs, c .before .before .pre .2, λ k l. a
 
 place-change-requires : tie.Need-place-change-requires Inv-loop μ-loop
 place-change-requires c κs =
-    let h = c .before .before .before .before .before .pre in
+    let h = start-from-place-change-arg c .pre in
     (h .0, omega arith, h .1, c .before .before .loop .inv .2)
 
 add-r : tie.Need-add-r Inv-loop μ-loop

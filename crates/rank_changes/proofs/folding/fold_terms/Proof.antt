@@ -9,17 +9,22 @@ use Rattle.rank_changes.proofs.folding.fold_terms.Statement.{statement}
 use Rattle.rank_changes.proofs.folding.fold_terms.Tie as tie
 
 abbrev Inv-loop : tie.InvT-loop
-Inv-loop bytes left n rows₀ constant folded₀ i₀ rows folded i = (i ≤ n) × Folded n (sideAt bytes left) rows₀ constant rows folded
+Inv-loop bytes left n rows₀ constant folded₀ i₀ rows folded i =
+    (i ≤ n) × Folded n (sideAt bytes left) rows₀ constant rows folded
 
 abbrev μ-loop : tie.MeasureT-loop
 μ-loop bytes left n rows₀ constant folded₀ i₀ rows folded i = n - i
+
+-- the places that the facts below go back to
+abbrev start-from-fold-term-arg : tie.After-fold-term-arg Inv-loop μ-loop → tie.Start Inv-loop μ-loop
+start-from-fold-term-arg c = c .before .before .before .before
 
 loop-holds : tie.Need-loop-holds Inv-loop μ-loop
 loop-holds c = let h = c .before .pre in (search needs, folded-none _ _ (h .2) (h .3))
 
 fold-term-requires : tie.Need-fold-term-requires Inv-loop μ-loop
 fold-term-requires c κs =
-    let h = c .before .before .before .before .pre in
+    let h = start-from-fold-term-arg c .pre in
     let inv = c .before .before .loop .inv in
     (h .0, h .1, c .before .loop-test .taken, inv .1 .low, inv .1 .constant-low)
 

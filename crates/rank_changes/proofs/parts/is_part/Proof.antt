@@ -21,7 +21,8 @@ returns-2 : tie.Need-returns-2
 returns-2 c =
     let a = c .before .before .args in
     ap not (c .is-plain .ensures)
-    ∙ sym (ap (λ (t : Bool). t || not (plainRow (now (a .rows)) (a .p))) (ne-eqb (a .p) (a .first) (c .before .if1 .left)))
+    ∙ sym (ap (λ (t : Bool). t || not (plainRow (now (a .rows)) (a .p)))
+    (ne-eqb (a .p) (a .first) (c .before .if1 .left)))
 
 pub is-part-spec : {M : Type 1} → statement M
 is-part-spec = tie.close (tie.spec returns is-plain-requires returns-2)

@@ -21,6 +21,13 @@ Inv-loop rows p x₀ x =
 abbrev μ-loop : tie.MeasureT-loop
 μ-loop rows p x₀ x = 16 - x
 
+-- the places that the facts below go back to
+abbrev start-from-then1 : tie.Then1 Inv-loop μ-loop → tie.Start Inv-loop μ-loop
+start-from-then1 c = c .before .before .before .before
+
+abbrev start-from-else1 : tie.Else1 Inv-loop μ-loop → tie.Start Inv-loop μ-loop
+start-from-else1 c = c .before .before .before .before
+
 loop-holds : tie.Need-loop-holds Inv-loop μ-loop
 loop-holds c = (search needs, λ k l. absurd (omega arith))
 
@@ -38,9 +45,10 @@ element-copy-out-if1 c = search needs
 
 returns : tie.Need-returns Inv-loop μ-loop
 returns c =
-    let a = c .before .before .before .before .args in
+    let a = start-from-then1 c .args in
     let x = c .before .before .before .loop .x in
-    sym (all-false (λ k. eqb (getD (now (a .rows)) (16 * a .p + k) 0) 0) 16 x (omega arith) (ne-eqb _ _ (λ e. c .if1 .taken e)))
+    sym (all-false (λ k. eqb (getD (now (a .rows)) (16 * a .p + k) 0) 0) 16 x (omega arith)
+    (ne-eqb _ _ (λ e. c .if1 .taken e)))
 
 add-x : tie.Need-add-x Inv-loop μ-loop
 add-x c = search needs
@@ -51,7 +59,7 @@ loop-less c = search needs
 loop-again : tie.Need-loop-again Inv-loop μ-loop
 loop-again c =
     let l = c .before .before .before .loop in
-    let a = c .before .before .before .before .args in
+    let a = start-from-else1 c .args in
     (search needs, below-more _ _ (l .inv .1) (eq-eqb (getD (now (a .rows)) (16 * a .p + l .x) 0) 0 (omega arith)))
 
 returns-2 : tie.Need-returns-2 Inv-loop μ-loop

@@ -16,7 +16,8 @@ use Rattle.rank_changes.proofs.parts.place_part.Tie as tie
 
 abbrev Inv-loop : tie.InvT-loop
 Inv-loop rows p changes₀ at x₀ changes x =
-    (x ≤ 16) × Outside at (at + 17) changes₀ changes × (getD changes at 0 ≡ 4 * p) × ((k : ℕ) → k < x → getD changes (at + 1 + k) 0 ≡ entry rows p k)
+    (x ≤ 16) × Outside at (at + 17) changes₀ changes × (getD changes at 0 ≡ 4 * p)
+    × ((k : ℕ) → k < x → getD changes (at + 1 + k) 0 ≡ entry rows p k)
 
 abbrev μ-loop : tie.MeasureT-loop
 μ-loop rows p changes₀ at x₀ changes x = 16 - x
@@ -94,7 +95,11 @@ returns c =
     record {
       shift = inv .2;
       adds = λ x l. inv .3 x (omega arith);
-      changes = outside-then (outside-set (a .at) (4 * a .p) (omega arith) (omega arith) (outside-none (a .at) (a .at + 17) (now (a .changes)))) (inv .1);
+      changes =
+          outside-then
+          (outside-set (a .at) (4 * a .p) (omega arith) (omega arith)
+          (outside-none (a .at) (a .at + 17) (now (a .changes))))
+          (inv .1);
     }
 
 pub place-part-spec : {M : Type 1} → statement M

@@ -12,10 +12,18 @@ use Rattle.rank_changes.proofs.parts.place_parts.Statement.{statement}
 use Rattle.rank_changes.proofs.parts.place_parts.Tie as tie
 
 abbrev Inv-loop : tie.InvT-loop
-Inv-loop rows n first changes₀ r at count₀ p₀ changes count p = (p ≤ n) × PartsPlaced rows first r p count changes₀ changes
+Inv-loop rows n first changes₀ r at count₀ p₀ changes count p =
+    (p ≤ n) × PartsPlaced rows first r p count changes₀ changes
 
 abbrev μ-loop : tie.MeasureT-loop
 μ-loop rows n first changes₀ r at count₀ p₀ changes count p = n - p
+
+-- the places that the facts below go back to
+abbrev loop-from-place-part-arg : tie.After-place-part-arg Inv-loop μ-loop → tie.At-loop Inv-loop μ-loop
+loop-from-place-part-arg c = c .before .before .before .before
+
+abbrev start-from-place-part-arg : tie.After-place-part-arg Inv-loop μ-loop → tie.Start Inv-loop μ-loop
+start-from-place-part-arg c = loop-from-place-part-arg c .before
 
 mul-at : tie.Need-mul-at Inv-loop μ-loop
 mul-at c = search needs
@@ -33,15 +41,15 @@ is-part-requires : tie.Need-is-part-requires Inv-loop μ-loop
 is-part-requires c κs = search needs
 
 mul-place-part : tie.Need-mul-place-part Inv-loop μ-loop
-mul-place-part c = let few = c .before .before .before .before .loop .inv .1 .few in omega arith
+mul-place-part c = let few = loop-from-place-part-arg c .loop .inv .1 .few in omega arith
 
 add-place-part : tie.Need-add-place-part Inv-loop μ-loop
-add-place-part c = let few = c .before .before .before .before .loop .inv .1 .few in omega arith
+add-place-part c = let few = loop-from-place-part-arg c .loop .inv .1 .few in omega arith
 
 place-part-requires : tie.Need-place-part-requires Inv-loop μ-loop
 place-part-requires c κs =
-    let s = c .before .before .before .before .before in
-    let l = c .before .before .before .before .loop in
+    let s = start-from-place-part-arg c in
+    let l = loop-from-place-part-arg c .loop in
     let few = l .inv .1 .few in
     (omega arith, omega arith, l .inv .1 .changes .len ∙ s .pre .2)
 

@@ -15,6 +15,10 @@ Inv-loop singles i rows₀ p x₀ rows x = (x ≤ 16) × RowAdded (entry singles
 abbrev μ-loop : tie.MeasureT-loop
 μ-loop singles i rows₀ p x₀ rows x = 16 - x
 
+-- the places that the facts below go back to
+abbrev start-from-sum2 : tie.After-sum2 Inv-loop μ-loop → tie.Start Inv-loop μ-loop
+start-from-sum2 c = c .before .before .before .before
+
 loop-holds : tie.Need-loop-holds Inv-loop μ-loop
 loop-holds c = (search needs, added-none (c .pre .3))
 
@@ -44,9 +48,9 @@ element-copy-out-sum-2 c = search needs
 
 add-sum-3 : tie.Need-add-sum-3 Inv-loop μ-loop
 add-sum-3 c =
-    let a = c .before .before .before .before .args in
+    let a = start-from-sum2 c .args in
     let l = c .before .before .before .loop in
-    omega (arith, c .before .before .before .before .pre .0 (16 * a .i + l .x), l .inv .1 .low .each (16 * a .p + l .x) (omega arith))
+    omega (arith, start-from-sum2 c .pre .0 (16 * a .i + l .x), l .inv .1 .low .each (16 * a .p + l .x) (omega arith))
 
 mul-rows : tie.Need-mul-rows Inv-loop μ-loop
 mul-rows c = search needs

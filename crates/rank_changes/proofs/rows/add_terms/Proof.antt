@@ -12,10 +12,18 @@ use Rattle.rank_changes.proofs.rows.add_terms.Statement.{statement}
 use Rattle.rank_changes.proofs.rows.add_terms.Tie as tie
 
 abbrev Inv-loop : tie.InvT-loop
-Inv-loop bytes left right n singles rows₀ constant₀ i₀ rows constant i = (i ≤ n) × Balanced n (sideAt bytes left) (sideAt bytes right) singles rows constant i
+Inv-loop bytes left right n singles rows₀ constant₀ i₀ rows constant i =
+    (i ≤ n) × Balanced n (sideAt bytes left) (sideAt bytes right) singles rows constant i
 
 abbrev μ-loop : tie.MeasureT-loop
 μ-loop bytes left right n singles rows₀ constant₀ i₀ rows constant i = n - i
+
+-- the places that the facts below go back to
+abbrev start-from-loop : tie.After-loop Inv-loop μ-loop → tie.Start Inv-loop μ-loop
+start-from-loop c = c .before .before .before .before .before
+
+abbrev start-from-add-term-arg : tie.After-add-term-arg Inv-loop μ-loop → tie.Start Inv-loop μ-loop
+start-from-add-term-arg c = c .before .before .before .before .before .before
 
 begin-rows-requires : tie.Need-begin-rows-requires Inv-loop μ-loop
 begin-rows-requires c κs = search needs
@@ -30,7 +38,7 @@ loop-holds c =
 
 add-term-requires : tie.Need-add-term-requires Inv-loop μ-loop
 add-term-requires c κs =
-    let h = c .before .before .before .before .before .before .pre in
+    let h = start-from-add-term-arg c .pre in
     ((h .0 .0, h .0 .1, h .0 .2, c .before .loop-test .taken, h .0 .3), (h .1, c .before .before .loop .inv .1))
 
 add-i : tie.Need-add-i Inv-loop μ-loop
@@ -44,8 +52,8 @@ loop-again c = (search needs, c .add-term .ensures)
 
 returns : tie.Need-returns Inv-loop μ-loop
 returns c =
-    let a = c .before .before .before .before .before .args in
-    let h = c .before .before .before .before .before .pre in
+    let a = start-from-loop c .args in
+    let h = start-from-loop c .pre in
     let left = sideAt (now (a .bytes)) (a .left) in
     let right = sideAt (now (a .bytes)) (a .right) in
     let l = c .before .loop in

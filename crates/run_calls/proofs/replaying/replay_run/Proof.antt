@@ -10,12 +10,26 @@ use Rattle.basics.specs.Lists.{atFront}
 use Rattle.refusals.specs.Answers.{Answer, told, verdict, Outcome, outcome, guarded}
 use Rattle.refusals.specs.Refusals.{verdictOf}
 use Rattle.blocks.proofs.StateLaws.{state-length}
-use Rattle.runs.specs.Replay.{Ending, endingOf, replayEnding, replayState}
+use Rattle.runs.specs.Replay.{replayEnding, replayState}
+use Rattle.runs.specs.declared.replay.Replayed.{Replayed}
 use Rattle.runs.proofs.ReplayLaws.{rule-numbers}
 use Rattle.run_calls.specs.Replaying.{replayConditions, replayRun}
 use Rattle.run_calls.proofs.Conditions.{replay-accepted}
 use Rattle.run_calls.proofs.replaying.replay_run.Statement.{statement}
 use Rattle.run_calls.proofs.replaying.replay_run.Tie as tie
+
+-- the places that the facts below go back to
+abbrev start-from-told : tie.After-enum-told → tie.Start
+start-from-told c = c .before .before .before .before .before .before .before
+
+abbrev start-from-checked : tie.After-checked → tie.Start
+start-from-checked c = c .before .before .before .before .before .before .before
+
+abbrev replay-from-replayed : tie.After-replayed → tie.After-replay
+replay-from-replayed c = c .before .before .before .before
+
+abbrev replay-from-replayed2 : tie.After-replayed2 → tie.After-replay
+replay-from-replayed2 c = c .before .before .before .before
 
 -- what stands against the call, and the outcome by that
 abbrev verdict-of : tie.Start → Answer (Unit {0})
@@ -23,12 +37,17 @@ verdict-of s =
     let a = s .args in
     verdict (replayConditions (now (a .block)) (now (a .start)) (now (a .list)) (length (now (a .out))))
 
-abbrev outcome-by : tie.Start → Answer (Unit {0}) → Outcome Ending
-outcome-by s verdict =
+-- how the replay ends, and the state there at the front of the buffer
+abbrev ending-of : tie.Start → Replayed
+ending-of s = let a = s .args in replayEnding (now (a .block)) (now (a .start)) (now (a .list))
+
+abbrev out-of : tie.Start → List ℕ
+out-of s =
     let a = s .args in
-    let b = now (a .block) in
-    guarded verdict (now (a .out))
-    (outcome (told (replayEnding b (now (a .start)) (now (a .list)))) (atFront (replayState b (now (a .start)) (now (a .list))) (now (a .out))))
+    atFront (replayState (now (a .block)) (now (a .start)) (now (a .list))) (now (a .out))
+
+abbrev outcome-by : tie.Start → Answer (Unit {0}) → Outcome Replayed
+outcome-by s verdict = guarded verdict (now (s .args .out)) (outcome (told (ending-of s)) (out-of s))
 
 check-replay-requires : tie.Need-check-replay-requires
 check-replay-requires c κs = search needs
@@ -40,28 +59,35 @@ returns : tie.Need-returns
 unfolding replayRun
 returns c =
     let against = sym (c .before .before .before .check-replay .ensures) ∙ ap verdictOf (c .before .checked .given .1) in
-    sym (ap (outcome-by (c .before .before .before .before .before .before .before .before)) against)
+    sym (ap (outcome-by (start-from-checked (c .before))) against)
 
 enum-told : tie.Need-enum-told
 enum-told c = search needs
 
 -- the call is accepted
-accepted : (c : tie.After-enum-told) → verdict-of (c .before .before .before .before .before .before .before) ≡ told tt
+accepted : (c : tie.After-enum-told) → verdict-of (start-from-told c) ≡ told tt
 accepted c = sym (c .before .before .check-replay .ensures) ∙ ap verdictOf (c .enum-told .given .1)
 
 -- what is told and written then
 told-by :
-    (c : tie.After-enum-told) (ending : Ending) (out : List ℕ) → ending ≡ replayEnding (now (c .before .before .before .before .before .before .before .args .block)) (now (c .before .before .before .before .before .before .before .args .start)) (now (c .before .before .before .before .before .before .before .args .list))
-    → out ≡ atFront (replayState (now (c .before .before .before .before .before .before .before .args .block)) (now (c .before .before .before .before .before .before .before .args .start)) (now (c .before .before .before .before .before .before .before .args .list))) (now (c .before .before .before .before .before .before .before .args .out))
-    → outcome (told ending) out ≡ outcome-by (c .before .before .before .before .before .before .before) (verdict-of (c .before .before .before .before .before .before .before))
-told-by c ending out p q = ap₂ (λ (t : Ending) (l : List ℕ). outcome (told t) l) p q ∙ sym (ap (outcome-by (c .before .before .before .before .before .before .before)) (accepted c))
+    (c : tie.After-enum-told) (ending : Replayed) (out : List ℕ) → ending ≡ ending-of (start-from-told c)
+    → out ≡ out-of (start-from-told c)
+    → outcome (told ending) out ≡ outcome-by (start-from-told c) (verdict-of (start-from-told c))
+told-by c ending out p q =
+    ap₂ (λ (t : Replayed) (l : List ℕ). outcome (told t) l) p q
+    ∙ sym (ap (outcome-by (start-from-told c)) (accepted c))
 
 replay-requires : tie.Need-replay-requires
 replay-requires c κs =
-    let a = c .before .before .before .before .before .before .before .before .args in
+    let a = start-from-told (c .before) .args in
     let b = now (a .block) in
-    let h = replay-accepted b (now (a .start)) (now (a .list)) (length (now (a .out))) (accepted (c .before)) in
-    (h .valid .sized, rule-numbers b (now (a .list)) (h .numbers), h .short, state-length b (now (a .start)) (h .state), h .room-left)
+    let h = replay-accepted b (now (a .start)) (now (a .list)) (length (now (a .out))) (accepted (c .before)) in (
+      h .valid .sized,
+      rule-numbers b (now (a .list)) (h .numbers),
+      h .short,
+      state-length b (now (a .start)) (h .state),
+      h .room-left,
+    )
 
 enum-known-replayed : tie.Need-enum-known-replayed
 enum-known-replayed c = search needs
@@ -75,8 +101,9 @@ same-length c = search needs
 returns-2 : tie.Need-returns-2
 unfolding replayRun
 returns-2 c =
-    let e = c .before .before .before .before .before .replay .ensures in
-    told-by (c .before .before .before .before .before .before .before) _ _ (ap endingOf (sym (c .before .replayed .given .1)) ∙ e .0) (e .1)
+    let d = replay-from-replayed (c .before) in
+    let e = d .replay .ensures in
+    told-by (d .before .before) _ _ (sym (c .before .replayed .given .1) ∙ e .0) (e .1)
 
 same-length-2 : tie.Need-same-length-2
 same-length-2 c = search needs
@@ -84,8 +111,9 @@ same-length-2 c = search needs
 returns-3 : tie.Need-returns-3
 unfolding replayRun
 returns-3 c =
-    let e = c .before .before .before .before .before .replay .ensures in
-    told-by (c .before .before .before .before .before .before .before) _ _ (ap endingOf (sym (c .before .replayed2 .given .1)) ∙ e .0) (e .1)
+    let d = replay-from-replayed2 (c .before) in
+    let e = d .replay .ensures in
+    told-by (d .before .before) _ _ (sym (c .before .replayed2 .given .1) ∙ e .0) (e .1)
 
 pub replay-run-spec : {M : Type 1} → statement M
 replay-run-spec =

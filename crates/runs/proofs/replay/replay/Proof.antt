@@ -14,14 +14,21 @@ use Rattle.runs.proofs.ReplayLaws.{replay-length}
 use Rattle.runs.proofs.replay.replay.Statement.{statement}
 use Rattle.runs.proofs.replay.replay.Tie as tie
 
+-- the places that the facts below go back to
+abbrev start-from-copy : tie.After-copy → tie.Start
+start-from-copy c = c .before .before .before .before .before .before
+
+abbrev copy-from-slice-known3 : tie.After-slice-known3 → tie.After-copy
+copy-from-slice-known3 c = c .before .before .before .before .before .before
+
 copy-requires : tie.Need-copy-requires
 copy-requires c κs = search needs
 
 -- the start stands at the front of the buffer, so the part that is lent holds it
 abbrev start : tie.After-copy → List ℕ
-start c = now (c .before .before .before .before .before .before .args .start)
+start c = now (start-from-copy c .args .start)
 
-copied : (c : tie.After-copy) → c .copy .last .1 .1 .0 ≡ atFront (start c) (now (c .before .before .before .before .before .before .args .out))
+copied : (c : tie.After-copy) → c .copy .last .1 .1 .0 ≡ atFront (start c) (now (start-from-copy c .args .out))
 copied c = c .copy .ensures ∙ copied-whole (start c) _
 
 lent : (c : tie.After-copy) → take (length (start c)) (c .copy .last .1 .1 .0) ≡ start c
@@ -35,24 +42,27 @@ slice-aggregate-replay-in c = sym (ap length (lent (c .before .before .before)))
 
 replay-in-requires : tie.Need-replay-in-requires
 replay-in-requires c κs =
-    let h = c .before .before .before .before .before .before .before .before .before .pre in
-    (h .0, h .1, h .2, ap length (lent (c .before .before .before)) ∙ h .3)
+    let d = c .before .before .before in
+    let h = start-from-copy d .pre in
+    (h .0, h .1, h .2, ap length (lent d) ∙ h .3)
 
 same-length : tie.Need-same-length
 same-length c = search needs
 
 returns : tie.Need-returns
 returns c =
-    let a = c .before .before .before .before .before .before .before .before .before .before .before .before .args in
-    let h = c .before .before .before .before .before .before .before .before .before .before .before .before .pre in
+    let d = copy-from-slice-known3 c in
+    let a = start-from-copy d .args in
+    let h = start-from-copy d .pre in
     let b = now (a .block) in
     let s = now (a .start) in
     let list = now (a .list) in
     let out = now (a .out) in
     let whole = h .3 ∙ sym (replay-length b s list (h .3)) in
-    let kept = ap (drop (length s)) (copied (c .before .before .before .before .before .before)) ∙ drop-append-seam s _ ∙ ap (λ (k : ℕ). drop k out) whole in (
-      c .before .before .replay-in .ensures .0 ∙ ap (λ (l : List ℕ). replayEnding b l list) (lent (c .before .before .before .before .before .before)),
-      ap₂ _++_ (c .before .before .replay-in .ensures .1 ∙ ap (λ (l : List ℕ). replayState b l list) (lent (c .before .before .before .before .before .before))) kept,
+    let kept = ap (drop (length s)) (copied d) ∙ drop-append-seam s _ ∙ ap (λ (k : ℕ). drop k out) whole in
+    let replayed = c .before .before .replay-in .ensures in (
+      replayed .0 ∙ ap (λ (l : List ℕ). replayEnding b l list) (lent d),
+      ap₂ _++_ (replayed .1 ∙ ap (λ (l : List ℕ). replayState b l list) (lent d)) kept,
     )
 
 pub replay-spec : {M : Type 1} → statement M

@@ -1,5 +1,6 @@
 -- `runs::replay::replay_in` meets its contract.
--- The loop's invariant: the rules passed apply in turn, the state is where they lead, and the cost is theirs, at most 255 for each.
+-- The loop's invariant: the rules passed apply in turn, the state is where they lead, and the cost is theirs, at most
+-- 255 for each.
 use mathlib.Core.Path.{_≡_, refl, sym, ap, ap₂, _∙_}
 use mathlib.Core.Bool.{Bool, true}
 use mathlib.Core.List.{List, [], _∷_, _++_}
@@ -16,8 +17,9 @@ use Rattle.blocks.specs.Layout.{positions, rules, costOf}
 use Rattle.psvn.specs.Rules.{applies, step}
 use Rattle.psvn.specs.Runs.{applyInTurn, run, totalCost}
 use Rattle.psvn.proofs.RunLaws.{run-more, cost-more, in-turn-more, run-length}
-use Rattle.runs.specs.Replay.{done, stuck}
-use Rattle.runs.proofs.ReplayLaws.{replay-done, replay-stuck}
+use Rattle.runs.specs.declared.replay.Replayed.the-variants.{Done, Stuck}
+use Rattle.runs.specs.declared.replay.RunEnd.{RunEnd}
+use Rattle.runs.proofs.ReplayLaws.{endAfter, replay-done, replay-stuck}
 use Rattle.runs.proofs.replay.replay_in.Statement.{statement}
 use Rattle.runs.proofs.replay.replay_in.Tie as tie
 
@@ -49,11 +51,58 @@ Inv-loop block list state₀ cost₀ i₀ state cost i =
 abbrev μ-loop : tie.MeasureT-loop
 μ-loop block list state₀ cost₀ i₀ state cost i = length list - i
 
+-- the places that the facts below go back to
+abbrev start-from-loop : tie.At-loop Inv-loop μ-loop → tie.Start Inv-loop μ-loop
+start-from-loop c = c .before .before .before .before
+
+abbrev loop-from-applies-arg : tie.After-applies-arg Inv-loop μ-loop → tie.At-loop Inv-loop μ-loop
+loop-from-applies-arg c = c .before .before .before .before
+
+abbrev wide-from-advance-arg : tie.After-advance-arg Inv-loop μ-loop → tie.After-wide Inv-loop μ-loop
+wide-from-advance-arg c = c .before .before .before .before
+
+abbrev loop-from-applies : tie.After-applies Inv-loop μ-loop → tie.At-loop Inv-loop μ-loop
+loop-from-applies c = c .before .before .before .before .before
+
+abbrev else1-from-cost : tie.After-cost Inv-loop μ-loop → tie.Else1 Inv-loop μ-loop
+else1-from-cost c = c .before .before .before .before .before
+
+abbrev loop-from-then1 : tie.Then1 Inv-loop μ-loop → tie.At-loop Inv-loop μ-loop
+loop-from-then1 c = c .before .before .before .before .before .before
+
+abbrev applies-from-cost : tie.After-cost Inv-loop μ-loop → tie.After-applies Inv-loop μ-loop
+applies-from-cost c = c .before .before .before .before .before .before
+
+abbrev loop-from-advance-arg : tie.After-advance-arg Inv-loop μ-loop → tie.At-loop Inv-loop μ-loop
+loop-from-advance-arg c = c .before .before .before .before .before .before .before
+
+abbrev wide-from-slice-known2 : tie.After-slice-known2 Inv-loop μ-loop → tie.After-wide Inv-loop μ-loop
+wide-from-slice-known2 c = c .before .before .before .before .before .before .before
+
+abbrev wide-from-cost : tie.After-cost Inv-loop μ-loop → tie.After-wide Inv-loop μ-loop
+wide-from-cost c = c .before .before .before .before .before .before .before .before
+
+abbrev loop-from-slice-known2 : tie.After-slice-known2 Inv-loop μ-loop → tie.At-loop Inv-loop μ-loop
+loop-from-slice-known2 c = c .before .before .before .before .before .before .before .before .before .before
+
+abbrev loop-from-cost : tie.After-cost Inv-loop μ-loop → tie.At-loop Inv-loop μ-loop
+loop-from-cost c = c .before .before .before .before .before .before .before .before .before .before .before
+
 -- the state keeps its length
-long : (c : tie.At-loop Inv-loop μ-loop) → length (c .loop .state) ≡ positions (now (c .before .before .before .before .args .block))
+long :
+    (c : tie.At-loop Inv-loop μ-loop) → length (c .loop .state) ≡ positions (now (start-from-loop c .args .block))
 long c =
-    let a = c .before .before .before .before .args in
-    ap length (c .loop .inv .3) ∙ run-length (now (a .block)) (now (a .state)) (take (c .loop .i) (now (a .list))) (c .before .before .before .before .pre .3)
+    let h = start-from-loop c in
+    let a = h .args in
+    let passed = take (c .loop .i) (now (a .list)) in
+    ap length (c .loop .inv .3) ∙ run-length (now (a .block)) (now (a .state)) passed (h .pre .3)
+
+-- where a replay ends that stops here
+ends-here :
+    (c : tie.At-loop Inv-loop μ-loop)
+    → _≡_ {A = RunEnd} (record { steps = c .loop .i; cost = c .loop .cost })
+    (let a = start-from-loop c .args in endAfter (now (a .block)) (now (a .list)) (c .loop .i))
+ends-here c = ap (λ (x : ℕ). record { steps = c .loop .i; cost = x }) (c .loop .inv .2)
 
 loop-holds : tie.Need-loop-holds Inv-loop μ-loop
 loop-holds c = (search needs, search needs, refl, refl, refl)
@@ -65,40 +114,49 @@ wide-requires : tie.Need-wide-requires Inv-loop μ-loop
 wide-requires c κs = search needs
 
 -- the number read is that of a rule
-numbered : (c : tie.After-wide Inv-loop μ-loop) → c .wide .result < rules (now (c .before .before .before .before .before .before .before .args .block))
+numbered :
+    (c : tie.After-wide Inv-loop μ-loop)
+    → c .wide .result < rules (now (start-from-loop (c .before .before .before) .args .block))
 numbered c =
-    let h = c .before .before .before .before .before .before .before .pre .1 (c .before .before .before .loop .i) (omega arith) in
+    let l = c .before .before .before in
+    let h = start-from-loop l .pre .1 (l .loop .i) (omega arith) in
     omega (arith, c .wide .ensures .0)
 
 applies-requires : tie.Need-applies-requires Inv-loop μ-loop
-applies-requires c κs = (c .before .before .before .before .before .before .before .before .pre .0, numbered (c .before), long (c .before .before .before .before))
+applies-requires c κs =
+    let l = loop-from-applies-arg c in (start-from-loop l .pre .0, numbered (c .before), long l)
 
 -- whether that rule applies where the rules before it have led
 abbrev applies-next : tie.At-loop Inv-loop μ-loop → Bool
 applies-next c =
-    let a = c .before .before .before .before .args in
-    applies (now (a .block)) (getD (now (a .list)) (c .loop .i) 0) (run (now (a .block)) (now (a .state)) (take (c .loop .i) (now (a .list))))
+    let a = start-from-loop c .args in
+    let passed = take (c .loop .i) (now (a .list)) in
+    applies (now (a .block)) (getD (now (a .list)) (c .loop .i) 0) (run (now (a .block)) (now (a .state)) passed)
 
-answered : (c : tie.After-applies Inv-loop μ-loop) → c .applies .result ≡ applies-next (c .before .before .before .before .before)
+answered : (c : tie.After-applies Inv-loop μ-loop) → c .applies .result ≡ applies-next (loop-from-applies c)
 answered c =
-    c .applies .ensures ∙ ap₂ (applies (now (c .before .before .before .before .before .before .before .before .before .args .block))) (c .before .before .wide .ensures .0) (c .before .before .before .before .before .loop .inv .3)
+    let l = loop-from-applies c in
+    let applied = applies (now (start-from-loop l .args .block)) in
+    c .applies .ensures ∙ ap₂ applied (c .before .before .wide .ensures .0) (l .loop .inv .3)
 
 same-length : tie.Need-same-length Inv-loop μ-loop
-same-length c = omega (arith, long (c .before .before .before .before .before .before))
+same-length c = omega (arith, long (loop-from-then1 c))
 
 returns : tie.Need-returns Inv-loop μ-loop
 returns c =
-    let a = c .before .before .before .before .before .before .before .before .before .before .args in
-    let inv = c .before .before .before .before .before .before .loop .inv in
+    let l = loop-from-then1 c in
+    let a = start-from-loop l .args in
+    let inv = l .loop .inv in
     let f = sym (answered (c .before)) ∙ not-true _ (c .if1 .taken) in
-    let q = replay-stuck (now (a .block)) (now (a .state)) (now (a .list)) (c .before .before .before .before .before .before .loop .i) (omega arith) (inv .4) f in
-    (ap (stuck (c .before .before .before .before .before .before .loop .i)) (inv .2) ∙ sym (q .0), inv .3 ∙ sym (q .1))
+    let q = replay-stuck (now (a .block)) (now (a .state)) (now (a .list)) (l .loop .i) (omega arith) (inv .4) f in
+    (ap Stuck (ends-here l) ∙ sym (q .0), inv .3 ∙ sym (q .1))
 
 advance-requires : tie.Need-advance-requires Inv-loop μ-loop
-advance-requires c κs = (c .before .before .before .before .before .before .before .before .before .before .before .pre .0, numbered (c .before .before .before .before), long (c .before .before .before .before .before .before .before))
+advance-requires c κs =
+    let l = loop-from-advance-arg c in (start-from-loop l .pre .0, numbered (wide-from-advance-arg c), long l)
 
 cost-requires : tie.Need-cost-requires Inv-loop μ-loop
-cost-requires c κs = (c .before .before .before .before .before .before .before .before .before .before .before .before .before .before .pre .0, numbered (c .before .before .before .before .before .before .before))
+cost-requires c κs = (start-from-loop (loop-from-slice-known2 c) .pre .0, numbered (wide-from-slice-known2 c))
 
 cast-cost : tie.Need-cast-cost Inv-loop μ-loop
 cast-cost c = search needs
@@ -114,19 +172,21 @@ loop-less c = search needs
 
 loop-again : tie.Need-loop-again Inv-loop μ-loop
 loop-again c =
-    let a = c .before .before .before .before .before .before .before .before .before .before .before .before .before .before .before .args in
+    let h = loop-from-cost c in
+    let a = start-from-loop h .args in
     let b = now (a .block) in
     let s = now (a .state) in
     let list = now (a .list) in
-    let i = c .before .before .before .before .before .before .before .before .before .before .before .loop .i in
-    let inv = c .before .before .before .before .before .before .before .before .before .before .before .loop .inv in
+    let i = h .loop .i in
+    let inv = h .loop .inv in
     let l : i < length list = omega arith in
-    let rule = c .before .before .before .before .before .before .before .before .wide .ensures .0 in (
+    let rule = wide-from-cost c .wide .ensures .0 in
+    let applied = sym (answered (applies-from-cost c)) ∙ not-false _ (else1-from-cost c .if1 .left) in (
       search needs,
       search needs,
       ap₂ _+_ (inv .2) (c .cost .ensures ∙ ap (costOf b) rule) ∙ next-cost b s list i l,
       c .before .before .before .advance .ensures ∙ ap₂ (step b) rule (inv .3) ∙ next-state b s list i l,
-      next-in-turn b s list i l (inv .4) (sym (answered (c .before .before .before .before .before .before)) ∙ not-false _ (c .before .before .before .before .before .if1 .left)),
+      next-in-turn b s list i l (inv .4) applied,
     )
 
 same-length-2 : tie.Need-same-length-2 Inv-loop μ-loop
@@ -134,14 +194,16 @@ same-length-2 c = omega (arith, long (c .before))
 
 returns-2 : tie.Need-returns-2 Inv-loop μ-loop
 returns-2 c =
-    let a = c .before .before .before .before .before .args in
+    let a = start-from-loop (c .before) .args in
     let b = now (a .block) in
     let s = now (a .state) in
     let list = now (a .list) in
+    let i = c .before .loop .i in
     let inv = c .before .loop .inv in
-    let all : take (c .before .loop .i) list ≡ list = take-all (c .before .loop .i) list (omega arith) in
+    let last : i ≡ length list = omega (arith, inv .0, c .loop-test .left) in
+    let all : take i list ≡ list = take-all i list (omega arith) in
     let q = replay-done b s list (ap (applyInTurn b s) (sym all) ∙ inv .4) in
-    (ap done (inv .2 ∙ ap (totalCost b) all) ∙ sym (q .0), inv .3 ∙ ap (run b s) all ∙ sym (q .1))
+    (ap Done (ends-here (c .before) ∙ ap (endAfter b list) last) ∙ sym (q .0), inv .3 ∙ ap (run b s) all ∙ sym (q .1))
 
 pub replay-in-spec : {M : Type 1} → statement M
 replay-in-spec =

@@ -11,7 +11,8 @@ use Rattle.search.proofs.finding.read_entries.Statement.{statement}
 use Rattle.search.proofs.finding.read_entries.Tie as tie
 
 abbrev Inv-loop : tie.InvT-loop
-Inv-loop table count entries₀ k₀ entries k = (k ≤ count) × (length entries ≡ 16384) × ((j : ℕ) → j < k → getD entries j 0 ≡ getD table j 0)
+Inv-loop table count entries₀ k₀ entries k =
+    (k ≤ count) × (length entries ≡ 16384) × ((j : ℕ) → j < k → getD entries j 0 ≡ getD table j 0)
 
 abbrev μ-loop : tie.MeasureT-loop
 μ-loop table count entries₀ k₀ entries k = count - k

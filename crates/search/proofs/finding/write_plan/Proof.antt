@@ -15,15 +15,21 @@ use borrow.Author.Needs.{needs}
 use Rattle.search.proofs.finding.write_plan.Statement.{statement}
 use Rattle.search.proofs.finding.write_plan.Tie as tie
 
+-- a buffer with the first i rules at its front
+abbrev withRules : List ℕ → List ℕ → ℕ → List ℕ
+withRules run buffer i = sets buffer 0 (tabulate i (ruleAt run))
+
 abbrev Inv-loop : tie.InvT-loop
-Inv-loop run steps buffer₀ i₀ buffer i = (i ≤ steps) × (buffer ≡ sets buffer₀ 0 (tabulate i (ruleAt run)))
+Inv-loop run steps buffer₀ i₀ buffer i = (i ≤ steps) × (buffer ≡ withRules run buffer₀ i)
 
 abbrev μ-loop : tie.MeasureT-loop
 μ-loop run steps buffer₀ i₀ buffer i = steps - i
 
 -- the buffer keeps its length
 kept : (c : tie.At-loop Inv-loop μ-loop) → length (c .loop .buffer) ≡ length (now (c .before .args .buffer))
-kept c = ap length (c .loop .inv .1) ∙ length-sets (now (c .before .args .buffer)) 0 (tabulate (c .loop .i) (ruleAt (now (c .before .args .run))))
+kept c =
+    let a = c .before .args in
+    ap length (c .loop .inv .1) ∙ length-sets (now (a .buffer)) 0 (tabulate (c .loop .i) (ruleAt (now (a .run))))
 
 loop-holds : tie.Need-loop-holds Inv-loop μ-loop
 loop-holds c = (search needs, refl)
@@ -56,7 +62,7 @@ loop-again c =
     let x = ruleAt (now (a .run)) i in (
       search needs,
       ap (λ (l : List ℕ). set l i x) (c .before .before .loop .inv .1)
-          ∙ ap (λ (k : ℕ). set (sets (now (a .buffer)) 0 (tabulate i (ruleAt (now (a .run))))) k x) (sym (zero-add i))
+          ∙ ap (λ (k : ℕ). set (withRules (now (a .run)) (now (a .buffer)) i) k x) (sym (zero-add i))
           ∙ sets-more (now (a .buffer)) 0 i (ruleAt (now (a .run))) x refl,
     )
 
@@ -67,8 +73,9 @@ returns : tie.Need-returns Inv-loop μ-loop
 returns c =
     let a = c .before .before .args in
     let e : c .before .loop .i ≡ a .steps - 0 = omega arith in
-    c .before .loop .inv .1 ∙ ap (λ (k : ℕ). sets (now (a .buffer)) 0 (tabulate k (ruleAt (now (a .run))))) e
-    ∙ sets-front (now (a .buffer)) (rulesFrom (now (a .run)) 0 (a .steps)) (omega (arith, length-tabulate (a .steps - 0) (ruleAt (now (a .run)))))
+    c .before .loop .inv .1 ∙ ap (withRules (now (a .run)) (now (a .buffer))) e
+    ∙ sets-front (now (a .buffer)) (rulesFrom (now (a .run)) 0 (a .steps))
+    (omega (arith, length-tabulate (a .steps - 0) (ruleAt (now (a .run)))))
 
 pub write-plan-spec : {M : Type 1} → statement M
 write-plan-spec =

@@ -2,7 +2,7 @@
 -- The two writes are the tally that is carried (`carried-tally`).
 use native.Mathlib.Omega.{arith}
 use denote.Ref.{now}
-use Rattle.search.proofs.RunLaws.{carried-tally}
+use Rattle.search.proofs.RunStateLaws.{carried-tally}
 use borrow.Author.Needs.{needs}
 use Rattle.search.proofs.run.carry.Statement.{statement}
 use Rattle.search.proofs.run.carry.Tie as tie

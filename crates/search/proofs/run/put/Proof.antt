@@ -1,7 +1,7 @@
 -- `search::run::put` meets its contract.
 -- The four writes are the list with one rule more.
 use denote.Ref.{now}
-use Rattle.search.proofs.RunLaws.{put-one}
+use Rattle.search.proofs.RunStateLaws.{put-one}
 use borrow.Author.Needs.{needs}
 use Rattle.search.proofs.run.put.Statement.{statement}
 use Rattle.search.proofs.run.put.Tie as tie

@@ -1,98 +1,86 @@
 -- `search_calls::searching::check_search` meets its contract.
--- What turns block and start back, else the step limit, else the room, else the length of the table, else the lower-bound test.
-use mathlib.Core.Path.{_≡_, refl, sym, ap, _∙_}
-use mathlib.Core.Bool.{Bool}
-use native.Mathlib.Omega.{arith}
-use mathlib.Core.List.{[], _∷_}
-use lib.ListN.{length}
+-- What turns the block back, else what turns the query back, else what is lent.
+use mathlib.Core.Path.{_≡_, sym, ap, _∙_}
 use denote.Ref.{now}
-use borrow.Author.Tests.{le-leb, lt-leb}
 use borrow.Author.Needs.{needs}
-use Rattle.refusals.specs.Answers.{told, verdict, _unless_}
+use Rattle.refusals.specs.Answers.{told, verdict}
 use Rattle.refusals.specs.Refusals.{verdictOf}
-use Rattle.refusals.proofs.Verdicts.{verdict-before}
-use Rattle.blocks.specs.Layout.{abstractStates}
-use Rattle.tables.specs.Tables.{passesTest}
-use Rattle.search.specs.Exercises.{longestPlan}
-use Rattle.psvn_calls.specs.Checking.{stateConditions}
-use Rattle.search_calls.specs.Searching.{searchConditions}
-use Rattle.psvn_calls.proofs.Conditions.{StateAccepted, state-accepted}
-use Rattle.search_calls.proofs.Conditions.{search-decided}
+use Rattle.blocks.specs.Validity.{blockConditions}
+use Rattle.blocks.proofs.Accepted.{accepted-valid}
+use Rattle.search_calls.proofs.Conditions.{block-refused, query-refused, lent-decides}
 use Rattle.search_calls.proofs.searching.check_search.Statement.{statement}
 use Rattle.search_calls.proofs.searching.check_search.Tie as tie
 
-check-state-requires : tie.Need-check-state-requires
-check-state-requires c κs = search needs
+-- the places that the facts below go back to
+abbrev start-from-told : tie.After-enum-told → tie.Start
+start-from-told c = c .before .before .before .before .before .before
+
+abbrev start-from-known : tie.After-known-told → tie.Start
+start-from-known c = c .before .before .before .before .before .before .before
+
+abbrev told-from-known2 : tie.After-known-told2 → tie.After-enum-told
+told-from-known2 c = c .before .before .before .before
+
+check-requires : tie.Need-check-requires
+check-requires c κs = search needs
 
 enum-known-checked : tie.Need-enum-known-checked
 enum-known-checked c = search needs
 
 returns : tie.Need-returns
-unfolding searchConditions
 returns c =
-    let a = c .before .before .before .before .before .before .before .args in
-    let against = sym (c .before .before .before .check-state .ensures) ∙ ap verdictOf (c .before .checked .given .1) in
-    sym (verdict-before (stateConditions (now (a .block)) (now (a .start))) _ _ against)
+    let a = start-from-known c .args in
+    let against = sym (c .before .before .before .check .ensures) ∙ ap verdictOf (c .before .checked .given .1) in
+    sym (block-refused (now (a .block)) (now (a .start)) (a .limits) (now (a .table)) (a .room) _ against)
 
 enum-told : tie.Need-enum-told
 enum-told c = search needs
 
--- block and start are accepted
-accepted : (c : tie.After-enum-told) → verdict (stateConditions (now (c .before .before .before .before .before .before .args .block)) (now (c .before .before .before .before .before .before .args .start))) ≡ told tt
-accepted c = sym (c .before .before .check-state .ensures) ∙ ap verdictOf (c .enum-told .given .1)
+-- the block is accepted
+valid : (c : tie.After-enum-told) → verdict (blockConditions (now (start-from-told c .args .block))) ≡ told tt
+valid c = sym (c .before .before .check .ensures) ∙ ap verdictOf (c .enum-told .given .1)
 
-ready : (c : tie.After-enum-told) → StateAccepted (now (c .before .before .before .before .before .before .args .block)) (now (c .before .before .before .before .before .before .args .start))
-ready c = state-accepted (now (c .before .before .before .before .before .before .args .block)) (now (c .before .before .before .before .before .before .args .start)) (accepted c)
+check-query-requires : tie.Need-check-query-requires
+check-query-requires c κs = accepted-valid (now (start-from-told c .args .block)) (valid c) .sized .head
+
+enum-known-asked : tie.Need-enum-known-asked
+enum-known-asked c = search needs
 
 returns-2 : tie.Need-returns-2
 returns-2 c =
-    let a = c .before .before .before .before .before .before .before .args in
-    sym (search-decided (now (a .block)) (now (a .start)) (a .steps) (a .room) (now (a .table)) _ _ _ _ (accepted (c .before)) (lt-leb (a .steps) longestPlan (omega arith)) refl refl refl)
+    let d = told-from-known2 c in
+    let a = start-from-told d .args in
+    let against = sym (c .before .before .before .check-query .ensures) ∙ ap verdictOf (c .before .asked .given .1) in
+    sym (query-refused (now (a .block)) (now (a .start)) (a .limits) (now (a .table)) (a .room) (valid d) _ against)
+
+enum-told-2 : tie.Need-enum-told-2
+enum-told-2 c = search needs
+
+check-lent-requires : tie.Need-check-lent-requires
+check-lent-requires c κs =
+    let d = c .before .before .before in
+    accepted-valid (now (start-from-told d .args .block)) (valid d)
 
 returns-3 : tie.Need-returns-3
 returns-3 c =
-    let a = c .before .before .before .before .before .before .before .before .args in
-    sym (search-decided (now (a .block)) (now (a .start)) (a .steps) (a .room) (now (a .table)) _ _ _ _ (accepted (c .before .before)) (le-leb (a .steps) longestPlan (omega arith)) (lt-leb (a .steps) (a .room) (omega arith)) refl refl)
-
-abstract-states-requires : tie.Need-abstract-states-requires
-abstract-states-requires c κs = ready (c .before .before) .valid .sized .head
-
-returns-4 : tie.Need-returns-4
-returns-4 c =
-    let a = c .before .before .before .before .before .before .before .before .before .before .args in
-    let short = lt-leb (abstractStates (now (a .block))) (length (now (a .table))) (omega (arith, c .before .abstract-states .ensures .0)) in
-    sym (search-decided (now (a .block)) (now (a .start)) (a .steps) (a .room) (now (a .table)) _ _ _ _ (accepted (c .before .before .before .before)) (le-leb (a .steps) longestPlan (omega arith)) (le-leb (a .steps) (a .room) (omega arith)) short refl)
-
-passes-requires : tie.Need-passes-requires
-passes-requires c κs = (ready (c .before .before .before .before) .valid, omega (arith, c .before .abstract-states .ensures .0))
-
--- all but the test is as it should be
-tested :
-    (c : tie.Else3) (passing : Bool) → passesTest (now (c .before .before .before .before .before .before .before .before .before .before .args .block)) (now (c .before .before .before .before .before .before .before .before .before .before .args .table)) ≡ passing
-    → verdict (searchConditions (now (c .before .before .before .before .before .before .before .before .before .before .args .block)) (now (c .before .before .before .before .before .before .before .before .before .before .args .start)) (c .before .before .before .before .before .before .before .before .before .before .args .steps) (c .before .before .before .before .before .before .before .before .before .before .args .room) (now (c .before .before .before .before .before .before .before .before .before .before .args .table))) ≡ verdict (13 unless passing ∷ [])
-tested c passing p =
-    let a = c .before .before .before .before .before .before .before .before .before .before .args in
-    let long = le-leb (abstractStates (now (a .block))) (length (now (a .table))) (omega (arith, c .before .abstract-states .ensures .0)) in
-    search-decided (now (a .block)) (now (a .start)) (a .steps) (a .room) (now (a .table)) _ _ _ _ (accepted (c .before .before .before .before)) (le-leb (a .steps) longestPlan (omega arith)) (le-leb (a .steps) (a .room) (omega arith)) long p
-
-returns-5 : tie.Need-returns-5
-returns-5 c = sym (tested (c .before .before) _ (sym (c .before .passes .ensures) ∙ c .if4 .taken))
-
-returns-6 : tie.Need-returns-6
-returns-6 c = sym (tested (c .before .before) _ (sym (c .before .passes .ensures) ∙ c .if4 .left))
+    let e = c .before in
+    let d = e .before .before .before in
+    let a = start-from-told d .args in
+    let asked = sym (e .before .before .check-query .ensures) ∙ ap verdictOf (e .enum-told2 .given .1) in
+    c .check-lent .ensures
+    ∙ sym (lent-decides (now (a .block)) (now (a .start)) (a .limits) (now (a .table)) (a .room) (valid d) asked)
 
 pub check-search-spec : {M : Type 1} → statement M
 check-search-spec =
     tie.close
     (tie.spec
-    check-state-requires
+    check-requires
     enum-known-checked
     returns
     enum-told
+    check-query-requires
+    enum-known-asked
     returns-2
-    returns-3
-    abstract-states-requires
-    returns-4
-    passes-requires
-    returns-5
-    returns-6)
+    enum-told-2
+    check-lent-requires
+    returns-3)

@@ -1,5 +1,6 @@
 -- `search_calls::searching::find_plan` meets its contract.
--- Refused with the buffer as it was, or the search's answer with the plan at the front of the buffer, and demand 3 for it.
+-- Refused with the buffer as it was, or the search's answer with the plan at the front of the buffer, and demand 3 for
+-- it.
 use mathlib.Core.Path.{_≡_, sym, ap, _∙_, subst}
 use mathlib.Core.List.{List}
 use Prim.Native.Nat.{ℕ}
@@ -21,33 +22,52 @@ use Rattle.search_calls.proofs.SearchAnswers.{givenAs, answered-by, kep
 use Rattle.search_calls.proofs.searching.find_plan.Statement.{statement}
 use Rattle.search_calls.proofs.searching.find_plan.Tie as tie
 
+-- the places that the facts below go back to
+abbrev start-from-told : tie.After-enum-told → tie.Start
+start-from-told c = c .before .before .before .before .before .before .before
+
+abbrev start-from-known : tie.After-known-told → tie.Start
+start-from-known c = c .before .before .before .before .before .before .before .before
+
+abbrev told-from-search : tie.After-find-plan → tie.After-enum-told
+told-from-search c = c .before .before
+
+abbrev search-from-found : tie.After-known-told2 → tie.After-find-plan
+search-from-found c = c .before .before .before .before .before
+
+abbrev search-from-no-plan : tie.After-known-told3 → tie.After-find-plan
+search-from-no-plan c = c .before .before .before .before .before
+
+abbrev search-from-spent : tie.After-known-told4 → tie.After-find-plan
+search-from-spent c = c .before .before .before .before .before
+
 -- what stands against the call, and the outcome by that
 abbrev told-of : tie.Start → Answer (Unit {0})
 told-of s =
     let a = s .args in
-    verdict (searchConditions (now (a .block)) (now (a .start)) (a .steps) (length (now (a .plan))) (now (a .table)))
+    verdict (searchConditions (now (a .block)) (now (a .start)) (a .limits) (now (a .table)) (length (now (a .plan))))
 
 abbrev settled : tie.Start → Answer (Unit {0}) → Outcome SearchAnswer
 settled s verdict =
     let a = s .args in
-    let x = searchFrom (now (a .block)) (now (a .table)) (a .steps) (a .cost) (a .visits) (now (a .start)) in
+    let x = searchFrom (now (a .block)) (now (a .start)) (a .limits) (now (a .table)) in
     guarded verdict (now (a .plan)) (outcome (told (reported x)) (atFront (plan x) (now (a .plan))))
 
 -- what an accepted call knows, how the search layer ends, and demand 3, all of the call's arguments
 abbrev Accepted : tie.Start → Type 0
 Accepted s =
     let a = s .args in
-    SearchAccepted (now (a .block)) (now (a .start)) (a .steps) (length (now (a .plan))) (now (a .table))
+    SearchAccepted (now (a .block)) (now (a .start)) (a .limits) (now (a .table)) (length (now (a .plan)))
 
 abbrev Ended : tie.Start → List ℕ → Ending → Type 0
 Ended s out x =
     let a = s .args in
-    Answers (now (a .block)) (now (a .table)) (a .steps) (a .cost) (a .visits) (now (a .start)) (now (a .plan)) out x
+    Answers (now (a .block)) (now (a .start)) (a .limits) (now (a .table)) (now (a .plan)) out x
 
 abbrev Promised : tie.Start → Search → List ℕ → Type 0
 Promised s r out =
     let a = s .args in
-    PlanKept (now (a .block)) (now (a .start)) (a .steps) (a .cost) (a .visits) (now (a .table)) r out
+    PlanKept (now (a .block)) (now (a .start)) (a .limits) (now (a .table)) r out
 
 check-search-requires : tie.Need-check-search-requires
 check-search-requires c κs = search needs
@@ -58,38 +78,50 @@ enum-known-checked c = search needs
 returns : tie.Need-returns
 unfolding findPlan
 returns c =
-    let against = sym (c .before .before .before .check-search .ensures) ∙ ap verdictOf (c .before .checked .given .1) in
-    (sym (ap (settled (c .before .before .before .before .before .before .before .before)) against), tt)
+    let against =
+    sym (c .before .before .before .check-search .ensures) ∙ ap verdictOf (c .before .checked .given .1) in
+    (sym (ap (settled (start-from-known c)) against), tt)
 
 enum-told : tie.Need-enum-told
 enum-told c = search needs
 
 -- the call is accepted
-accepted : (c : tie.After-enum-told) → told-of (c .before .before .before .before .before .before .before) ≡ told tt
+accepted : (c : tie.After-enum-told) → told-of (start-from-told c) ≡ told tt
 accepted c = sym (c .before .before .check-search .ensures) ∙ ap verdictOf (c .enum-told .given .1)
 
-ready : (c : tie.After-enum-told) → Accepted (c .before .before .before .before .before .before .before)
+ready : (c : tie.After-enum-told) → Accepted (start-from-told c)
 ready c =
-    let a = c .before .before .before .before .before .before .before .args in
-    search-accepted (now (a .block)) (now (a .start)) (a .steps) (length (now (a .plan))) (now (a .table)) (accepted c)
+    let a = start-from-told c .args in
+    search-accepted (now (a .block)) (now (a .start)) (a .limits) (now (a .table)) (length (now (a .plan))) (accepted c)
 
--- what the call gives where the search layer ends with x, which is r, and demand 3 for it
+-- the buffer that the search layer leaves
+abbrev written : tie.After-find-plan → List ℕ
+written c = c .find-plan .last .1 .1 .1 .1 .0
+
+-- what the call gives where the search layer ends with r, and demand 3 for it
 gives :
-    (c : tie.After-enum-told) (x r : Ending) (out : List ℕ) → x ≡ r → Ended (c .before .before .before .before .before .before .before) out x
-    → (outcome (searchOf (givenAs r)) out ≡ settled (c .before .before .before .before .before .before .before) (told-of (c .before .before .before .before .before .before .before))) × Promised (c .before .before .before .before .before .before .before) (givenAs r) out
-gives c x r out e h =
-    let s = c .before .before .before .before .before .before .before in
+    (c : tie.After-find-plan) (r : Ending) → c .find-plan .result ≡ r
+    → (let s = start-from-told (told-from-search c) in
+    (outcome (searchOf (givenAs r)) (written c) ≡ settled s (told-of s)) × Promised s (givenAs r) (written c))
+gives c r e =
+    let d = told-from-search c in
+    let s = start-from-told d in
     let a = s .args in
-    let k = subst (Ended s out) e h in (
-      answered-by (now (a .block)) (now (a .table)) (a .steps) (a .cost) (a .visits) (now (a .start)) (now (a .plan)) out (ready c .room-left) r k ∙ sym (ap (settled s) (accepted c)),
-      kept-by (now (a .block)) (now (a .table)) (a .steps) (a .cost) (a .visits) (now (a .start)) (now (a .plan)) out r k,
+    let k = subst (Ended s (written c)) e (c .find-plan .ensures) in
+    let given =
+    answered-by (now (a .block)) (now (a .start)) (a .limits) (now (a .table)) (now (a .plan)) (written c)
+    (ready d .room-left) r k in (
+      given ∙ sym (ap (settled s) (accepted d)),
+      kept-by (now (a .block)) (now (a .start)) (a .limits) (now (a .table)) (now (a .plan)) (written c) r k,
     )
 
 find-plan-requires : tie.Need-find-plan-requires
 find-plan-requires c κs =
-    let a = c .before .before .before .before .before .before .before .before .args in
-    let h = ready (c .before) in
-    ((h .valid, h .state, h .steps-few, h .room-left, h .entries), lower-bound (now (a .block)) (h .valid) (now (a .table)) (h .passing))
+    let a = start-from-told (c .before) .args in
+    let h = ready (c .before) in (
+      (h .valid, h .state, h .steps-few, h .room-left, h .entries),
+      lower-bound (now (a .block)) (h .valid) (now (a .table)) (h .passing),
+    )
 
 enum-known-ending : tie.Need-enum-known-ending
 enum-known-ending c = search needs
@@ -105,24 +137,21 @@ same-length c = search needs
 
 returns-2 : tie.Need-returns-2
 unfolding findPlan
-returns-2 c =
-    gives (c .before .before .before .before .before .before .before) _ _ _ (c .before .ending .given .1) (c .before .before .before .before .before .find-plan .ensures)
+returns-2 c = gives (search-from-found c) _ (c .before .ending .given .1)
 
 same-length-2 : tie.Need-same-length-2
 same-length-2 c = search needs
 
 returns-3 : tie.Need-returns-3
 unfolding findPlan
-returns-3 c =
-    gives (c .before .before .before .before .before .before .before) _ _ _ (c .before .ending2 .given .1) (c .before .before .before .before .before .find-plan .ensures)
+returns-3 c = gives (search-from-no-plan c) _ (c .before .ending2 .given .1)
 
 same-length-3 : tie.Need-same-length-3
 same-length-3 c = search needs
 
 returns-4 : tie.Need-returns-4
 unfolding findPlan
-returns-4 c =
-    gives (c .before .before .before .before .before .before .before) _ _ _ (c .before .ending3 .given .1) (c .before .before .before .before .before .find-plan .ensures)
+returns-4 c = gives (search-from-spent c) _ (c .before .ending3 .given .1)
 
 pub find-plan-spec : {M : Type 1} → statement M
 find-plan-spec =

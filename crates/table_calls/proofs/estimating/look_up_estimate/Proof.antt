@@ -1,13 +1,16 @@
 -- `table_calls::estimating::look_up_estimate` meets its contract.
 -- Refused, or the entry of the relabelled state.
 use mathlib.Core.Path.{_≡_, sym, ap, _∙_}
+use mathlib.Core.Bool.{Bool}
+use mathlib.Core.List.{List, [], _∷_}
 use Prim.Native.Nat.{ℕ}
 use native.Mathlib.Omega.{arith}
+use lib.Dec.{leb}
 use lib.ListN.{length}
 use denote.Ref.{now}
 use borrow.Author.Tests.{le-leb, lt-leb}
 use borrow.Author.Needs.{needs}
-use Rattle.refusals.specs.Answers.{Answer, told, verdict, answered}
+use Rattle.refusals.specs.Answers.{Answer, told, verdict, answered, _unless_}
 use Rattle.refusals.specs.Refusals.{verdictOf}
 use Rattle.refusals.proofs.Verdicts.{verdict-before}
 use Rattle.blocks.specs.Layout.{abstractStates}
@@ -19,10 +22,26 @@ use Rattle.table_calls.proofs.Conditions.{table-decided}
 use Rattle.table_calls.proofs.estimating.look_up_estimate.Statement.{statement}
 use Rattle.table_calls.proofs.estimating.look_up_estimate.Tie as tie
 
+-- the places that the facts below go back to
+abbrev start-from-told : tie.After-enum-told → tie.Start
+start-from-told c = c .before .before .before .before .before .before
+
+abbrev start-from-known : tie.After-known-told → tie.Start
+start-from-known c = c .before .before .before .before .before .before .before
+
+-- the block, the state and the table's length at the start
+abbrev block : tie.Start → List ℕ
+block s = now (s .args .block)
+
+abbrev state : tie.Start → List ℕ
+state s = now (s .args .state)
+
+abbrev room : tie.Start → ℕ
+room s = length (now (s .args .table))
+
 -- the answer by the verdict
 abbrev settled : tie.Start → Answer (Unit {0}) → Answer ℕ
-settled s verdict =
-    answered verdict (estimate (now (s .args .block)) (now (s .args .table)) (now (s .args .state)))
+settled s verdict = answered verdict (estimate (block s) (now (s .args .table)) (state s))
 
 check-state-requires : tie.Need-check-state-requires
 check-state-requires c κs = search needs
@@ -33,30 +52,44 @@ enum-known-checked c = search needs
 returns : tie.Need-returns
 unfolding lookUpEstimate lookUpConditions
 returns c =
-    let s = c .before .before .before .before .before .before .before in
+    let s = start-from-known c in
     let against = sym (c .before .before .before .check-state .ensures) ∙ ap verdictOf (c .before .checked .given .1) in
-    sym (ap (settled s) (verdict-before (stateConditions (now (s .args .block)) (now (s .args .state))) _ _ against))
+    sym (ap (settled s) (verdict-before (stateConditions (block s) (state s)) _ _ against))
 
 enum-told : tie.Need-enum-told
 enum-told c = search needs
 
 -- block and state are accepted
-accepted : (c : tie.After-enum-told) → verdict (stateConditions (now (c .before .before .before .before .before .before .args .block)) (now (c .before .before .before .before .before .before .args .state))) ≡ told tt
+accepted :
+    (c : tie.After-enum-told)
+    → verdict (stateConditions (block (start-from-told c)) (state (start-from-told c))) ≡ told tt
 accepted c = sym (c .before .before .check-state .ensures) ∙ ap verdictOf (c .enum-told .given .1)
 
-ready : (c : tie.After-enum-told) → StateAccepted (now (c .before .before .before .before .before .before .args .block)) (now (c .before .before .before .before .before .before .args .state))
-ready c = state-accepted (now (c .before .before .before .before .before .before .args .block)) (now (c .before .before .before .before .before .before .args .state)) (accepted c)
+ready : (c : tie.After-enum-told) → StateAccepted (block (start-from-told c)) (state (start-from-told c))
+ready c = state-accepted (block (start-from-told c)) (state (start-from-told c)) (accepted c)
+
+-- then the table's length decides
+decided :
+    (c : tie.After-enum-told) (long : Bool)
+    → leb (abstractStates (block (start-from-told c))) (room (start-from-told c)) ≡ long
+    → verdict (lookUpConditions (block (start-from-told c)) (state (start-from-told c)) (room (start-from-told c)))
+    ≡ verdict (12 unless long ∷ [])
+unfolding lookUpConditions
+decided c long p =
+    let s = start-from-told c in
+    table-decided (block s) (room s) (stateConditions (block s) (state s)) (accepted c) long p
 
 abstract-states-requires : tie.Need-abstract-states-requires
 abstract-states-requires c κs = ready c .valid .sized .head
 
 returns-2 : tie.Need-returns-2
-unfolding lookUpEstimate lookUpConditions
+unfolding lookUpEstimate
 returns-2 c =
-    let s = c .before .before .before .before .before .before .before .before in
-    let b = now (s .args .block) in
-    let short = lt-leb (abstractStates b) (length (now (s .args .table))) (omega (arith, c .before .abstract-states .ensures .0)) in
-    sym (ap (settled s) (table-decided b (length (now (s .args .table))) (stateConditions b (now (s .args .state))) (accepted (c .before .before)) _ short))
+    let d = c .before .before in
+    let s = start-from-told d in
+    let counted = c .before .abstract-states .ensures .0 in
+    let short = lt-leb (abstractStates (block s)) (room s) (omega (arith, counted)) in
+    sym (ap (settled s) (decided d _ short))
 
 estimate-requires : tie.Need-estimate-requires
 estimate-requires c κs =
@@ -64,12 +97,13 @@ estimate-requires c κs =
     (k .valid, k .state, omega (arith, c .before .abstract-states .ensures .0))
 
 returns-3 : tie.Need-returns-3
-unfolding lookUpEstimate lookUpConditions
+unfolding lookUpEstimate
 returns-3 c =
-    let s = c .before .before .before .before .before .before .before .before .before in
-    let b = now (s .args .block) in
-    let long = le-leb (abstractStates b) (length (now (s .args .table))) (omega (arith, c .before .before .abstract-states .ensures .0)) in
-    ap told (c .estimate .ensures) ∙ sym (ap (settled s) (table-decided b (length (now (s .args .table))) (stateConditions b (now (s .args .state))) (accepted (c .before .before .before)) _ long))
+    let d = c .before .before .before in
+    let s = start-from-told d in
+    let counted = c .before .before .abstract-states .ensures .0 in
+    let long = le-leb (abstractStates (block s)) (room s) (omega (arith, counted)) in
+    ap told (c .estimate .ensures) ∙ sym (ap (settled s) (decided d _ long))
 
 pub look-up-estimate-spec : {M : Type 1} → statement M
 look-up-estimate-spec =

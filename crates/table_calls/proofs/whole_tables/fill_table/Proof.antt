@@ -13,10 +13,24 @@ use Rattle.table_calls.proofs.Conditions.{table-accepted}
 use Rattle.table_calls.proofs.whole_tables.fill_table.Statement.{statement}
 use Rattle.table_calls.proofs.whole_tables.fill_table.Tie as tie
 
--- the outcome by the verdict
+-- the places that the facts below go back to
+abbrev start-from-told : tie.After-enum-told → tie.Start
+start-from-told c = c .before .before .before .before .before
+
+abbrev start-from-known : tie.After-known-told → tie.Start
+start-from-known c = c .before .before .before .before .before .before
+
+abbrev told-from-slice2 : tie.After-slice-known2 → tie.After-enum-told
+told-from-slice2 c = c .before .before .before .before
+
+-- what stands against the call, and the outcome by that
+abbrev verdict-of : tie.Start → Answer (Unit {0})
+verdict-of s = verdict (tableConditions (now (s .args .block)) (length (now (s .args .table))))
+
 abbrev settled : tie.Start → Answer (Unit {0}) → Outcome (Unit {0})
 settled s verdict =
-    guarded verdict (now (s .args .table)) (outcome (told tt) (atFront (filled (now (s .args .block))) (now (s .args .table))))
+    let table = now (s .args .table) in
+    guarded verdict table (outcome (told tt) (atFront (filled (now (s .args .block))) table))
 
 check-table-requires : tie.Need-check-table-requires
 check-table-requires c κs = search needs
@@ -27,19 +41,20 @@ enum-known-checked c = search needs
 returns : tie.Need-returns
 unfolding fillTable
 returns c =
-    sym (ap (settled (c .before .before .before .before .before .before)) (sym (c .before .before .before .check-table .ensures) ∙ ap verdictOf (c .before .checked .given .1)))
+    let against = sym (c .before .before .before .check-table .ensures) ∙ ap verdictOf (c .before .checked .given .1) in
+    sym (ap (settled (start-from-known c)) against)
 
 enum-told : tie.Need-enum-told
 enum-told c = search needs
 
 -- the call is accepted
-accepted : (c : tie.After-enum-told) → verdict (tableConditions (now (c .before .before .before .before .before .args .block)) (length (now (c .before .before .before .before .before .args .table)))) ≡ told tt
+accepted : (c : tie.After-enum-told) → verdict-of (start-from-told c) ≡ told tt
 accepted c = sym (c .before .before .check-table .ensures) ∙ ap verdictOf (c .enum-told .given .1)
 
 fill-requires : tie.Need-fill-requires
 fill-requires c κs =
-    let s = c .before .before .before .before .before .before in
-    let k = table-accepted (now (s .args .block)) (length (now (s .args .table))) (accepted (c .before)) in
+    let a = start-from-told (c .before) .args in
+    let k = table-accepted (now (a .block)) (length (now (a .table))) (accepted (c .before)) in
     (k .valid, k .room-left)
 
 same-length : tie.Need-same-length
@@ -48,8 +63,8 @@ same-length c = search needs
 returns-2 : tie.Need-returns-2
 unfolding fillTable
 returns-2 c =
-    ap (outcome (told tt)) (c .before .before .fill .ensures)
-    ∙ sym (ap (settled (c .before .before .before .before .before .before .before .before .before)) (accepted (c .before .before .before .before)))
+    let d = told-from-slice2 c in
+    ap (outcome (told tt)) (c .before .before .fill .ensures) ∙ sym (ap (settled (start-from-told d)) (accepted d))
 
 pub fill-table-spec : {M : Type 1} → statement M
 fill-table-spec =

@@ -13,6 +13,20 @@ use Rattle.table_calls.proofs.Conditions.{table-accepted}
 use Rattle.table_calls.proofs.whole_tables.test_table.Statement.{statement}
 use Rattle.table_calls.proofs.whole_tables.test_table.Tie as tie
 
+-- the places that the facts below go back to
+abbrev start-from-told : tie.After-enum-told → tie.Start
+start-from-told c = c .before .before .before .before .before
+
+abbrev start-from-known : tie.After-known-told → tie.Start
+start-from-known c = c .before .before .before .before .before .before
+
+-- what stands against the call, and the answer by that
+abbrev verdict-of : tie.Start → Answer (Unit {0})
+verdict-of s = verdict (tableConditions (now (s .args .block)) (length (now (s .args .table))))
+
+abbrev settled : tie.Start → Answer (Unit {0}) → Answer Bool
+settled s verdict = answered verdict (passesTest (now (s .args .block)) (now (s .args .table)))
+
 check-table-requires : tie.Need-check-table-requires
 check-table-requires c κs = search needs
 
@@ -22,29 +36,31 @@ enum-known-checked c = search needs
 returns : tie.Need-returns
 unfolding testTable
 returns c =
-    let a = c .before .before .before .before .before .before .args in
-    sym (ap (λ (v : Answer (Unit {0})). answered v (passesTest (now (a .block)) (now (a .table)))) (sym (c .before .before .before .check-table .ensures) ∙ ap verdictOf (c .before .checked .given .1)))
+    let against = sym (c .before .before .before .check-table .ensures) ∙ ap verdictOf (c .before .checked .given .1) in
+    sym (ap (settled (start-from-known c)) against)
 
 enum-told : tie.Need-enum-told
 enum-told c = search needs
 
 -- the call is accepted
-accepted : (c : tie.After-enum-told) → verdict (tableConditions (now (c .before .before .before .before .before .args .block)) (length (now (c .before .before .before .before .before .args .table)))) ≡ told tt
+accepted : (c : tie.After-enum-told) → verdict-of (start-from-told c) ≡ told tt
 accepted c = sym (c .before .before .check-table .ensures) ∙ ap verdictOf (c .enum-told .given .1)
 
 passes-requires : tie.Need-passes-requires
 passes-requires c κs =
-    let a = c .before .before .before .before .before .args in
+    let a = start-from-told c .args in
     let k = table-accepted (now (a .block)) (length (now (a .table))) (accepted c) in
     (k .valid, k .room-left)
 
 returns-2 : tie.Need-returns-2
 unfolding testTable
-returns-2 c = sym (ap₂ (answered {A = Bool}) (accepted (c .before .before)) (sym (c .before .passes .ensures) ∙ c .if1 .taken))
+returns-2 c =
+    sym (ap₂ (answered {A = Bool}) (accepted (c .before .before)) (sym (c .before .passes .ensures) ∙ c .if1 .taken))
 
 returns-3 : tie.Need-returns-3
 unfolding testTable
-returns-3 c = sym (ap₂ (answered {A = Bool}) (accepted (c .before .before)) (sym (c .before .passes .ensures) ∙ c .if1 .left))
+returns-3 c =
+    sym (ap₂ (answered {A = Bool}) (accepted (c .before .before)) (sym (c .before .passes .ensures) ∙ c .if1 .left))
 
 pub test-table-spec : {M : Type 1} → statement M
 test-table-spec =

@@ -9,6 +9,13 @@ use borrow.Author.Needs.{needs}
 use Rattle.tables.proofs.by_sides.edges_pass.Statement.{statement}
 use Rattle.tables.proofs.by_sides.edges_pass.Tie as tie
 
+-- the places that the facts below go back to
+abbrev rank-bound-from-else2 : tie.Else2 → tie.After-rank-bound
+rank-bound-from-else2 c = c .before .before .before .before
+
+abbrev start-from-else2 : tie.Else2 → tie.Start
+start-from-else2 c = rank-bound-from-else2 c .before .before
+
 rank-bound-requires : tie.Need-rank-bound-requires
 rank-bound-requires c κs = search needs
 
@@ -26,8 +33,8 @@ returns-2 c = λ e. absurd (true-false e refl)
 
 entries-pass-requires : tie.Need-entries-pass-requires
 entries-pass-requires c κs =
-    let s = c .before .before .before .before .before .before in
-    let bound = c .before .before .before .before .rank-bound .ensures in
+    let s = start-from-else2 c in
+    let bound = rank-bound-from-else2 c .rank-bound .ensures in
     let first = c .before .before .before .in-range .ensures (not-false _ (c .before .before .if1 .left)) in
     let second = c .before .in-range2 .ensures (not-false _ (c .if2 .left)) in
     (s .pre, (λ j l. omega (arith, rw (zero-add j) at (first j l), bound), λ j l. omega (arith, second j l, bound)))

@@ -18,6 +18,22 @@ Inv-loop table lists count cost j₀ j = (j ≤ count) × EdgesPass table (sourc
 abbrev μ-loop : tie.MeasureT-loop
 μ-loop table lists count cost j₀ j = count - j
 
+-- the places that the facts below go back to
+abbrev index2-from-else1 : tie.Else1 Inv-loop μ-loop → tie.After-index2 Inv-loop μ-loop
+index2-from-else1 c = c .before .before .before .before
+
+abbrev loop-from-index2 : tie.After-index2 Inv-loop μ-loop → tie.At-loop Inv-loop μ-loop
+loop-from-index2 c = c .before .before .before .before .before
+
+abbrev index-from-else1 : tie.Else1 Inv-loop μ-loop → tie.After-index Inv-loop μ-loop
+index-from-else1 c = index2-from-else1 c .before .before
+
+abbrev start-from-index2 : tie.After-index2 Inv-loop μ-loop → tie.Start Inv-loop μ-loop
+start-from-index2 c = loop-from-index2 c .before .before
+
+abbrev loop-from-else1 : tie.Else1 Inv-loop μ-loop → tie.At-loop Inv-loop μ-loop
+loop-from-else1 c = index-from-else1 c .before .before .before
+
 loop-holds : tie.Need-loop-holds Inv-loop μ-loop
 loop-holds c = (omega arith, λ i l. absurd (omega arith))
 
@@ -44,23 +60,31 @@ index-requires-2 c κs = search needs
 
 mul-entry-passes : tie.Need-mul-entry-passes Inv-loop μ-loop
 mul-entry-passes c =
-    let s = c .before .before .before .before .before .before .before in
-    omega (arith, c .before .before .index .ensures, s .pre .1 .0 (c .before .before .before .before .before .loop .j) (omega arith))
+    let s = start-from-index2 c in
+    omega (arith, c .before .before .index .ensures, s .pre .1 .0 (loop-from-index2 c .loop .j) (omega arith))
 
 shared-slice-read-entry-passes : tie.Need-shared-slice-read-entry-passes Inv-loop μ-loop
 shared-slice-read-entry-passes c =
-    let s = c .before .before .before .before .before .before .before .before in
-    omega (arith, c .before .before .before .index .ensures, s .pre .1 .0 (c .before .before .before .before .before .before .loop .j) (omega arith))
+    let s = start-from-index2 (c .before) in
+    omega (
+      arith,
+      c .before .before .before .index .ensures,
+      s .pre .1 .0 (loop-from-index2 (c .before) .loop .j) (omega arith),
+    )
 
 mul-entry-passes-2 : tie.Need-mul-entry-passes-2 Inv-loop μ-loop
 mul-entry-passes-2 c =
-    let s = c .before .before .before .before .before .before .before .before in
-    omega (arith, c .before .index2 .ensures, s .pre .1 .1 (c .before .before .before .before .before .before .loop .j) (omega arith))
+    let s = start-from-index2 (c .before) in
+    omega (arith, c .before .index2 .ensures, s .pre .1 .1 (loop-from-index2 (c .before) .loop .j) (omega arith))
 
 shared-slice-read-entry-passes-2 : tie.Need-shared-slice-read-entry-passes-2 Inv-loop μ-loop
 shared-slice-read-entry-passes-2 c =
-    let s = c .before .before .before .before .before .before .before .before .before in
-    omega (arith, c .before .before .index2 .ensures, s .pre .1 .1 (c .before .before .before .before .before .before .before .loop .j) (omega arith))
+    let s = start-from-index2 (c .before .before) in
+    omega (
+      arith,
+      c .before .before .index2 .ensures,
+      s .pre .1 .1 (loop-from-index2 (c .before .before) .loop .j) (omega arith),
+    )
 
 entry-passes-requires : tie.Need-entry-passes-requires Inv-loop μ-loop
 entry-passes-requires c κs = search needs
@@ -76,10 +100,12 @@ loop-less c = search needs
 
 loop-again : tie.Need-loop-again Inv-loop μ-loop
 loop-again c =
-    let l = c .before .before .before .before .before .before .before .before .before .loop in
-    let i = c .before .before .before .before .before .before .index .ensures in
-    let k = c .before .before .before .before .index2 .ensures in
-    (omega arith, below-more _ _ (l .inv .1) (rw (sym i, sym k) (c .before .entry-passes .ensures (not-false _ (c .if1 .left)))))
+    let l = loop-from-else1 c .loop in
+    let i = index-from-else1 c .index .ensures in
+    let k = index2-from-else1 c .index2 .ensures in (
+      omega arith,
+      below-more _ _ (l .inv .1) (rw (sym i, sym k) (c .before .entry-passes .ensures (not-false _ (c .if1 .left)))),
+    )
 
 returns-2 : tie.Need-returns-2 Inv-loop μ-loop
 returns-2 c = λ e i l. c .before .loop .inv .1 i (omega arith)

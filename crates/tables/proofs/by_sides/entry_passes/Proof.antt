@@ -9,6 +9,10 @@ use borrow.Author.Needs.{needs}
 use Rattle.tables.proofs.by_sides.entry_passes.Statement.{statement}
 use Rattle.tables.proofs.by_sides.entry_passes.Tie as tie
 
+-- the places that the facts below go back to
+abbrev start-from-wide-entry2 : tie.After-wide-entry2 → tie.Start
+start-from-wide-entry2 c = c .before .before .before .before
+
 returns : tie.Need-returns
 returns c = search needs
 
@@ -25,7 +29,13 @@ add-result : tie.Need-add-result
 add-result c = search needs
 
 returns-3 : tie.Need-returns-3
-returns-3 c = λ e m. (c .before .before .if2 .left, let k = leb-true (c .before .wide-entry .result) (c .wide-entry2 .result + c .before .before .before .before .args .cost) e in omega (arith, k, c .before .wide-entry .ensures .0, c .wide-entry2 .ensures .0))
+returns-3 c =
+    λ e m. (
+      c .before .before .if2 .left,
+      let k =
+          leb-true (c .before .wide-entry .result) (c .wide-entry2 .result + start-from-wide-entry2 c .args .cost) e in
+          omega (arith, k, c .before .wide-entry .ensures .0, c .wide-entry2 .ensures .0),
+    )
 
 pub entry-passes-spec : {M : Type 1} → statement M
 entry-passes-spec =

@@ -13,7 +13,8 @@ use Rattle.tables.proofs.by_sides.in_range.Statement.{statement}
 use Rattle.tables.proofs.by_sides.in_range.Tie as tie
 
 abbrev Inv-loop : tie.InvT-loop
-Inv-loop lists list count bound below₀ j₀ below j = (j ≤ count) × (below ≡ true → (i : ℕ) → i < j → getD lists (list + i) 0 < bound)
+Inv-loop lists list count bound below₀ j₀ below j =
+    (j ≤ count) × (below ≡ true → (i : ℕ) → i < j → getD lists (list + i) 0 < bound)
 
 abbrev μ-loop : tie.MeasureT-loop
 μ-loop lists list count bound below₀ j₀ below j = count - j

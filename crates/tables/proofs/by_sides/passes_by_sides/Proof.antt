@@ -28,10 +28,30 @@ abbrev μ-loop : tie.MeasureT-loop
 abbrev Inv-loop2 : tie.InvT-loop2
 Inv-loop2 block code weights table lists₀ goals g rules r₀ lists r =
     (rules ≡ layout.rules block) × (r ≤ rules) × (length lists ≡ listsLength)
-    × ((i : ℕ) → i < layout.goals block → GoalPasses block table i) × ((i : ℕ) → i < r → RulePasses (graphOf block) table i)
+    × ((i : ℕ) → i < layout.goals block → GoalPasses block table i)
+    × ((i : ℕ) → i < r → RulePasses (graphOf block) table i)
 
 abbrev μ-loop2 : tie.MeasureT-loop2
 μ-loop2 block code weights table lists₀ goals g rules r₀ lists r = rules - r
+
+-- the places that the facts below go back to
+abbrev loop-from-else1 : tie.Else1 Inv-loop μ-loop Inv-loop2 μ-loop2 → tie.At-loop Inv-loop μ-loop Inv-loop2 μ-loop2
+loop-from-else1 c = c .before .before .before .before
+
+abbrev loop2-from-else2 : tie.Else2 Inv-loop μ-loop Inv-loop2 μ-loop2 → tie.At-loop2 Inv-loop μ-loop Inv-loop2 μ-loop2
+loop2-from-else2 c = c .before .before .before .before
+
+abbrev start-from-goal-passes-arg :
+    tie.After-goal-passes-arg Inv-loop μ-loop Inv-loop2 μ-loop2 → tie.Start Inv-loop μ-loop Inv-loop2 μ-loop2
+start-from-goal-passes-arg c = c .before .before .before .before .before .before
+
+abbrev start-from-loop2 :
+    tie.After-loop2 Inv-loop μ-loop Inv-loop2 μ-loop2 → tie.Start Inv-loop μ-loop Inv-loop2 μ-loop2
+start-from-loop2 c = c .before .before .before .before .before .before .before .before
+
+abbrev start-from-rule-passes-arg :
+    tie.After-rule-passes-arg Inv-loop μ-loop Inv-loop2 μ-loop2 → tie.Start Inv-loop μ-loop Inv-loop2 μ-loop2
+start-from-rule-passes-arg c = c .before .before .before .before .before .before .before .before .before
 
 goals-requires : tie.Need-goals-requires Inv-loop μ-loop Inv-loop2 μ-loop2
 goals-requires c κs = search needs
@@ -42,7 +62,7 @@ loop-holds c = (c .goals .ensures .0, omega arith, c .before .before .before .pr
 goal-passes-requires : tie.Need-goal-passes-requires Inv-loop μ-loop Inv-loop2 μ-loop2
 goal-passes-requires c κs =
     let l = c .before .before .loop in
-    let s = c .before .before .before .before .before .before in
+    let s = start-from-goal-passes-arg c in
     (s .pre .0, s .pre .1, omega (arith, l .inv .0, c .before .loop-test .taken), l .inv .2)
 
 returns : tie.Need-returns Inv-loop μ-loop Inv-loop2 μ-loop2
@@ -56,7 +76,7 @@ loop-less c = search needs
 
 loop-again : tie.Need-loop-again Inv-loop μ-loop Inv-loop2 μ-loop2
 loop-again c =
-    let l = c .before .before .before .before .loop in
+    let l = loop-from-else1 c .loop in
     let q = c .before .goal-passes .ensures in (
       l .inv .0,
       omega (arith, c .before .before .before .loop-test .taken),
@@ -80,7 +100,7 @@ loop2-holds c =
 rule-passes-requires : tie.Need-rule-passes-requires Inv-loop μ-loop Inv-loop2 μ-loop2
 rule-passes-requires c κs =
     let l = c .before .before .loop2 in
-    let s = c .before .before .before .before .before .before .before .before .before in
+    let s = start-from-rule-passes-arg c in
     (s .pre .0, s .pre .1, omega (arith, l .inv .0, c .before .loop2-test .taken), l .inv .2)
 
 returns-2 : tie.Need-returns-2 Inv-loop μ-loop Inv-loop2 μ-loop2
@@ -94,7 +114,7 @@ loop2-less c = search needs
 
 loop2-again : tie.Need-loop2-again Inv-loop μ-loop Inv-loop2 μ-loop2
 loop2-again c =
-    let l = c .before .before .before .before .loop2 in
+    let l = loop2-from-else2 c .loop2 in
     let q = c .before .rule-passes .ensures in (
       l .inv .0,
       omega (arith, c .before .before .before .loop2-test .taken),
@@ -106,7 +126,7 @@ loop2-again c =
 returns-3 : tie.Need-returns-3 Inv-loop μ-loop Inv-loop2 μ-loop2
 returns-3 c =
     let l = c .before .loop2 in
-    let a = c .before .before .before .before .before .before .before .before .args in (
+    let a = start-from-loop2 c .args in (
       λ e.
           sides-pass (now (a .block)) (now (a .table)) (l .inv .3)
           (λ r h. l .inv .4 r (omega (arith, h, l .inv .0, c .loop2-test .left))),

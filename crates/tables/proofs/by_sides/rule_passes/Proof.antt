@@ -9,6 +9,10 @@ use Rattle.tables.proofs.SideTests.{rule-first, rule-second, rule-liste
 use Rattle.tables.proofs.by_sides.rule_passes.Statement.{statement}
 use Rattle.tables.proofs.by_sides.rule_passes.Tie as tie
 
+-- the places that the facts below go back to
+abbrev start-from-find-edges-arg : tie.After-find-edges-arg → tie.Start
+start-from-find-edges-arg c = c .before .before .before .before
+
 mul-find-edges : tie.Need-mul-find-edges
 mul-find-edges c = search needs
 
@@ -23,7 +27,7 @@ labels-requires c κs = search needs
 
 find-edges-requires : tie.Need-find-edges-requires
 find-edges-requires c κs =
-    let s = c .before .before .before .before in
+    let s = start-from-find-edges-arg c in
     let a = s .args in
     let ready = s .pre .0 in
     let z = ready .relabelled .valid .sized .head .sizes in
@@ -53,15 +57,16 @@ edges-pass-requires c κs = search needs
 
 returns-2 : tie.Need-returns-2
 returns-2 c =
-    let f = c .before .before .before .before in
-    let s = f .before .before .before .before .before in
+    let costed = c .before in
+    let f = costed .before .before .before in
+    let s = start-from-find-edges-arg (f .before) in
     let a = s .args in
     let k = f .before .before .labels .ensures .0 in (
       λ e.
-          rule-listed (now (a .block)) (now (a .code)) (now (a .weights)) (s .pre .0) (now (a .table)) (a .r) (s .pre .2)
-          _ _ (f .find-edges .result) _
+          rule-listed (now (a .block)) (now (a .code)) (now (a .weights)) (s .pre .0) (now (a .table)) (a .r)
+          (s .pre .2) _ _ (f .find-edges .result) _
           (rw k at (f .find-edges .ensures .0 (omega (arith, c .before .before .before .if1 .left))))
-          (c .before .cost-word .ensures .0) (c .edges-pass .ensures e),
+          (costed .cost-word .ensures .0) (c .edges-pass .ensures e),
       f .find-edges .ensures .1 .1,
     )
 

@@ -19,6 +19,13 @@ Inv-loop table lists count j₀ j = (j ≤ count) × Zeros table (sourceAt lists
 abbrev μ-loop : tie.MeasureT-loop
 μ-loop table lists count j₀ j = count - j
 
+-- the places that the facts below go back to
+abbrev loop-from-else2 : tie.Else2 Inv-loop μ-loop → tie.At-loop Inv-loop μ-loop
+loop-from-else2 c = c .before .before .before .before .before .before
+
+abbrev start-from-else2 : tie.Else2 Inv-loop μ-loop → tie.Start Inv-loop μ-loop
+start-from-else2 c = loop-from-else2 c .before .before
+
 loop-holds : tie.Need-loop-holds Inv-loop μ-loop
 loop-holds c = (omega arith, λ i l. absurd (omega arith))
 
@@ -51,8 +58,8 @@ loop-less c = search needs
 
 loop-again : tie.Need-loop-again Inv-loop μ-loop
 loop-again c =
-    let a = c .before .before .before .before .before .before .before .before .args in
-    let l = c .before .before .before .before .before .before .loop in
+    let a = start-from-else2 c .args in
+    let l = loop-from-else2 c .loop in
     let i = c .before .before .before .index .ensures in
     (omega arith, below-more _ _ (l .inv .1) (ap (λ (u : ℕ). getD (now (a .table)) u 0) (sym i) ∙ omega arith))
 

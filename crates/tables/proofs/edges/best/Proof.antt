@@ -19,6 +19,13 @@ Inv-loop block code weights table u word rules least₀ r₀ least r =
 abbrev μ-loop : tie.MeasureT-loop
 μ-loop block code weights table u word rules least₀ r₀ least r = rules - r
 
+-- the places that the facts below go back to
+abbrev start-from-loop : tie.After-loop Inv-loop μ-loop → tie.Start Inv-loop μ-loop
+start-from-loop c = c .before .before .before .before .before
+
+abbrev start-from-joined1 : tie.Joined1 Inv-loop μ-loop → tie.Start Inv-loop μ-loop
+start-from-joined1 c = c .before .before .before .before .before .before .before
+
 rules-requires : tie.Need-rules-requires Inv-loop μ-loop
 rules-requires c κs = search needs
 
@@ -38,21 +45,25 @@ loop-less c = search needs
 
 loop-again : tie.Need-loop-again Inv-loop μ-loop
 loop-again c =
-    let a = c .before .before .before .before .before .before .before .args in
+    let a = start-from-joined1 c .args in
     let g = graphOf (now (a .block)) in
     let l = c .before .before .before .loop in
     let k = c .before .via in (
       l .inv .0,
       search needs,
       ⊎-elim
-          (λ w. rw (w .1) (best-lower g (now (a .table)) (a .u) (l .r) (l .least) (k .result) (l .inv .2) (k .ensures) (w .0 .taken)))
-          (λ w. rw (w .1) (best-keep g (now (a .table)) (a .u) (l .r) (l .least) (k .result) (l .inv .2) (k .ensures) (w .0 .left)))
+          (λ w.
+          rw (w .1)
+          (best-lower g (now (a .table)) (a .u) (l .r) (l .least) (k .result) (l .inv .2) (k .ensures) (w .0 .taken)))
+          (λ w.
+          rw (w .1)
+          (best-keep g (now (a .table)) (a .u) (l .r) (l .least) (k .result) (l .inv .2) (k .ensures) (w .0 .left)))
           (c .if1 .came),
     )
 
 returns : tie.Need-returns Inv-loop μ-loop
 returns c =
-    let a = c .before .before .before .before .before .args in
+    let a = start-from-loop c .args in
     let l = c .before .loop in
     best-all (graphOf (now (a .block))) (now (a .table)) (a .u) (l .least) (l .r) (l .inv .2) (omega arith)
 

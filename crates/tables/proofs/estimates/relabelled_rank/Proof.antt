@@ -18,14 +18,29 @@ Inv-loop block state n k₀ i₀ k i = (n ≡ positions block) × (i ≤ n) × (
 abbrev μ-loop : tie.MeasureT-loop
 μ-loop block state n k₀ i₀ k i = n - i
 
+-- the places that the facts below go back to
+abbrev loop-from-abstract-count : tie.After-abstract-count Inv-loop μ-loop → tie.At-loop Inv-loop μ-loop
+loop-from-abstract-count c = c .before .before .before .before
+
+abbrev start-from-loop : tie.After-loop Inv-loop μ-loop → tie.Start Inv-loop μ-loop
+start-from-loop c = c .before .before .before .before .before
+
+abbrev start-from-shared-slice-known3 : tie.After-shared-slice-known3 Inv-loop μ-loop → tie.Start Inv-loop μ-loop
+start-from-shared-slice-known3 c = c .before .before .before .before .before .before
+
+abbrev start-from-wide : tie.After-wide Inv-loop μ-loop → tie.Start Inv-loop μ-loop
+start-from-wide c = loop-from-abstract-count (c .before .before) .before .before .before .before
+
 -- one label more
 more :
     (c : tie.After-wide Inv-loop μ-loop)
-    → c .before .before .before .before .before .before .loop .k * c .before .before .abstract-count .result + c .wide .result
-    ≡ partRank (now (c .before .before .before .before .before .before .before .before .before .before .args .block)) (now (c .before .before .before .before .before .before .before .before .before .before .args .state)) (c .before .before .before .before .before .before .loop .i + 1)
+    → let a = start-from-wide c .args in
+    let l = loop-from-abstract-count (c .before .before) .loop in
+    l .k * c .before .before .abstract-count .result + c .wide .result
+    ≡ partRank (now (a .block)) (now (a .state)) (l .i + 1)
 more c =
-    let a = c .before .before .before .before .before .before .before .before .before .before .args in
-    let l = c .before .before .before .before .before .before .loop in
+    let a = start-from-wide c .args in
+    let l = loop-from-abstract-count (c .before .before) .loop in
     ap₂ _+_ (ap₂ _*_ (l .inv .2) (c .before .before .abstract-count .ensures .0))
     (c .wide .ensures .0 ∙ c .before .byte-of .ensures ∙ c .before .before .before .abstract-label .ensures)
     ∙ sym (part-more (now (a .block)) (now (a .state)) (l .i) (omega arith))
@@ -38,13 +53,13 @@ loop-holds c = (c .positions .ensures .0, search needs, refl)
 
 shared-slice-read-wide : tie.Need-shared-slice-read-wide Inv-loop μ-loop
 shared-slice-read-wide c =
-    let s = c .before .before .before .before .before .before in
+    let s = start-from-shared-slice-known3 c in
     let n = state-length (now (s .args .block)) (now (s .args .state)) (s .pre .1) in
     search needs
 
 abstract-label-requires : tie.Need-abstract-label-requires Inv-loop μ-loop
 abstract-label-requires c κs =
-    let s = c .before .before .before .before .before .before in
+    let s = start-from-shared-slice-known3 c in
     let i = c .before .before .loop .i in
     let l : i < positions (now (s .args .block)) = omega arith in
     (s .pre .0 .sized, l, state-label (now (s .args .block)) (now (s .args .state)) (s .pre .1) i l)
@@ -54,10 +69,13 @@ abstract-count-requires c κs = search needs
 
 mul-k : tie.Need-mul-k Inv-loop μ-loop
 mul-k c =
-    let s = c .before .before .before .before .before .before .before .before in
-    let l = c .before .before .before .before .loop in
+    let s = start-from-shared-slice-known3 (c .before .before) in
+    let l = loop-from-abstract-count c .loop in
     let k = part-small (now (s .args .block)) (now (s .args .state)) (s .pre .0) (s .pre .1) (l .i) (omega arith) in
-    omega (arith, mul-le-mul {n₁ = l .k} {m₁ = c .abstract-count .result} {n₂ = 16384} {m₂ = 16} (omega arith) (omega arith))
+    omega (
+      arith,
+      mul-le-mul {n₁ = l .k} {m₁ = c .abstract-count .result} {n₂ = 16384} {m₂ = 16} (omega arith) (omega arith),
+    )
 
 byte-of-requires : tie.Need-byte-of-requires Inv-loop μ-loop
 byte-of-requires c κs = search needs
@@ -67,9 +85,13 @@ wide-requires c κs = search needs
 
 add-k : tie.Need-add-k Inv-loop μ-loop
 add-k c =
-    let s = c .before .before .before .before .before .before .before .before .before .before in
-    let l = c .before .before .before .before .before .before .loop in
-    omega (arith, more c, part-small (now (s .args .block)) (now (s .args .state)) (s .pre .0) (s .pre .1) (l .i + 1) (omega arith))
+    let s = start-from-wide c in
+    let l = loop-from-abstract-count (c .before .before) .loop in
+    omega (
+      arith,
+      more c,
+      part-small (now (s .args .block)) (now (s .args .state)) (s .pre .0) (s .pre .1) (l .i + 1) (omega arith),
+    )
 
 add-i : tie.Need-add-i Inv-loop μ-loop
 add-i c = search needs
@@ -78,11 +100,11 @@ loop-less : tie.Need-loop-less Inv-loop μ-loop
 loop-less c = search needs
 
 loop-again : tie.Need-loop-again Inv-loop μ-loop
-loop-again c = (c .before .before .before .before .before .before .loop .inv .0, search needs, more c)
+loop-again c = (loop-from-abstract-count (c .before .before) .loop .inv .0, search needs, more c)
 
 returns : tie.Need-returns Inv-loop μ-loop
 returns c =
-    let s = c .before .before .before .before .before in
+    let s = start-from-loop c in
     let b = now (s .args .block) in
     let t = now (s .args .state) in
     let l = c .before .loop in

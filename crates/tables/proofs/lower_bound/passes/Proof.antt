@@ -17,14 +17,25 @@ use Rattle.tables.proofs.OverRanks.{relabelled-block}
 use Rattle.tables.proofs.lower_bound.passes.Statement.{statement}
 use Rattle.tables.proofs.lower_bound.passes.Tie as tie
 
+-- the places that the facts below go back to
+abbrev relabelled-length-from-relabelled3 : tie.After-relabelled3 → tie.After-relabelled-length
+relabelled-length-from-relabelled3 c = c .before .before .before .before
+
+abbrev start-from-relabelled : tie.After-relabelled → tie.Start
+start-from-relabelled c = c .before .before .before .before
+
+abbrev start-from-passes-relabelled : tie.After-passes-relabelled → tie.Start
+start-from-passes-relabelled c = relabelled-length-from-relabelled3 (c .before) .before .before .before
+
 -- the part that is tested
 part :
     (c : tie.After-relabelled3)
-    → take (c .before .before .before .before .relabelled-length .result) (c .before .before .relabel-block .last .1 .0)
-    ≡ relabelBlock (now (c .before .before .before .before .before .before .before .args .block))
+    → take (relabelled-length-from-relabelled3 c .relabelled-length .result)
+    (c .before .before .relabel-block .last .1 .0)
+    ≡ relabelBlock (now (start-from-relabelled (c .before .before .before) .args .block))
 part c =
-    let b = now (c .before .before .before .before .before .before .before .args .block) in
-    let n = c .before .before .before .before .relabelled-length in
+    let b = now (start-from-relabelled (c .before .before .before) .args .block) in
+    let n = relabelled-length-from-relabelled3 c .relabelled-length in
     ap (take (n .result)) (c .before .before .relabel-block .ensures)
     ∙ front-taken (relabelBlock b) _ (n .result) (n .ensures .0 ∙ sym (relabelled-length b))
 
@@ -36,7 +47,7 @@ slice-aggregate-relabel-block c = search needs
 
 relabel-block-requires : tie.Need-relabel-block-requires
 relabel-block-requires c κs =
-    let s = c .before .before .before .before in
+    let s = start-from-relabelled c in
     (s .pre .0, omega (arith, relabelled-length (now (s .args .block)), c .before .relabelled-length .ensures))
 
 array-share-prefix-relabelled : tie.Need-array-share-prefix-relabelled
@@ -44,19 +55,19 @@ array-share-prefix-relabelled c = search needs
 
 slice-aggregate-passes-relabelled : tie.Need-slice-aggregate-passes-relabelled
 slice-aggregate-passes-relabelled c =
-    let b = now (c .before .before .before .before .before .before .before .args .block) in
-    c .before .before .before .before .relabelled-length .ensures .0 ∙ sym (ap length (part c) ∙ relabelled-length b)
+    let b = now (start-from-relabelled (c .before .before .before) .args .block) in
+    relabelled-length-from-relabelled3 c .relabelled-length .ensures .0 ∙ sym (ap length (part c) ∙ relabelled-length b)
 
 passes-relabelled-requires : tie.Need-passes-relabelled-requires
 passes-relabelled-requires c κs =
-    let s = c .before .before .before .before .before .before .before in
+    let s = start-from-relabelled (c .before .before .before) in
     let b = now (s .args .block) in
     rw (part c) (relabelled-block b (s .pre .0), omega (arith, abstract-states-relabelled b, s .pre .1))
 
 returns : tie.Need-returns
 unfolding passesTest
 returns c =
-    let t = now (c .before .before .before .before .before .before .before .before .args .table) in
+    let t = now (start-from-passes-relabelled c .args .table) in
     c .passes-relabelled .ensures ∙ ap (λ (a : List ℕ). test.passes (graphOf a) t) (part (c .before))
 
 pub passes-spec : {M : Type 1} → statement M

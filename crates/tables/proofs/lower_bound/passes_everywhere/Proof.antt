@@ -22,6 +22,22 @@ Inv-loop block code weights table states u₀ u =
 abbrev μ-loop : tie.MeasureT-loop
 μ-loop block code weights table states u₀ u = states - u
 
+-- the places that the facts below go back to
+abbrev loop-from-then1 : tie.Then1 Inv-loop μ-loop → tie.At-loop Inv-loop μ-loop
+loop-from-then1 c = c .before .before .before .before
+
+abbrev loop-from-else1 : tie.Else1 Inv-loop μ-loop → tie.At-loop Inv-loop μ-loop
+loop-from-else1 c = c .before .before .before .before
+
+abbrev start-from-loop : tie.After-loop Inv-loop μ-loop → tie.Start Inv-loop μ-loop
+start-from-loop c = c .before .before .before .before .before
+
+abbrev start-from-then1 : tie.Then1 Inv-loop μ-loop → tie.Start Inv-loop μ-loop
+start-from-then1 c = loop-from-then1 c .before .before .before .before
+
+abbrev start-from-else1 : tie.Else1 Inv-loop μ-loop → tie.Start Inv-loop μ-loop
+start-from-else1 c = loop-from-else1 c .before .before .before .before
+
 abstract-states-requires : tie.Need-abstract-states-requires Inv-loop μ-loop
 abstract-states-requires c κs = search needs
 
@@ -37,9 +53,10 @@ passes-at-requires c κs = search needs
 returns : tie.Need-returns Inv-loop μ-loop
 unfolding passes
 returns c =
-    let a = c .before .before .before .before .before .before .before .before .args in
-    let l = c .before .before .before .before .loop in
-    sym (all-false (passesAt (graphOf (now (a .block))) (now (a .table))) (abstractStates (now (a .block))) (l .u) (omega arith) (sym (c .before .passes-at .ensures) ∙ not-true _ (c .if1 .taken)))
+    let a = start-from-then1 c .args in
+    let l = loop-from-then1 c .loop in
+    sym (all-false (passesAt (graphOf (now (a .block))) (now (a .table))) (abstractStates (now (a .block))) (l .u)
+    (omega arith) (sym (c .before .passes-at .ensures) ∙ not-true _ (c .if1 .taken)))
 
 add-u : tie.Need-add-u Inv-loop μ-loop
 add-u c = search needs
@@ -49,19 +66,21 @@ loop-less c = search needs
 
 loop-again : tie.Need-loop-again Inv-loop μ-loop
 loop-again c =
-    let a = c .before .before .before .before .before .before .before .before .args in
-    let l = c .before .before .before .before .loop in (
+    let a = start-from-else1 c .args in
+    let l = loop-from-else1 c .loop in (
       l .inv .0,
       search needs,
-      below-more (λ w. passesAt (graphOf (now (a .block))) (now (a .table)) w ≡ true) (l .u) (l .inv .2) (sym (c .before .passes-at .ensures) ∙ not-false _ (c .if1 .left)),
+      below-more (λ w. passesAt (graphOf (now (a .block))) (now (a .table)) w ≡ true) (l .u) (l .inv .2)
+          (sym (c .before .passes-at .ensures) ∙ not-false _ (c .if1 .left)),
     )
 
 returns-2 : tie.Need-returns-2 Inv-loop μ-loop
 unfolding passes
 returns-2 c =
-    let a = c .before .before .before .before .before .args in
+    let a = start-from-loop c .args in
     let l = c .before .loop in
-    sym (all-passed (passesAt (graphOf (now (a .block))) (now (a .table))) (abstractStates (now (a .block))) (l .u) (omega arith) (l .inv .2))
+    sym (all-passed (passesAt (graphOf (now (a .block))) (now (a .table))) (abstractStates (now (a .block))) (l .u)
+    (omega arith) (l .inv .2))
 
 pub passes-everywhere-spec : {M : Type 1} → statement M
 passes-everywhere-spec =

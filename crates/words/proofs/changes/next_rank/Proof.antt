@@ -13,10 +13,18 @@ use Rattle.words.proofs.changes.next_rank.Tie as tie
 
 abbrev Inv-loop : tie.InvT-loop
 Inv-loop changes r rank word at part₀ sum₀ parts j₀ part sum j =
-    (0 < j) × (j ≤ partCount changes r) × (part + 17 ≡ partPlace r j) × (sum ≡ rank + addedTo changes r word j) × (sum ≤ 65535 + 65535 * j)
+    (0 < j) × (j ≤ partCount changes r) × (part + 17 ≡ partPlace r j) × (sum ≡ rank + addedTo changes r word j)
+    × (sum ≤ 65535 + 65535 * j)
 
 abbrev μ-loop : tie.MeasureT-loop
 μ-loop changes r rank word at part₀ sum₀ parts j₀ part sum j = partCount changes r - j
+
+-- the places that the facts below go back to
+abbrev start-from-loop : tie.After-loop Inv-loop μ-loop → tie.Start Inv-loop μ-loop
+start-from-loop c = c .before .before .before .before .before
+
+abbrev start-from-added2 : tie.After-added2 Inv-loop μ-loop → tie.Start Inv-loop μ-loop
+start-from-added2 c = c .before .before .before .before .before .before
 
 mul-at : tie.Need-mul-at Inv-loop μ-loop
 mul-at c = search needs
@@ -50,7 +58,8 @@ loop-holds c =
       search needs,
       search needs,
       ap (λ (x : ℕ). a .rank + x)
-          (c .before .before .added .ensures .0 ∙ ap (λ (k : ℕ). partAdds (now (a .changes)) k (a .word)) (sym (add-zero (changePlace (a .r) + 1)))
+          (c .before .before .added .ensures .0
+          ∙ ap (λ (k : ℕ). partAdds (now (a .changes)) k (a .word)) (sym (add-zero (changePlace (a .r) + 1)))
           ∙ sym (zero-add (partAdds (now (a .changes)) (partPlace (a .r) 0) (a .word)))),
       search needs,
     )
@@ -73,7 +82,7 @@ loop-less c = search needs
 loop-again : tie.Need-loop-again Inv-loop μ-loop
 unfolding addedTo
 loop-again c =
-    let a = c .before .before .before .before .before .before .args in
+    let a = start-from-added2 c .args in
     let l = c .before .before .loop in
     let before = addedTo (now (a .changes)) (a .r) (a .word) in (
       search needs,
@@ -87,10 +96,18 @@ loop-again c =
 returns : tie.Need-returns Inv-loop μ-loop
 unfolding nextRank
 returns c =
-    let a = c .before .before .before .before .before .args in
+    let a = start-from-loop c .args in
     let l = c .before .loop in
-    let all : l .j ≡ partCount (now (a .changes)) (a .r) = omega (arith, c .loop-test .left, c .before .before .wide-weight .ensures .0, l .inv .1) in
-    (ap (λ (x : ℕ). x % 16384) (l .inv .3 ∙ ap (λ (j : ℕ). a .rank + addedTo (now (a .changes)) (a .r) (a .word) j) all), search needs)
+    let all : l .j ≡ partCount (now (a .changes)) (a .r) = omega (
+      arith,
+      c .loop-test .left,
+      c .before .before .wide-weight .ensures .0,
+      l .inv .1,
+    ) in (
+      ap (λ (x : ℕ). x % 16384)
+          (l .inv .3 ∙ ap (λ (j : ℕ). a .rank + addedTo (now (a .changes)) (a .r) (a .word) j) all),
+      search needs,
+    )
 
 pub next-rank-spec : {M : Type 1} → statement M
 next-rank-spec =

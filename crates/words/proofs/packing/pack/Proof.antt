@@ -28,7 +28,8 @@ next c =
     let s = now (c .before .before .before .args .state) in
     let i = c .before .loop .i in
     let back : suc (i - 1) ≡ i = omega arith in
-    ap (λ (w : ℕ). w * 16 + getD s (i - 1) 0) (c .before .loop .inv .1 ∙ ap (λ (k : ℕ). packing.pack (drop k s)) (sym back))
+    ap (λ (w : ℕ). w * 16 + getD s (i - 1) 0)
+    (c .before .loop .inv .1 ∙ ap (λ (k : ℕ). packing.pack (drop k s)) (sym back))
     ∙ ap packing.pack (sym (drop-cons s (i - 1) 0 (omega arith)))
 
 fits :
@@ -64,7 +65,10 @@ loop-less : tie.Need-loop-less Inv-loop μ-loop
 loop-less c = search needs
 
 loop-again : tie.Need-loop-again Inv-loop μ-loop
-loop-again c = (omega arith, ap (λ (x : ℕ). c .before .before .before .loop .word * 16 + x) (c .wide .ensures .0) ∙ next (c .before .before))
+loop-again c = (
+  omega arith,
+  ap (λ (x : ℕ). c .before .before .before .loop .word * 16 + x) (c .wide .ensures .0) ∙ next (c .before .before),
+)
 
 returns : tie.Need-returns Inv-loop μ-loop
 returns c =

@@ -1,5 +1,6 @@
 -- `words::ranking::rank_word` meets its contract.
--- The loop's invariant: the rest has the pairs from j on, and the sum of the weights before them is at most 65535 for each.
+-- The loop's invariant: the rest has the pairs from j on, and
+-- the sum of the weights before them is at most 65535 for each.
 use mathlib.Core.Path.{_≡_, refl, sym, ap, ap₂, _∙_}
 use Prim.Native.Nat.{ℕ, _≤_, _+_, _*_, _-_, _/_, _%_, _^_}
 use native.Mathlib.Numerals.{add-one}
@@ -19,6 +20,10 @@ Inv-loop weights n word pairs rank₀ rest₀ j₀ rank rest j =
 
 abbrev μ-loop : tie.MeasureT-loop
 μ-loop weights n word pairs rank₀ rest₀ j₀ rank rest j = (n + 1) / 2 - j
+
+-- the places that the facts below go back to
+abbrev start-from-weight : tie.After-weight Inv-loop μ-loop → tie.Start Inv-loop μ-loop
+start-from-weight c = c .before .before .before .before .before
 
 add-pairs : tie.Need-add-pairs Inv-loop μ-loop
 add-pairs c = search needs
@@ -45,7 +50,7 @@ loop-less c = search needs
 loop-again : tie.Need-loop-again Inv-loop μ-loop
 unfolding rankPairs
 loop-again c =
-    let a = c .before .before .before .before .before .args in
+    let a = start-from-weight c .args in
     let j = c .before .before .before .loop .j in
     let inv = c .before .before .before .loop .inv in
     let d = c .before .first-pair .ensures .0 ∙ ap (λ (x : ℕ). x % 256) (inv .1) ∙ pair-byte (a .word) j in (

@@ -18,6 +18,10 @@ Inv-loop code goals word g₀ g = (g ≤ goals) × ((k : ℕ) → k < g → matc
 abbrev μ-loop : tie.MeasureT-loop
 μ-loop code goals word g₀ g = goals - g
 
+-- the places that the facts below go back to
+abbrev start-from-then1 : tie.Then1 Inv-loop μ-loop → tie.Start Inv-loop μ-loop
+start-from-then1 c = c .before .before .before .before
+
 loop-holds : tie.Need-loop-holds Inv-loop μ-loop
 loop-holds c = (search needs, λ k l. absurd (omega arith))
 
@@ -29,9 +33,10 @@ matches-word-requires c κs = search needs
 
 returns : tie.Need-returns Inv-loop μ-loop
 returns c =
-    let a = c .before .before .before .before .args in
+    let a = start-from-then1 c .args in
     let met : ℕ → Bool = λ g. matchesWord (now (a .code)) (goalPlace g) (a .word) in
-    sym (some-intro met (a .goals) (c .before .before .before .loop .g) (omega arith) (sym (c .before .matches-word .ensures) ∙ c .if1 .taken))
+    sym (some-intro met (a .goals) (c .before .before .before .loop .g) (omega arith)
+    (sym (c .before .matches-word .ensures) ∙ c .if1 .taken))
 
 add-g : tie.Need-add-g Inv-loop μ-loop
 add-g c = search needs
@@ -40,7 +45,10 @@ loop-less : tie.Need-loop-less Inv-loop μ-loop
 loop-less c = search needs
 
 loop-again : tie.Need-loop-again Inv-loop μ-loop
-loop-again c = (search needs, below-more _ _ (c .before .before .before .loop .inv .1) (sym (c .before .matches-word .ensures) ∙ c .if1 .left))
+loop-again c = (
+  search needs,
+  below-more _ _ (c .before .before .before .loop .inv .1) (sym (c .before .matches-word .ensures) ∙ c .if1 .left),
+)
 
 returns-2 : tie.Need-returns-2 Inv-loop μ-loop
 returns-2 c =

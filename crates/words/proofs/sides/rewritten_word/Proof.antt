@@ -20,10 +20,15 @@ Joined code x word made from to j =
     × (from ≡ fromAt code x / 16 ^ j) × (to ≡ toAt code x / 16 ^ j)
 
 abbrev Inv-loop : tie.InvT-loop
-Inv-loop code x word at made₀ from₀ to₀ left₀ made from to left = (left ≤ countAt code x) × Joined code x word made from to (countAt code x - left)
+Inv-loop code x word at made₀ from₀ to₀ left₀ made from to left =
+    (left ≤ countAt code x) × Joined code x word made from to (countAt code x - left)
 
 abbrev μ-loop : tie.MeasureT-loop
 μ-loop code x word at made₀ from₀ to₀ left₀ made from to left = left
+
+-- the places that the facts below go back to
+abbrev start-from-left : tie.After-left Inv-loop μ-loop → tie.Start Inv-loop μ-loop
+start-from-left c = c .before .before .before .before .before
 
 -- the digits left, without the first one
 rest : (v j : ℕ) → v / 16 ^ j / 16 ≡ v / 16 ^ suc j
@@ -31,7 +36,8 @@ rest v j = div-div-eq-div-mul v (16 ^ j) 16 ∙ ap (λ (x : ℕ). v / x) (sym (p
 
 -- one move more
 joined-more :
-    (code : List ℕ) (x word made from to label j : ℕ) → Joined code x word made from to j → label ≡ moved word (from % 16) (to % 16)
+    (code : List ℕ) (x word made from to label j : ℕ) → Joined code x word made from to j
+    → label ≡ moved word (from % 16) (to % 16)
     → Joined code x word (bitOr made label) (from / 16) (to / 16) (suc j)
 unfolding joinMoves digit
 joined-more code x word made from to label j k e = (
@@ -91,7 +97,7 @@ element-copy-out-left c = search needs
 loop-holds : tie.Need-loop-holds Inv-loop μ-loop
 unfolding joinMoves
 loop-holds c =
-    let a = c .before .before .before .before .before .args in
+    let a = start-from-left c .args in
     let none : countAt (now (a .code)) (a .x) - countAt (now (a .code)) (a .x) ≡ 0 = omega arith in
     (search needs, rw none (refl, sym (div-one _), sym (div-one _)))
 
@@ -106,18 +112,23 @@ loop-less c = search needs
 
 loop-again : tie.Need-loop-again Inv-loop μ-loop
 loop-again c =
-    let a = c .before .before .before .before .before .before .before .before .args in
+    let a = start-from-left (c .before .before .before) .args in
     let l = c .before .before .loop in
     let all = countAt (now (a .code)) (a .x) in
-    let next : suc (all - l .left) ≡ all - (l .left - 1) = omega (arith, l .inv .0, c .before .loop-test .taken) in
-    (search needs, rw next at (joined-more (now (a .code)) (a .x) (a .word) (l .made) (l .from) (l .to) _ (all - l .left) (l .inv .1) (c .move-label .ensures)))
+    let next : suc (all - l .left) ≡ all - (l .left - 1) = omega (arith, l .inv .0, c .before .loop-test .taken) in (
+      search needs,
+      rw next at
+          (joined-more (now (a .code)) (a .x) (a .word) (l .made) (l .from) (l .to) _ (all - l .left) (l .inv .1)
+          (c .move-label .ensures)),
+    )
 
 returns : tie.Need-returns Inv-loop μ-loop
 unfolding rewrittenWord
 returns c =
-    let a = c .before .before .before .before .before .before .before .args in
+    let a = start-from-left (c .before .before) .args in
     let l = c .before .loop in
-    let all : countAt (now (a .code)) (a .x) - l .left ≡ countAt (now (a .code)) (a .x) = omega (arith, l .inv .0, c .loop-test .left) in
+    let all : countAt (now (a .code)) (a .x) - l .left ≡ countAt (now (a .code)) (a .x) =
+    omega (arith, l .inv .0, c .loop-test .left) in
     (rw all at (l .inv .1)) .0
 
 pub rewritten-word-spec : {M : Type 1} → statement M

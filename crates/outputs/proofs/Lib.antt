@@ -1,5 +1,0 @@
--- The theorems on the output of `par`.
--- What it means, and that a session writes it.
-pub mod AnswerBytes
-pub mod Meaning
-pub mod Whole

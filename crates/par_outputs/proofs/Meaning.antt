@@ -1,0 +1,113 @@
+-- The output of `par` means what specs/Promises.antt says: `par-means`. A query that is not refused keeps demand 3 since
+-- the filled table of an exercise that is read from text passes the lower-bound test.
+-- `session-prints` (Whole.antt) carries this over to what a session writes.
+use mathlib.Core.Path.{_≡_, ap, _∙_}
+use mathlib.Core.List.{List}
+use Prim.Native.Nat.{ℕ, _+_, _<_}
+use native.Mathlib.Omega.{arith}
+use lib.ListN.{drop}
+use Rattle.basics.specs.Lists.{Bytes}
+use Rattle.basics.proofs.ByteLists.{bytes-drop}
+use Rattle.refusals.specs.Answers.{Answer, refused, told, verdict, answered}
+use Rattle.refusals.proofs.Verdicts.{verdict-parts}
+use Rattle.blocks.specs.Layout.{positions}
+use Rattle.blocks.specs.Validity.{Valid}
+use Rattle.psvn.proofs.RunLaws.{reaches-run}
+use Rattle.filling.specs.FilledTables.{filled, CostBytes}
+use Rattle.filling.proofs.LeastEntries.{cost-bytes, filled-low, filled-small}
+use Rattle.rounds.specs.Rounds as rounds
+use Rattle.queries.proofs.QueryLaws.{QueryAccepted, query-accepted}
+use Rattle.search.specs.Promises.{SearchKept}
+use Rattle.search.proofs.Demand.{kept, visits-within, cost-within}
+use Rattle.records.specs.Records.{numberOf, startOf, limitsOf, recordConditions, searchAsked, answerBytes, recordOf}
+use Rattle.records.proofs.AnswerBytes.{bytes-within, answer-small, four-below, four-back}
+use Rattle.frames.specs.Lines.{linesOf, lineBytes, lineOf}
+use Rattle.frames.specs.Reading.{readConditions}
+use Rattle.frames.proofs.AcceptedText.{read-valid}
+use Rattle.frames.proofs.ReadBytes.{line-small, block-small}
+use Rattle.frames.proofs.WrittenLines.{written-bytes}
+use Rattle.par_queries.specs.QueryLines.{lineConditions, queryLineConditions, searchFor, answerLine}
+use Rattle.par_openings.specs.Openings.{blockRoom, exerciseLines, exerciseBlock, openConditions}
+use Rattle.par_openings.proofs.OpeningLaws.{too-long-refused, reader-decides}
+use Rattle.par_outputs.specs.Output.{printedFor, parOutput}
+use Rattle.par_outputs.specs.Promises.{QueryMeans, ExerciseMeans, Means}
+
+-- the answer line by the verdict on the query line
+line-by :
+    (b line : List ℕ) (v : Answer (Unit {0})) → verdict (queryLineConditions b line) ≡ v
+    → answerLine b line ≡ lineOf (recordOf (answered v (searchFor b (lineBytes line))))
+unfolding answerLine
+line-by b line v e = ap (λ (u : Answer (Unit {0})). lineOf (recordOf (answered u (searchFor b (lineBytes line))))) e
+
+module _
+    (b : List ℕ) (valid : Valid b) (bytes : CostBytes b) (line : List ℕ)
+    (h : verdict (queryLineConditions b line) ≡ told tt) where
+  abbrev q : List ℕ
+  q = lineBytes line
+
+  -- the answer of the search that is asked for
+  abbrev answer : rounds.Answer
+  answer = searchFor b q
+
+  -- the start is a state, and the step limit is not too large
+  content : QueryAccepted b (startOf b q) (limitsOf b q)
+  unfolding queryLineConditions
+  content = query-accepted b (startOf b q) (limitsOf b q) (verdict-parts (lineConditions b line) (recordConditions b q) h .1)
+
+  promised : SearchKept b (startOf b q) (limitsOf b q) (filled b) answer
+  unfolding searchAsked
+  promised =
+      kept valid (filled-low b valid bytes) (filled-small b valid bytes) (startOf b q) (limitsOf b q) (content .state)
+
+  -- the limits are numbers of four bytes
+  limit-below : (k : ℕ) → numberOf (drop k q) < 4294967296
+  limit-below k = four-below (drop k q) (bytes-drop k q (line-small line))
+
+  -- the numbers of the answer line are bytes: a plan has at most 64 steps, and each is the number of one of at most 64
+  -- rules
+  small : Bytes (answerBytes answer)
+  small =
+      answer-small answer (λ u c p e.
+      let w = promised .plan u c p e .0 in
+      let numbers = reaches-run b (startOf b q) p (w .reaching) .numbers in
+      let few = valid .sized .head .sizes .r-high in
+      (omega (arith, w .steps, content .steps-few), bytes-within p (λ i l. omega (arith, numbers i l, few))))
+
+  shown : answerLine b line ≡ lineOf (answerBytes answer)
+  shown = line-by b line (told tt) h
+
+  pub query-means : QueryMeans b line
+  query-means =
+      record {
+        shown = shown;
+        read-back = ap lineBytes shown ∙ written-bytes (answerBytes answer) small;
+        kept = promised;
+        cost-whole = four-back (rounds.planCost answer) (omega (arith, cost-within promised, limit-below (positions b + 1)));
+        visits-whole = four-back (rounds.visits answer) (omega (arith, visits-within promised, limit-below (positions b + 5)));
+      }
+
+module _ (x : List ℕ) where
+  accepted-means :
+      verdict (readConditions (exerciseLines (linesOf x)) blockRoom) ≡ told tt → (out : List ℕ)
+      → out ≡ printedFor (told tt) x → ExerciseMeans x out
+  accepted-means h out e =
+      let b = exerciseBlock x in
+      let valid = read-valid (exerciseLines (linesOf x)) blockRoom h in
+      let bytes = cost-bytes b (block-small (exerciseLines (linesOf x))) in
+      record {
+        valid = valid;
+        lines = e;
+        refused-query = λ line k r. line-by b line (refused k) r;
+        query = query-means b valid bytes;
+      }
+
+  pub par-means : Means x (parOutput x)
+  unfolding parOutput
+  par-means =
+      let by : (v : Answer (Unit {0})) → verdict (openConditions x) ≡ v → parOutput x ≡ printedFor v x =
+      λ v e. ap (λ (w : Answer (Unit {0})). printedFor w x) e in
+      record {
+        too-long = λ l. by (refused 2) (too-long-refused x l);
+        refused-exercise = λ k l h. by (refused k) (reader-decides x l ∙ h);
+        accepted = λ l h. accepted-means h (parOutput x) (by (told tt) (reader-decides x l ∙ h));
+      }

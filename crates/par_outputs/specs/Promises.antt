@@ -1,0 +1,55 @@
+-- What the output of `par` means, for every input: `Means`. Which exercise is read, what each query line prints, and
+-- for each query that is not refused demand 3 (`QueryMeans`). It is shown of `parOutput` in proofs/Meaning.antt.
+use mathlib.Core.Path.{_≡_}
+use mathlib.Core.List.{List, flatMap}
+use Prim.Native.Nat.{ℕ, _≤_, _<_}
+use lib.ListN.{length}
+use Rattle.refusals.specs.Answers.{refused, told, verdict}
+use Rattle.blocks.specs.Validity.{Valid}
+use Rattle.filling.specs.FilledTables.{filled}
+use Rattle.rounds.specs.Rounds as rounds
+use Rattle.search.specs.Promises.{SearchKept}
+use Rattle.frames.specs.Lines.{linesOf, lineBytes, lineOf}
+use Rattle.frames.specs.Reading.{readConditions}
+use Rattle.records.specs.Records.{numberOf, bytesOf, startOf, limitsOf, answerBytes}
+use Rattle.par_queries.specs.QueryLines.{queryLineConditions, searchFor, refusalLine, answerLine}
+use Rattle.par_openings.specs.Openings.{longestInput, blockRoom, exerciseLines, queryLines, exerciseBlock}
+
+-- four bytes are enough for a number
+abbrev pub FourBytes : ℕ → Type 0
+FourBytes x = numberOf (bytesOf x) ≡ x
+
+-- what the answer a, printed as `line`, means for a query of the exercise b, by its bytes q
+pub record AnswerMeans (b q : List ℕ) (a : rounds.Answer) (line : List ℕ) : Type 0 where
+  pub shown : line ≡ lineOf (answerBytes a)
+  -- what is printed reads back as the answer's bytes
+  pub read-back : lineBytes line ≡ answerBytes a
+  -- demand 3, for the query's own start and limits
+  pub kept : SearchKept b (startOf b q) (limitsOf b q) (filled b) a
+  pub cost-whole : FourBytes (rounds.planCost a)
+  pub visits-whole : FourBytes (rounds.visits a)
+
+-- a query line of the exercise b that is not refused: the answer of the search that its bytes ask for is printed
+abbrev pub QueryMeans : List ℕ → List ℕ → Type 0
+QueryMeans b line = AnswerMeans b (lineBytes line) (searchFor b (lineBytes line)) (answerLine b line)
+
+-- the output of an accepted exercise: a line for each query line, in their order
+pub record ExerciseMeans (x out : List ℕ) : Type 0 where
+  pub valid : Valid (exerciseBlock x)
+  pub lines : out ≡ flatMap (answerLine (exerciseBlock x)) (queryLines (linesOf x))
+  pub refused-query :
+      (line : List ℕ) (k : ℕ) → verdict (queryLineConditions (exerciseBlock x) line) ≡ refused k
+      → answerLine (exerciseBlock x) line ≡ refusalLine k
+  pub query :
+      (line : List ℕ) → verdict (queryLineConditions (exerciseBlock x) line) ≡ told tt
+      → QueryMeans (exerciseBlock x) line
+
+pub record Means (x out : List ℕ) : Type 0 where
+  -- input that is too long, an exercise that the reader refuses, and one that it accepts
+  pub too-long : longestInput < length x → out ≡ refusalLine 2
+  pub refused-exercise :
+      (k : ℕ) → length x ≤ longestInput → verdict (readConditions (exerciseLines (linesOf x)) blockRoom) ≡ refused k
+      → out ≡ refusalLine k
+  pub accepted :
+      length x ≤ longestInput → verdict (readConditions (exerciseLines (linesOf x)) blockRoom) ≡ told tt
+      → ExerciseMeans x out

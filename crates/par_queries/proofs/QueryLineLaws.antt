@@ -1,0 +1,35 @@
+-- What decides a query line (`line-decided`), and what answers it: the line of a refusal (`line-refused`), or the record
+-- that answers its bytes (`line-accepted`). The function that answers a query line rests on these.
+use mathlib.Core.Path.{_≡_, ap}
+use mathlib.Core.Bool.{Bool}
+use mathlib.Core.List.{List, [], _∷_}
+use Prim.Native.Nat.{ℕ}
+use lib.Dec.{eqb}
+use lib.ListN.{length}
+use Rattle.refusals.specs.Answers.{Answer, refused, told, verdict, _unless_, answered}
+use Rattle.refusals.proofs.Verdicts.{verdict-behind, verdict-before}
+use Rattle.filling.specs.FilledTables.{filled}
+use Rattle.records.specs.Records.{queryLength, recordConditions, recordOf, answerRecord}
+use Rattle.frames.specs.Lines.{lineOk, lineBytes, lineOf}
+use Rattle.par_queries.specs.QueryLines.{lineConditions, queryLineConditions, searchFor, refusalLine, answerLine}
+
+module _ (b line : List ℕ) where
+  pub line-decided :
+      (right fits : Bool) → lineOk line ≡ right → eqb (length (lineBytes line)) (queryLength b) ≡ fits
+      → verdict (lineConditions b line) ≡ verdict (1 unless right ∷ 2 unless fits ∷ [])
+  line-decided right fits p q = rw (p, q)
+
+  -- the line by the verdict on all conditions
+  abbrev shown : Answer (Unit {0}) → List ℕ
+  shown v = lineOf (recordOf (answered v (searchFor b (lineBytes line))))
+
+  -- a line that is turned back by itself is answered with that number
+  pub line-refused : (k : ℕ) → verdict (lineConditions b line) ≡ refused k → answerLine b line ≡ refusalLine k
+  unfolding answerLine queryLineConditions
+  line-refused k h = ap shown (verdict-before (lineConditions b line) (recordConditions b (lineBytes line)) k h)
+
+  -- any other one by its bytes
+  pub line-accepted :
+      verdict (lineConditions b line) ≡ told tt → answerLine b line ≡ lineOf (answerRecord b (lineBytes line) (filled b))
+  unfolding answerLine queryLineConditions answerRecord
+  line-accepted h = ap shown (verdict-behind (lineConditions b line) (recordConditions b (lineBytes line)) h)

@@ -1,0 +1,3 @@
+-- The definitions of a query line and its answer.
+-- What a query asks, the search that it asks for, and the line that answers it.
+pub mod QueryLines

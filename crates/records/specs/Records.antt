@@ -1,0 +1,74 @@
+-- Records: what a query's bytes ask (`startOf`, `limitsOf`), the search that they ask for (`searchAsked`) and what
+-- turns it back (`recordConditions`), and the bytes that answer it (`answerRecord`), with any table that passes.
+-- A query line of `par` and the line that answers it are such records in digits.
+use mathlib.Core.Path.{_≡_}
+use Prim.Native.Nat.{ℕ, _+_}
+use mathlib.Core.List.{List, [], _∷_, _++_}
+use lib.ListN.{length, getD, take, drop}
+use Rattle.basics.specs.Lists.{atFront}
+use Rattle.basics.specs.Digits.{valueTo, digits}
+use Rattle.refusals.specs.Answers.{Answer, refused, told, Condition, verdict, answered}
+use Rattle.blocks.specs.Layout.{positions}
+use Rattle.queries.specs.Queries.{queryConditions}
+use Rattle.queries.specs.declared.Limits.{Limits}
+use Rattle.rounds.specs.Rounds as rounds
+use Rattle.search.specs.Exercises.{searchFrom, statusOf}
+
+-- four bytes, the highest first: the number that a list begins with, and the bytes of a number
+abbrev pub numberOf : List ℕ → ℕ
+numberOf q = valueTo (λ i. 256) q 4
+
+abbrev pub bytesOf : ℕ → List ℕ
+bytesOf x = digits (λ i. 256) 4 x
+
+-- a query's bytes: start, D (one byte), B, V (four bytes each)
+abbrev pub queryLength : List ℕ → ℕ
+queryLength b = positions b + 9
+
+abbrev pub startOf : List ℕ → List ℕ → List ℕ
+startOf b q = take (positions b) q
+
+abbrev pub limitsOf : List ℕ → List ℕ → Limits
+limitsOf b q =
+    record {
+      steps = getD q (positions b) 0;
+      cost = numberOf (drop (positions b + 1) q);
+      visits = numberOf (drop (positions b + 5) q);
+    }
+
+-- "A query is checked for .. 8, 10"
+abbrev pub recordConditions : List ℕ → List ℕ → List Condition
+recordConditions b q = queryConditions b (startOf b q) (limitsOf b q)
+
+-- the search that a query asks for, by the table t
+unfoldable pub searchAsked : List ℕ → List ℕ → List ℕ → rounds.Answer
+searchAsked b q t = searchFrom b (startOf b q) (limitsOf b q) t
+
+-- how many bytes hold every answer
+abbrev pub recordRoom : ℕ
+recordRoom = 74
+
+-- "status (00 found, 01 no plan, 02 spent), steps, cost (four bytes), visits (four), plan"
+abbrev pub answerFront : ℕ → ℕ → ℕ → ℕ → List ℕ
+answerFront status steps cost visits = status ∷ steps ∷ (bytesOf cost ++ bytesOf visits)
+
+abbrev pub answerBytes : rounds.Answer → List ℕ
+answerBytes a = answerFront (statusOf a) (rounds.steps a) (rounds.planCost a) (rounds.visits a) ++ rounds.plan a
+
+-- "FF and the number"
+abbrev pub refusalBytes : ℕ → List ℕ
+refusalBytes number = 255 ∷ number ∷ []
+
+-- the bytes of an answer, or of a refusal
+abbrev pub recordOf : Answer rounds.Answer → List ℕ
+recordOf (refused number) = refusalBytes number
+recordOf (told a) = answerBytes a
+
+-- the record that answers a query, by the table t
+unfoldable pub answerRecord : List ℕ → List ℕ → List ℕ → List ℕ
+answerRecord b q t = recordOf (answered (verdict (recordConditions b q)) (searchAsked b q t))
+
+-- bytes stand at the front of a buffer that held `old`, and n is their length
+pub record Written (bytes old : List ℕ) (n : ℕ) (new : List ℕ) : Type 0 where
+  pub told : n ≡ length bytes
+  pub front : new ≡ atFront bytes old

@@ -1,0 +1,302 @@
+//! The calls on a block.
+
+use crate::answers;
+use crate::ffi;
+use crate::refusal::accepted;
+use crate::{Limits, Refusal, Replay, Search};
+
+/// An exercise, told by its block. It has a method for each call on a block.
+///
+/// Any bytes may be the block: each call looks at them, and refuses a block that is no exercise. The numbers by which
+/// a call is refused are those of [`Refusal::number`].
+///
+/// ```
+/// use mikjuqan::{Exercise, Refusal};
+///
+/// let block = [
+///     2, 2, 2, 2, 1, // two positions, two labels, two abstract labels, two rules, one goal
+///     0, 1, // the map: each label is its own abstract label
+///     3, 0x10, 0x11, 0x11, 0x10, // rule 0 exchanges both labels, at cost 3
+///     1, 0x00, 0xFF, 0x01, 0xFF, // rule 1 makes a 0 at position 0 a 1, at cost 1
+///     1, 1, // the goal
+/// ];
+/// let exercise = Exercise::new(&block);
+/// assert_eq!(exercise.test_goals(&[1, 1]), Ok(true));
+/// assert_eq!(Exercise::new(&block[..18]).test_goals(&[1, 1]), Err(Refusal::Length));
+/// ```
+#[derive(Clone, Copy, Debug)]
+pub struct Exercise<'a> {
+    block: &'a [u8],
+}
+
+impl<'a> Exercise<'a> {
+    /// The exercise that a block describes. Nothing is looked at yet.
+    ///
+    /// ```
+    /// use mikjuqan::{Exercise, Refusal};
+    ///
+    /// let nothing = Exercise::new(&[]);
+    /// assert_eq!(nothing.check_block(), Err(Refusal::Head));
+    /// ```
+    pub const fn new(block: &'a [u8]) -> Exercise<'a> {
+        Exercise { block }
+    }
+
+    /// The block.
+    ///
+    /// ```
+    /// let block = [1, 2, 1, 0, 1, 0, 0, 1];
+    /// assert_eq!(mikjuqan::Exercise::new(&block).block(), [1, 2, 1, 0, 1, 0, 0, 1]);
+    /// ```
+    pub const fn block(self) -> &'a [u8] {
+        self.block
+    }
+
+    /// Whether the block is accepted.
+    ///
+    /// Refused with 3 to 7.
+    ///
+    /// ```
+    /// use mikjuqan::{Exercise, Refusal};
+    ///
+    /// // One position, two labels, one abstract label, no rule; the map; goal 1.
+    /// let mut block = [1, 2, 1, 0, 1, 0, 0, 1];
+    /// assert_eq!(Exercise::new(&block).check_block(), Ok(()));
+    ///
+    /// // There is no label 2.
+    /// block[7] = 2;
+    /// assert_eq!(Exercise::new(&block).check_block(), Err(Refusal::Term));
+    /// ```
+    pub fn check_block(self) -> Result<(), Refusal> {
+        accepted(ffi::check_block(self.block))
+    }
+
+    /// Writes the relabelled block, in which every label has become its abstract label, and tells its length.
+    ///
+    /// Refused with 3 to 7, 11.
+    ///
+    /// ```
+    /// // One position, three labels, two abstract labels: 1 and 2 count as one. A rule from 2 to 0 at cost 4; goal 1.
+    /// let block = [1, 3, 2, 1, 1, 0, 1, 1, 4, 2, 0, 1];
+    /// let mut out = [0xFF; 12];
+    /// assert_eq!(mikjuqan::Exercise::new(&block).relabel_block(&mut out), Ok(11));
+    /// assert_eq!(out, [1, 2, 2, 1, 1, 0, 1, 4, 1, 0, 1, 0xFF]);
+    /// ```
+    pub fn relabel_block(self, out: &mut [u8]) -> Result<usize, Refusal> {
+        answers::length(ffi::relabel_block(self.block, out))
+    }
+
+    /// Tells whether a rule is reversible by form.
+    ///
+    /// Refused with 3 to 7, 9.
+    ///
+    /// ```
+    /// use mikjuqan::{Exercise, Refusal};
+    ///
+    /// // One position, two labels. Rule 0 makes a 0 a 1; rule 1 makes any label a 1, and what it was is lost.
+    /// let block = [1, 2, 1, 2, 1, 0, 0, 4, 0, 1, 4, 0xFF, 1, 1];
+    /// let exercise = Exercise::new(&block);
+    /// assert_eq!(exercise.test_reversible(0), Ok(true));
+    /// assert_eq!(exercise.test_reversible(1), Ok(false));
+    /// assert_eq!(exercise.test_reversible(2), Err(Refusal::Rule));
+    /// ```
+    pub fn test_reversible(self, rule: usize) -> Result<bool, Refusal> {
+        answers::decision(ffi::test_reversible(self.block, rule))
+    }
+
+    /// Tells whether a state meets a goal.
+    ///
+    /// Refused with 3 to 7, 8.
+    ///
+    /// ```
+    /// use mikjuqan::{Exercise, Refusal};
+    ///
+    /// // Two positions, three labels, no rule; the goal asks for the same label twice.
+    /// let block = [2, 3, 1, 0, 1, 0, 0, 0, 0x10, 0x10];
+    /// let exercise = Exercise::new(&block);
+    /// assert_eq!(exercise.test_goals(&[2, 2]), Ok(true));
+    /// assert_eq!(exercise.test_goals(&[2, 1]), Ok(false));
+    /// assert_eq!(exercise.test_goals(&[2]), Err(Refusal::State));
+    /// ```
+    pub fn test_goals(self, state: &[u8]) -> Result<bool, Refusal> {
+        answers::decision(ffi::test_goals(self.block, state))
+    }
+
+    /// Tells whether a rule applies in a state, and writes the new state if so.
+    ///
+    /// Refused with 3 to 7, 8, 9, 11.
+    ///
+    /// ```
+    /// // Two positions, three labels; a rule moves a label from position 0 to position 1, where 0 must stand.
+    /// let block = [2, 3, 1, 1, 1, 0, 0, 0, 1, 0x10, 0, 0, 0x10, 0, 1];
+    /// let exercise = mikjuqan::Exercise::new(&block);
+    /// let mut out = [9; 2];
+    /// assert_eq!(exercise.apply_rule(0, &[2, 1], &mut out), Ok(false));
+    /// assert_eq!(out, [9, 9]);
+    /// assert_eq!(exercise.apply_rule(0, &[2, 0], &mut out), Ok(true));
+    /// assert_eq!(out, [0, 2]);
+    /// ```
+    pub fn apply_rule(self, rule: usize, state: &[u8], out: &mut [u8]) -> Result<bool, Refusal> {
+        answers::decision(ffi::apply_rule(self.block, rule, state, out))
+    }
+
+    /// Tells whether a rule takes some state to `state`, and writes the first such state in rank order.
+    ///
+    /// Refused with 3 to 7, 8, 9, 11.
+    ///
+    /// ```
+    /// // Two positions, three labels; rule <-, 2> to <0, 1> at cost 1; goal <0, 1>.
+    /// let block = [2, 3, 1, 1, 1, 0, 0, 0, 1, 0xFF, 2, 0, 1, 0, 1];
+    /// let exercise = mikjuqan::Exercise::new(&block);
+    /// let mut out = [9; 2];
+    /// assert_eq!(exercise.first_predecessor(0, &[1, 1], &mut out), Ok(false));
+    /// assert_eq!(out, [9, 9]);
+    /// assert_eq!(exercise.first_predecessor(0, &[0, 1], &mut out), Ok(true));
+    /// assert_eq!(out, [0, 2]);
+    /// ```
+    pub fn first_predecessor(self, rule: usize, state: &[u8], out: &mut [u8]) -> Result<bool, Refusal> {
+        answers::decision(ffi::first_predecessor(self.block, rule, state, out))
+    }
+
+    /// The same for the next one after `earlier`, which may be any state.
+    ///
+    /// Refused with 3 to 7, 8 (for both states), 9, 11. This walks through all states that a rule takes to `<0, 1>`:
+    ///
+    /// ```
+    /// // Two positions, three labels; rule <-, 2> to <0, 1> at cost 1; goal <0, 1>.
+    /// let block = [2, 3, 1, 1, 1, 0, 0, 0, 1, 0xFF, 2, 0, 1, 0, 1];
+    /// let exercise = mikjuqan::Exercise::new(&block);
+    /// let mut found = [[9; 2]; 3];
+    /// let mut earlier = [9; 2];
+    /// let mut more = exercise.first_predecessor(0, &[0, 1], &mut earlier)?;
+    /// for state in &mut found {
+    ///     assert!(more);
+    ///     *state = earlier;
+    ///     more = exercise.next_predecessor(0, &[0, 1], state, &mut earlier)?;
+    /// }
+    /// assert!(!more);
+    /// assert_eq!(found, [[0, 2], [1, 2], [2, 2]]);
+    /// # Ok::<(), mikjuqan::Refusal>(())
+    /// ```
+    pub fn next_predecessor(self, rule: usize, state: &[u8], earlier: &[u8], out: &mut [u8]) -> Result<bool, Refusal> {
+        answers::decision(ffi::next_predecessor(self.block, rule, state, earlier, out))
+    }
+
+    /// Applies a list of rules, one number a byte, from a start on, and writes the state where that ends.
+    ///
+    /// Refused with 3 to 7, 8, 9, 10, 11; with 9 also for a number behind a rule that is stuck.
+    ///
+    /// ```
+    /// use mikjuqan::{Exercise, Replay};
+    ///
+    /// // Two positions, two labels. Rule 0 exchanges them at cost 3, rule 1 makes <0, -> to <1, -> at cost 1.
+    /// let block = [2, 2, 1, 2, 1, 0, 0, 3, 0x10, 0x11, 0x11, 0x10, 1, 0, 0xFF, 1, 0xFF, 1, 1];
+    /// let exercise = Exercise::new(&block);
+    /// let mut out = [9; 2];
+    /// let Replay::Done(end) = exercise.replay_run(&[0, 0], &[1, 0, 1], &mut out)? else {
+    ///     panic!("every rule applies");
+    /// };
+    /// assert_eq!((end.steps, end.cost, out), (3, 5, [1, 1]));
+    ///
+    /// // Rule 1 does not apply in <1, 0>.
+    /// let Replay::Stuck(end) = exercise.replay_run(&[0, 0], &[1, 1, 0], &mut out)? else {
+    ///     panic!("the second rule does not apply");
+    /// };
+    /// assert_eq!((end.steps, end.cost, out), (1, 1, [1, 0]));
+    /// # Ok::<(), mikjuqan::Refusal>(())
+    /// ```
+    pub fn replay_run(self, start: &[u8], list: &[u8], out: &mut [u8]) -> Result<Replay, Refusal> {
+        answers::replay(ffi::replay_run(self.block, start, list, out))
+    }
+
+    /// Fills the front of a table: for each abstract state the least cost from it to a goal, or
+    /// [`NO_PATH`](crate::NO_PATH).
+    ///
+    /// Refused with 3 to 7, 12. Needs at most 235 KiB of stack.
+    ///
+    /// ```
+    /// use mikjuqan::{Exercise, NO_PATH};
+    ///
+    /// // One position, three labels, each its own abstract label; rule <0> to <1> at cost 4; goal <1>.
+    /// let block = [1, 3, 3, 1, 1, 0, 1, 2, 4, 0, 1, 1];
+    /// let mut table = [7; 4];
+    /// assert_eq!(Exercise::new(&block).fill_table(&mut table), Ok(()));
+    /// assert_eq!(table, [4, 0, NO_PATH, 7]);
+    /// ```
+    pub fn fill_table(self, table: &mut [u32]) -> Result<(), Refusal> {
+        accepted(ffi::fill_table(self.block, table))
+    }
+
+    /// Tells whether a table passes the lower-bound test.
+    ///
+    /// Refused with 3 to 7, 12. Needs at most 96 KiB of stack.
+    ///
+    /// ```
+    /// use mikjuqan::{Exercise, Refusal};
+    ///
+    /// // One position, two labels, each its own abstract label; rule <0> to <1> at cost 4; goal <1>.
+    /// let block = [1, 2, 2, 1, 1, 0, 1, 4, 0, 1, 1];
+    /// let exercise = Exercise::new(&block);
+    /// assert_eq!(exercise.test_table(&[4, 0]), Ok(true));
+    /// assert_eq!(exercise.test_table(&[3, 0]), Ok(true));
+    /// assert_eq!(exercise.test_table(&[5, 0]), Ok(false));
+    /// assert_eq!(exercise.test_table(&[4]), Err(Refusal::TableShort));
+    /// ```
+    pub fn test_table(self, table: &[u32]) -> Result<bool, Refusal> {
+        answers::decision(ffi::test_table(self.block, table))
+    }
+
+    /// The estimate of a state, `None` for [`NO_PATH`](crate::NO_PATH). The table is not tested.
+    ///
+    /// Refused with 3 to 7, 8, 12.
+    ///
+    /// ```
+    /// use mikjuqan::{Exercise, NO_PATH};
+    ///
+    /// // One position, three labels, two abstract labels: 1 and 2 count as one. No rule; goal 1.
+    /// let block = [1, 3, 2, 0, 1, 0, 1, 1, 1];
+    /// let exercise = Exercise::new(&block);
+    /// assert_eq!(exercise.look_up_estimate(&[2], &[NO_PATH, 6]), Ok(Some(6)));
+    /// assert_eq!(exercise.look_up_estimate(&[0], &[NO_PATH, 6]), Ok(None));
+    /// ```
+    pub fn look_up_estimate(self, state: &[u8], table: &[u32]) -> Result<Option<u32>, Refusal> {
+        answers::estimate(ffi::look_up_estimate(self.block, state, table))
+    }
+
+    /// Finds a cheapest plan from a start within the limits, and writes it, one rule number a byte.
+    ///
+    /// Any table that passes the lower-bound test gives the same plan; how many visits it takes depends on the table.
+    /// Refused with 3 to 7, 8, 10, 11, 12, 13. Needs at most 256 KiB of stack.
+    ///
+    /// ```
+    /// use mikjuqan::{Exercise, Limits, Search};
+    ///
+    /// // One position, three labels, one abstract label. Rule 0 leads from 0 to 1 at cost 4, rule 1 from 1 to 2 at
+    /// // cost 2, rule 2 from 0 to 2 at cost 7; goal 2.
+    /// let block = [1, 3, 1, 3, 1, 0, 0, 0, 4, 0, 1, 2, 1, 2, 7, 0, 2, 2];
+    /// let exercise = Exercise::new(&block);
+    /// let limits = Limits { steps: 3, cost: 100, visits: 100 };
+    /// let mut plan = [9; 3];
+    /// let Search::Found(found) = exercise.find_plan(&[0], limits, &[0], &mut plan)? else {
+    ///     panic!("there is a plan");
+    /// };
+    /// assert_eq!((found.steps, found.cost, plan), (2, 6, [0, 1, 9]));
+    ///
+    /// // With one rule alone the cheapest plan is another.
+    /// let limits = Limits { steps: 1, ..limits };
+    /// let Search::Found(found) = exercise.find_plan(&[0], limits, &[0], &mut plan)? else {
+    ///     panic!("there is a plan");
+    /// };
+    /// assert_eq!((found.steps, found.cost, plan), (1, 7, [2, 1, 9]));
+    ///
+    /// // There is none at cost 5, and two visits are not enough to know that.
+    /// let limits = Limits { cost: 5, ..limits };
+    /// assert_eq!(exercise.find_plan(&[0], limits, &[0], &mut plan)?, Search::NoPlan { visits: 3 });
+    /// let limits = Limits { visits: 2, ..limits };
+    /// assert_eq!(exercise.find_plan(&[0], limits, &[0], &mut plan)?, Search::Spent { visits: 2 });
+    /// # Ok::<(), mikjuqan::Refusal>(())
+    /// ```
+    pub fn find_plan(self, start: &[u8], limits: Limits, table: &[u32], plan: &mut [u8]) -> Result<Search, Refusal> {
+        answers::search(ffi::find_plan(self.block, start, limits, table, plan))
+    }
+}

@@ -1,0 +1,100 @@
+//! Every slice of every call handed over empty once, as `&[]`, whose pointer points nowhere.
+
+use mikjuqan::{read_exercise, Exercise, Limits, Refusal, BLOCK_LENGTH};
+use outside::model::answers::{Replay, Search};
+use outside::samples::{e_block, E_TEXT};
+
+const START: [u8; 3] = [1, 2, 0];
+const GOAL: [u8; 3] = [2, 1, 0];
+const TABLE: [u32; 8] = [0; 8];
+const LIMITS: Limits = Limits { steps: 8, cost: 100, visits: 100 };
+
+/// Calls with input E, and asserts that a call that is refused has not written to the buffer it was handed.
+fn with_e<T>(call: impl FnOnce(Exercise, &mut [u8]) -> Result<T, Refusal>) -> Result<T, Refusal> {
+    let block = e_block();
+    let mut buffer = [0xEE; BLOCK_LENGTH];
+    let answer = call(Exercise::new(&block), &mut buffer);
+    assert!(answer.is_ok() || buffer == [0xEE; BLOCK_LENGTH], "a refused call has written");
+    answer
+}
+
+#[test]
+fn text() {
+    let mut out = [0xEE; BLOCK_LENGTH];
+    assert_eq!(read_exercise(&[], &mut out), Err(Refusal::Line));
+    assert_eq!(out, [0xEE; BLOCK_LENGTH]);
+    assert_eq!(read_exercise(E_TEXT, &mut []), Err(Refusal::Buffer));
+    assert_eq!(read_exercise(&[], &mut []), Err(Refusal::Line));
+}
+
+#[test]
+fn block() {
+    let nothing = Exercise::new(&[]);
+    let mut out = [0xEE; 64];
+    let mut table = [0xEEEE; 8];
+    let refused = Refusal::Head;
+    assert_eq!(nothing.check_block(), Err(refused));
+    assert_eq!(nothing.relabel_block(&mut out), Err(refused));
+    assert_eq!(nothing.test_reversible(0), Err(refused));
+    assert_eq!(nothing.test_goals(&GOAL), Err(refused));
+    assert_eq!(nothing.apply_rule(2, &START, &mut out), Err(refused));
+    assert_eq!(nothing.first_predecessor(2, &START, &mut out), Err(refused));
+    assert_eq!(nothing.next_predecessor(2, &START, &GOAL, &mut out), Err(refused));
+    assert_eq!(nothing.replay_run(&START, &[2, 0, 5], &mut out), Err(refused));
+    assert_eq!(nothing.fill_table(&mut table), Err(refused));
+    assert_eq!(nothing.test_table(&TABLE), Err(refused));
+    assert_eq!(nothing.look_up_estimate(&START, &TABLE), Err(refused));
+    assert_eq!(nothing.find_plan(&START, LIMITS, &TABLE, &mut out), Err(refused));
+    assert_eq!((out, table), ([0xEE; 64], [0xEEEE; 8]));
+}
+
+#[test]
+fn states() {
+    let refused = Refusal::State;
+    assert_eq!(with_e(|e, _| e.test_goals(&[])), Err(refused));
+    assert_eq!(with_e(|e, out| e.apply_rule(2, &[], out)), Err(refused));
+    assert_eq!(with_e(|e, out| e.first_predecessor(2, &[], out)), Err(refused));
+    assert_eq!(with_e(|e, out| e.next_predecessor(2, &[], &START, out)), Err(refused));
+    assert_eq!(with_e(|e, out| e.next_predecessor(2, &START, &[], out)), Err(refused));
+    assert_eq!(with_e(|e, out| e.replay_run(&[], &[2, 0, 5], out)), Err(refused));
+    assert_eq!(with_e(|e, _| e.look_up_estimate(&[], &TABLE)), Err(refused));
+    assert_eq!(with_e(|e, plan| e.find_plan(&[], LIMITS, &TABLE, plan)), Err(refused));
+}
+
+#[test]
+fn tables() {
+    let refused = Refusal::TableShort;
+    assert_eq!(with_e(|e, _| e.fill_table(&mut [])), Err(refused));
+    assert_eq!(with_e(|e, _| e.test_table(&[])), Err(refused));
+    assert_eq!(with_e(|e, _| e.look_up_estimate(&START, &[])), Err(refused));
+    assert_eq!(with_e(|e, plan| e.find_plan(&START, LIMITS, &[], plan)), Err(refused));
+}
+
+#[test]
+fn buffers() {
+    let refused = Refusal::Buffer;
+    assert_eq!(with_e(|e, _| e.relabel_block(&mut [])), Err(refused));
+    assert_eq!(with_e(|e, _| e.apply_rule(2, &START, &mut [])), Err(refused));
+    assert_eq!(with_e(|e, _| e.first_predecessor(2, &START, &mut [])), Err(refused));
+    assert_eq!(with_e(|e, _| e.next_predecessor(2, &START, &GOAL, &mut [])), Err(refused));
+    assert_eq!(with_e(|e, _| e.replay_run(&START, &[2, 0, 5], &mut [])), Err(refused));
+    assert_eq!(with_e(|e, _| e.find_plan(&START, LIMITS, &TABLE, &mut [])), Err(refused));
+}
+
+/// An empty list ends where it starts.
+#[test]
+fn list() {
+    let mut out = [0xEE; 4];
+    let end = with_e(|e, _| e.replay_run(&START, &[], &mut out));
+    assert_eq!(end.map(Replay::from), Ok(Replay::Done { steps: 0, cost: 0 }));
+    assert_eq!(out, [1, 2, 0, 0xEE]);
+}
+
+/// With a step limit of 0 an empty buffer has room for every plan.
+#[test]
+fn plan_of_no_steps() {
+    let limits = Limits { steps: 0, ..LIMITS };
+    let find = |start: [u8; 3]| with_e(|e, _| e.find_plan(&start, limits, &TABLE, &mut [])).map(Search::from);
+    assert_eq!(find(GOAL), Ok(Search::Found { steps: 0, cost: 0, visits: 1 }));
+    assert_eq!(find(START), Ok(Search::NoPlan { visits: 1 }));
+}
