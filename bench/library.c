@@ -16,7 +16,7 @@ static void must_accept(const char *call, uint32_t refusal) {
 
 static uint32_t read_text(const uint8_t *text, size_t text_length, uint8_t *block, size_t room, size_t *length) {
   mikjuqan_length done = mikjuqan_read_exercise(text, text_length, block, room);
-  if (done.refusal == MIKJUQAN_ACCEPTED) *length = done.length;
+  if (done.refusal == MIKJUQAN_ACCEPTED) *length = done.bytes;
   return done.refusal;
 }
 

@@ -21,7 +21,7 @@ extern "C" {
 #endif
 
 /* The version of this interface. */
-#define MIKJUQAN_VERSION "0.2.0"
+#define MIKJUQAN_VERSION "0.3.0"
 
 /* ---- sizes: buffers of these lengths are long enough for every exercise ---- */
 
@@ -89,7 +89,7 @@ typedef struct {
 /* How many bytes were written. */
 typedef struct {
   uint32_t refusal;
-  size_t length;
+  size_t bytes;
 } mikjuqan_length;
 
 /* An entry of a table; MIKJUQAN_NO_PATH is one. */

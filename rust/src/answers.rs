@@ -85,10 +85,10 @@ pub(crate) fn decision(answer: ffi::Decision) -> Result<bool, Refusal> {
 }
 
 pub(crate) fn length(answer: ffi::Length) -> Result<usize, Refusal> {
-    let ffi::Length { refusal, length } = answer;
-    debug_assert!(refusal == 0 || length == 0);
+    let ffi::Length { refusal, bytes } = answer;
+    debug_assert!(refusal == 0 || bytes == 0);
     accepted(refusal)?;
-    Ok(length)
+    Ok(bytes)
 }
 
 pub(crate) fn estimate(answer: ffi::Entry) -> Result<Option<u32>, Refusal> {

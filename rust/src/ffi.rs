@@ -15,7 +15,7 @@ pub struct Decision {
 #[repr(C)]
 pub struct Length {
     pub refusal: u32,
-    pub length: usize,
+    pub bytes: usize,
 }
 
 #[repr(C)]

@@ -60,11 +60,11 @@ static mikjuqan_limits within(size_t steps, uint32_t cost, uint32_t visits) {
 static size_t read_block(uint8_t *block) {
   mikjuqan_length read =
       mikjuqan_read_exercise((const uint8_t *)text, strlen(text), block, MIKJUQAN_BLOCK_LENGTH);
-  expect(read.refusal == MIKJUQAN_ACCEPTED && read.length == 53, "the text is a block of 53 bytes");
-  expect(mikjuqan_check_block(block, read.length) == MIKJUQAN_ACCEPTED, "the block is accepted");
+  expect(read.refusal == MIKJUQAN_ACCEPTED && read.bytes == 53, "the text is a block of 53 bytes");
+  expect(mikjuqan_check_block(block, read.bytes) == MIKJUQAN_ACCEPTED, "the block is accepted");
 
   read = mikjuqan_read_exercise((const uint8_t *)text, strlen(text) - 1, block, MIKJUQAN_BLOCK_LENGTH);
-  expect(read.refusal == MIKJUQAN_REFUSED_CHARACTER && read.length == 0, "an unended last line is refused with 1");
+  expect(read.refusal == MIKJUQAN_REFUSED_CHARACTER && read.bytes == 0, "an unended last line is refused with 1");
   expect(mikjuqan_check_block(block, 52) == MIKJUQAN_REFUSED_LENGTH, "a block that is cut short is refused with 4");
   return 53;
 }
@@ -72,12 +72,12 @@ static size_t read_block(uint8_t *block) {
 static void relabel(const uint8_t *block, size_t block_length) {
   uint8_t out[MIKJUQAN_BLOCK_LENGTH] = {0};
   mikjuqan_length relabelled = mikjuqan_relabel_block(block, block_length, out, sizeof out);
-  expect(relabelled.refusal == MIKJUQAN_ACCEPTED && relabelled.length == 52,
+  expect(relabelled.refusal == MIKJUQAN_ACCEPTED && relabelled.bytes == 52,
          "the relabelled block has a map of two labels, not three");
   expect(same(out + 49, 1, 1, 0), "its goal is <1,1,0>");
 
   relabelled = mikjuqan_relabel_block(block, block_length, out, 51);
-  expect(relabelled.refusal == MIKJUQAN_REFUSED_BUFFER && relabelled.length == 0,
+  expect(relabelled.refusal == MIKJUQAN_REFUSED_BUFFER && relabelled.bytes == 0,
          "a buffer of 51 bytes is refused with 11");
 }
 
@@ -209,9 +209,9 @@ static void search(const uint8_t *block, size_t block_length, uint32_t *table) {
 static void null_text(void) {
   uint8_t out[MIKJUQAN_BLOCK_LENGTH];
   mikjuqan_length read = mikjuqan_read_exercise(NULL, 0, out, sizeof out);
-  expect(read.refusal == MIKJUQAN_REFUSED_LINE && read.length == 0, "NULL as text: read_exercise is refused with 2");
+  expect(read.refusal == MIKJUQAN_REFUSED_LINE && read.bytes == 0, "NULL as text: read_exercise is refused with 2");
   read = mikjuqan_read_exercise((const uint8_t *)text, strlen(text), NULL, 0);
-  expect(read.refusal == MIKJUQAN_REFUSED_BUFFER && read.length == 0, "NULL to read into is refused with 11");
+  expect(read.refusal == MIKJUQAN_REFUSED_BUFFER && read.bytes == 0, "NULL to read into is refused with 11");
 }
 
 static void null_block(const uint32_t *table) {

@@ -3,8 +3,11 @@
 use crate::samples::repository;
 use std::env;
 use std::io::{ErrorKind, Write};
+use std::os::fd::OwnedFd;
+use std::os::unix::net::UnixDatagram;
 use std::path::PathBuf;
 use std::process::{Child, ChildStdin, Command, ExitStatus, Stdio};
+use std::time::{Duration, Instant};
 
 /// The program: `MIKJUQAN_PAR`, or `target/bin/par` of the repository.
 pub fn path() -> PathBuf {
@@ -28,6 +31,31 @@ pub fn run(input: &[u8]) -> Run {
 /// Runs the program on an input that it is handed in pieces.
 pub fn run_in_pieces(pieces: &[&[u8]]) -> Run {
     end(start(Command::new(path())), pieces)
+}
+
+/// What one write of the program handed over, and when it arrived.
+pub struct Written {
+    pub bytes: Vec<u8>,
+    pub at: Instant,
+}
+
+/// Runs the program on an input, with a socket for its output that keeps its writes apart, and gives the first so many
+/// of them.
+pub fn writes(input: &[u8], count: usize) -> Vec<Written> {
+    let (ours, theirs) = UnixDatagram::pair().expect("there are sockets");
+    ours.set_read_timeout(Some(Duration::from_secs(60))).expect("a socket has a time limit");
+    let mut command = Command::new(path());
+    command.stdin(Stdio::piped()).stdout(OwnedFd::from(theirs)).stderr(Stdio::null());
+    let mut child = command.spawn().expect("the program can be run");
+    write(&mut child.stdin.take().expect("its input is a pipe"), input);
+    let mut buffer = [0; 512];
+    let mut next = || {
+        let length = ours.recv(&mut buffer).expect("the program writes as often as it should");
+        Written { bytes: buffer[..length].to_vec(), at: Instant::now() }
+    };
+    let written = (0..count).map(|_| next()).collect();
+    assert!(child.wait().expect("the program ends").success());
+    written
 }
 
 /// Runs the program with a stack of so many KiB, and with no environment, which would stand on the stack too.

@@ -3,7 +3,7 @@
 use outside::draw::session::draw_input;
 use outside::model::session;
 use outside::model::text::split_lines;
-use outside::program::{run, run_in_pieces};
+use outside::program::{run, run_in_pieces, writes};
 use outside::random::Random;
 use outside::repeat::{cases, repeat, Kind};
 use outside::samples::{samples, E_TEXT};
@@ -127,4 +127,23 @@ fn input_in_pieces() {
     let ended = run_in_pieces(&bytes);
     assert_eq!(text(&ended.printed), text(&expected));
     assert!(ended.status.success());
+}
+
+/// Each line is written by itself, and before the next query is searched: a search of 25 million visits stands between
+/// the first line and the second.
+#[test]
+fn lines_one_by_one() {
+    let exercise = b"0808010701\n0000000000000000\n\
+        021011FFFFFFFFFFFF1110FFFFFFFFFFFF\n03101112FFFFFFFFFF121110FFFFFFFFFF\n\
+        0410111213FFFFFFFF13121110FFFFFFFF\n051011121314FFFFFF1413121110FFFFFF\n\
+        06101112131415FFFF151413121110FFFF\n0710111213141516FF16151413121110FF\n\
+        0810111213141516171716151413121110\n0001020304050607\n";
+    let quick = b"0001020304050607140000003C000186A0\n";
+    let slow = b"000002030405060740FFFFFFFF017D7840\n";
+    let input = [exercise, quick.as_slice(), slow, quick].concat();
+    let written = writes(&input, 3);
+    let lines: Vec<String> = written.iter().map(|line| text(&line.bytes)).collect();
+    assert_eq!(lines, ["00000000000000000001\n", "020000000000017D7840\n", "00000000000000000001\n"]);
+    let between = written[1].at - written[0].at;
+    assert!(between.as_millis() >= 100, "the second line came {between:?} after the first");
 }

@@ -156,7 +156,7 @@ fn other_calls() {
 #[test]
 fn par_on_samples() {
     for sample in samples() {
-        let ended = program::run_with_stack(&sample.input, 384);
+        let ended = program::run_with_stack(&sample.input, 640);
         assert_eq!(ended.printed, sample.answers, "sample {}", sample.name);
         assert!(ended.status.success(), "sample {}", sample.name);
     }
@@ -179,5 +179,5 @@ fn par() {
         println!("stack: par with side extensions {side:?}: {high} KiB");
         high * KIB
     };
-    report("par", SIDES.map(needed).into_iter().max().expect("there are sides"), 384);
+    report("par", SIDES.map(needed).into_iter().max().expect("there are sides"), 640);
 }

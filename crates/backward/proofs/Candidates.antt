@@ -56,7 +56,7 @@ module _ (b : List ℕ) (va : Valid b) (r : ℕ) (lr : r < rules b) (s : List �
       go : (t : Bool) → leads b r u s ≡ t → stepBack b r s earlier ≡ cond (leads b r u s) (found u) none-further
       go true e =
           rw e
-          (next-found b (va .sized .head) r s earlier u
+          (next-found b (va .sized .headed) r s earlier u
           (record {
             state = c .state;
             leads-there = e;
@@ -65,7 +65,7 @@ module _ (b : List ℕ) (va : Valid b) (r : ℕ) (lr : r < rules b) (s : List �
           }))
       go false e =
           rw e
-          (none-found b (va .sized .head) r s earlier (λ v ok h a.
+          (none-found b (va .sized .headed) r s earlier (λ v ok h a.
           true-false
           (leads-by b r u s
           ∙ keeps-leads (positions b) (leftOf b r) (rightOf b r) s v (sym (leads-by b r v s) ∙ h) u (c .keeps)
@@ -126,7 +126,7 @@ module _ (b : List ℕ) (va : Valid b) (r : ℕ) (lr : r < rules b) (s : List �
         last (positions b) (raisableAt (labelCount b) choices e) ≡ 0 → stepBack b r s (after e) ≡ none-further
     no-candidate h =
         let n = positions b in
-        none-found b (va .sized .head) r s (after e) (λ v vo k a.
+        none-found b (va .sized .headed) r s (after e) (λ v vo k a.
         none-after n (labelCount b) choices near small e v
         (leads-keeps n (leftOf b r) (rightOf b r) s v (sym (leads-by b r v s) ∙ k)) (state-label b v vo)
         (state-rank-before b e v eo vo a) h)

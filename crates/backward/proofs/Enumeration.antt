@@ -15,8 +15,8 @@ use Rattle.psvn.specs.Rules.{leads}
 use Rattle.psvn.specs.Ranks.{stateRank, stateCount}
 use Rattle.psvn.proofs.RankLaws.{state-rank-below, same-state-rank}
 use Rattle.backward.specs.Predecessors.{Earlier, from-first, after, fromRank, NextState, found, none-further}
-use Rattle.backward.specs.Predecessors.{stepBack, afterCall, call}
-use Rattle.backward.proofs.NextState.{Next, found-none, answer, found-next}
+use Rattle.backward.specs.Predecessors.{NextPredecessor, stepBack, afterCall, call}
+use Rattle.backward.proofs.NextState.{found-none, answer, found-next}
 
 module _ (b : List ℕ) (h : Headed b) (r : ℕ) (s : List ℕ) where
   -- one call more, by the answer of the first
@@ -87,7 +87,7 @@ module _ (b : List ℕ) (h : Headed b) (r : ℕ) (s : List ℕ) where
         (answer b h r s earlier)
       where
         go :
-            (w : List ℕ) → stepBack b r s earlier ≡ found w → Next b h r s earlier w
+            (w : List ℕ) → stepBack b r s earlier ≡ found w → NextPredecessor b r s earlier w
             → (stateRank b w ≡ stateRank b u) ⊎ (stateRank b w < stateRank b u)
             → (k : ℕ) × (call b r s earlier k ≡ found u)
         go w e n (inl q) = (0, e ∙ ap found (same-state-rank b w u (n .state) ok q))

@@ -20,7 +20,8 @@ use Rattle.blocks.proofs.TermCases.{View, label, variable, dash, refused, view,
 use Rattle.blocks.proofs.TermCases.{dash-byte}
 use Rattle.blocks.proofs.Accepted.{left-side, right-side, right-bound, side-term}
 use Rattle.blocks.proofs.StateLaws.{some-label}
-use Rattle.psvn.proofs.Matching.{Matched, matched}
+use Rattle.psvn.specs.Meaning.{Matched}
+use Rattle.psvn.proofs.Matching.{matched}
 use Rattle.psvn.proofs.Stepping.{count-alike}
 use Rattle.backward.specs.Reversible.{shows}
 use Rattle.backward.specs.Choices.{only, choice, leastOf, keepsOf}
@@ -267,7 +268,7 @@ module _ (b : List ℕ) (v : Valid b) (r : ℕ) (lr : r < rules b) where
   pub valid-proper : Proper (positions b) (labelCount b) (leftOf b r) (rightOf b r)
   valid-proper =
       record {
-        some-label = some-label b (v .sized .head);
+        some-label = some-label b (v .sized .headed);
         alike = count-alike b;
         left-below = λ i l a.
             ltb-true _ _

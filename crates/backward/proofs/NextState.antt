@@ -18,6 +18,7 @@ use Rattle.psvn.specs.Rules.{leads}
 use Rattle.psvn.specs.Ranks.{stateRank, unrankState, stateCount}
 use Rattle.psvn.proofs.RankLaws.{state-rank-below, unrank-state-rank, unrank-state-ok, state-rank-unrank}
 use Rattle.backward.specs.Predecessors.{Earlier, fromRank, nextRank, NextState, found, none-further, stepBack}
+use Rattle.backward.specs.Predecessors.{NextPredecessor, NoPredecessor}
 
 -- the two answers are told apart, and a state found is told whole
 abbrev foundElse : List ℕ → NextState → List ℕ
@@ -35,18 +36,11 @@ pub same-found : {p : NextState} {u v : List ℕ} → p ≡ found u → p ≡ fo
 same-found f g = ap (foundElse []) (sym f ∙ g)
 
 module _ (b : List ℕ) (h : Headed b) (r : ℕ) (s : List ℕ) (earlier : Earlier) where
-  -- u is the next state from there on that rule r takes to s
-  pub record Next (u : List ℕ) : Type 0 where
-    pub state : stateOk b u ≡ true
-    pub leads-there : leads b r u s ≡ true
-    pub above : fromRank b earlier ≤ stateRank b u
-    pub least :
-        (v : List ℕ) → stateOk b v ≡ true → leads b r v s ≡ true → fromRank b earlier ≤ stateRank b v
-        → stateRank b u ≤ stateRank b v
+  abbrev Next : List ℕ → Type 0
+  Next = NextPredecessor b r s earlier
 
-  -- no state from there on leads to s
-  abbrev pub NoNext : Type 0
-  NoNext = (v : List ℕ) → stateOk b v ≡ true → leads b r v s ≡ true → fromRank b earlier ≤ stateRank b v → ⊥
+  abbrev NoNext : Type 0
+  NoNext = NoPredecessor b r s earlier
 
   -- what is asked of rank k
   abbrev counts : ℕ → Bool

@@ -1,12 +1,14 @@
 -- Stepping back (document 01): the next state in base-L rank order that a rule takes to the given one, or 'none
--- further': `stepBack`. The public calls for predecessors are stated with it.
+-- further': `stepBack`; and what the two answers mean, `NextPredecessor` and `NoPredecessor`. The public calls for
+-- predecessors are stated with these.
 use mathlib.Core.Path.{_≡_}
-use Prim.Native.Nat.{ℕ, zero, suc}
+use Prim.Native.Nat.{ℕ, zero, suc, _≤_}
 use mathlib.Core.Bool.{Bool, true, false, cond, _&&_}
 use mathlib.Core.List.{List}
 use lib.Dec.{leb, ltb}
 use Rattle.basics.specs.Bounded.{first}
 use Rattle.basics.specs.Lists.{atFront}
+use Rattle.blocks.specs.States.{stateOk}
 use Rattle.psvn.specs.Rules.{leads}
 use Rattle.psvn.specs.Ranks.{stateRank, unrankState, stateCount}
 
@@ -32,6 +34,20 @@ pub data NextState : Type 0 where
 unfoldable pub stepBack : List ℕ → ℕ → List ℕ → Earlier → NextState
 stepBack b r s earlier =
     cond (ltb (nextRank b r s earlier) (stateCount b)) (found (unrankState b (nextRank b r s earlier))) none-further
+
+-- u is the next state from there on that rule r takes to s
+pub record NextPredecessor (b : List ℕ) (r : ℕ) (s : List ℕ) (earlier : Earlier) (u : List ℕ) : Type 0 where
+  pub state : stateOk b u ≡ true
+  pub leads-there : leads b r u s ≡ true
+  pub above : fromRank b earlier ≤ stateRank b u
+  pub least :
+      (v : List ℕ) → stateOk b v ≡ true → leads b r v s ≡ true → fromRank b earlier ≤ stateRank b v
+      → stateRank b u ≤ stateRank b v
+
+-- no state from there on is taken to s
+abbrev pub NoPredecessor : List ℕ → ℕ → List ℕ → Earlier → Type 0
+NoPredecessor b r s earlier =
+    (v : List ℕ) → stateOk b v ≡ true → leads b r v s ≡ true → fromRank b earlier ≤ stateRank b v → ⊥
 
 -- whether there is one, and the buffer afterwards: the state found stands at its front, or nothing is written
 abbrev pub isFound : NextState → Bool

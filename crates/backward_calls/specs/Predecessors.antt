@@ -1,16 +1,17 @@
 -- Stepping back, as two public calls, from 'first' and after an earlier state: `stepBackFrom` is the answer with the
--- final contents of the lent buffer, for every input. `predecessorOf` gives the document's answer for each case of the
--- enum.
+-- final contents of the lent buffer, for every input, and `PredecessorKept` what the calls promise. `predecessorOf`
+-- gives the document's answer for each case of the enum.
 use Prim.Native.Nat.{ℕ}
 use mathlib.Core.Bool.{Bool, true, false}
 use mathlib.Core.List.{List, [], _∷_, _++_}
 use lib.Dec.{leb, ltb}
-use lib.ListN.{length}
+use lib.ListN.{length, take}
 use Rattle.refusals.specs.Answers.{Answer, refused, told, Condition, _unless_, verdict, Outcome, outcome, guarded}
 use Rattle.refusals.specs.Refusals.{refusalNumber}
 use Rattle.blocks.specs.Layout.{positions, rules}
 use Rattle.blocks.specs.States.{stateOk}
 use Rattle.backward.specs.Predecessors.{Earlier, from-first, after, isFound, writtenOut, stepBack}
+use Rattle.backward.specs.Predecessors.{NextPredecessor, NoPredecessor}
 use Rattle.psvn_calls.specs.Checking.{stateConditions}
 use Rattle.backward_calls.specs.declared.predecessors.Predecessor.{Predecessor}
 use Rattle.backward_calls.specs.declared.predecessors.Predecessor.the-variants.{Found, NoneFurther, Refused}
@@ -37,3 +38,9 @@ unfoldable pub stepBackFrom : List ℕ → ℕ → List ℕ → Earlier → List
 stepBackFrom b r s earlier out =
     guarded (verdict (stepBackConditions b r s earlier (length out))) out
     (outcome (told (isFound (stepBack b r s earlier))) (writtenOut (stepBack b r s earlier) out))
+
+-- the next state in rank order that the rule takes to s stands at the front of the buffer, or there is none
+abbrev pub PredecessorKept : List ℕ → ℕ → List ℕ → Earlier → Answer Bool → List ℕ → Type 0
+PredecessorKept b r s earlier (told true) out = NextPredecessor b r s earlier (take (positions b) out)
+PredecessorKept b r s earlier (told false) out = NoPredecessor b r s earlier
+PredecessorKept b r s earlier (refused number) out = Unit {0}

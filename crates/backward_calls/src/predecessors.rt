@@ -4,6 +4,7 @@ ghost use Rattle.refusals.specs.Answers.{verdict, outcome};
 ghost use Rattle.refusals.specs.Refusals.{verdictOf};
 ghost use Rattle.backward.specs.Predecessors.{from-first, after};
 ghost use Rattle.backward_calls.specs.Predecessors.{predecessorOf, stepBackConditions, stepBackFrom};
+ghost use Rattle.backward_calls.specs.Predecessors.{PredecessorKept};
 use psvn_calls::check_application;
 use psvn_calls::check_state;
 use refusals::Refusal;
@@ -42,6 +43,8 @@ fn check_step_back(block: &[u8], rule: usize, state: &[u8], earlier: &[u8], room
 pub fn first_predecessor(block: &[u8], rule: usize, state: &[u8], out: &mut [u8]) -> Predecessor
     ensures { λ r. ⌜ outcome (predecessorOf r) (now (out .exit)) ≡
         stepBackFrom (now (block .entry)) rule (now (state .entry)) from-first (now (out .entry)) ⌝ }
+    ensures { λ r. ⌜ PredecessorKept (now (block .entry)) rule (now (state .entry)) from-first
+        (predecessorOf r) (now (out .exit)) ⌝ }
 {
     let checked = check_application(block, rule, state, out.len());
     if let Verdict::Refused(refusal) = checked {
@@ -65,6 +68,8 @@ pub fn next_predecessor(
 ) -> Predecessor
     ensures { λ r. ⌜ outcome (predecessorOf r) (now (out .exit)) ≡ stepBackFrom
         (now (block .entry)) rule (now (state .entry)) (after (now (earlier .entry))) (now (out .entry)) ⌝ }
+    ensures { λ r. ⌜ PredecessorKept (now (block .entry)) rule (now (state .entry)) (after (now (earlier .entry)))
+        (predecessorOf r) (now (out .exit)) ⌝ }
 {
     let checked = check_step_back(block, rule, state, earlier, out.len());
     if let Verdict::Refused(refusal) = checked {

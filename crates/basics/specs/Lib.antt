@@ -1,7 +1,9 @@
 -- The definitions that every layer uses, a file for each idea.
--- They know nothing of exercises: bounded tests, lists by index, digits, parts of arrays, sets of small numbers.
+-- They know nothing of exercises: bounded tests, lists by index, digits, parts of arrays, sets of small numbers, the
+-- mark of tables.
 pub mod Bounded
 pub mod Lists
 pub mod Digits
 pub mod Parts
 pub mod Sets
+pub mod Marks

@@ -1,7 +1,7 @@
--- Lists made by a function of the index (`tabulate`), lists joined by one (`joined`),
--- a list written over the front of another (`atFront`), and lists of bytes (`Bytes`).
--- States, relabelled blocks and the contents of lent buffers are stated with these.
-use Prim.Native.Nat.{ℕ, zero, suc, _≤_}
+-- Lists made by a function of the index (`tabulate`), lists joined by one (`joined`), a list written over the front of
+-- another (`atFront`), lists of bytes (`Bytes`), and sums (`total`). States, relabelled blocks and the contents of lent
+-- buffers are stated with these, and the visits of a search are a sum.
+use Prim.Native.Nat.{ℕ, zero, suc, _+_, _≤_}
 use mathlib.Core.List.{List, [], _∷_, _++_}
 use lib.ListN.{length, getD, drop}
 
@@ -26,3 +26,8 @@ atFront new old = new ++ drop (length new) old
 -- the elements are bytes
 abbrev pub Bytes : List ℕ → Type 0
 Bytes l = (i : ℕ) → getD l i 0 ≤ 255
+
+-- the sum of all elements
+unfoldable pub total : List ℕ → ℕ
+total [] = 0
+total (x ∷ xs) = x + total xs

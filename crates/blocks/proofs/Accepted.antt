@@ -77,7 +77,7 @@ module _ (b : List ℕ) where
 
   pub sized : headOk b ≡ true → lengthOk b ≡ true → Sized b
   unfolding lengthOk
-  sized h l = record { head = headed h; len = eqb-true (length b) (blockLength b) l }
+  sized h l = record { headed = headed h; len = eqb-true (length b) (blockLength b) l }
 
   pub length-ok : Sized b → lengthOk b ≡ true
   unfolding lengthOk
@@ -91,7 +91,7 @@ module _ (b : List ℕ) where
 
   pub shape-accepted : Sized b → verdict (shapeConditions b) ≡ told tt
   unfolding shapeConditions
-  shape-accepted s = rw (head-ok (s .head), length-ok s)
+  shape-accepted s = rw (head-ok (s .headed), length-ok s)
 
   pub content-valid : Sized b → verdict (contentConditions b) ≡ told tt → Valid b
   unfolding contentConditions
@@ -101,11 +101,11 @@ module _ (b : List ℕ) where
       let p₅ = verdict-told 5 (mapOk b) (c₆ ∷ c₇ ∷ []) h in
       let p₆ = verdict-told 6 (termsOk b) (c₇ ∷ []) (p₅ .1) in
       let p₇ = verdict-told 7 (boundOk b) [] (p₆ .1) in
-      record { sized = s; map = p₅ .0; terms = p₆ .0; bound = p₇ .0 }
+      record { sized = s; mapped = p₅ .0; terms = p₆ .0; bound = p₇ .0 }
 
   pub content-accepted : Valid b → verdict (contentConditions b) ≡ told tt
   unfolding contentConditions
-  content-accepted v = rw (v .map, v .terms, v .bound)
+  content-accepted v = rw (v .mapped, v .terms, v .bound)
 
   pub accepted-valid : verdict (blockConditions b) ≡ told tt → Valid b
   unfolding blockConditions
@@ -121,7 +121,7 @@ module _ (b : List ℕ) where
   module _ (v : Valid b) where
     pub map-below : (i x : ℕ) → x < labelCount b i → mapAt b i x < abstractCount b i
     unfolding mapOk mapAt labelCount abstractCount
-    map-below i x l = ltb-true _ _ (all-at (λ x. ltb (mapByte b x) (abstracts b)) (labels b) (v .map) x l)
+    map-below i x l = ltb-true _ _ (all-at (λ x. ltb (mapByte b x) (abstracts b)) (labels b) (v .mapped) x l)
 
     -- the sides of rule r, and of goal g
     sides : (r : ℕ) → r < rules b → (sideOk b (leftOf b r) ≡ true) × (sideOk b (rightOf b r) ≡ true)

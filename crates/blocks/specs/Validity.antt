@@ -98,12 +98,12 @@ pub record Headed (b : List ℕ) : Type 0 where
 
 -- and the length is as it demands
 pub record Sized (b : List ℕ) : Type 0 where
-  pub head : Headed b
+  pub headed : Headed b
   pub len : length b ≡ blockLength b
 
 -- and the map, the terms and the variables are right: an accepted block
 pub record Valid (b : List ℕ) : Type 0 where
   pub sized : Sized b
-  pub map : mapOk b ≡ true
+  pub mapped : mapOk b ≡ true
   pub terms : termsOk b ≡ true
   pub bound : boundOk b ≡ true

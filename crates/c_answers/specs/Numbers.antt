@@ -1,9 +1,9 @@
--- The document's answers as C receives them, in numbers: `refusalOf`, `decisionOf`, `appliedOf`, `lengthOf`, `entryOf`,
--- `replayNumbersOf` and `searchNumbersOf`, each with every member fixed. A refusal gives its number and 0 in all other
--- members; what is told has 0 for a refusal. The contracts of the conversions, and of every call of the C interface,
--- are stated with these.
-use Prim.Native.Nat.{ℕ}
-use mathlib.Core.Bool.{Bool, true, false}
+-- The document's answers as C receives them, in numbers (`refusalOf`, `decisionOf`, ..): a refusal gives its number and
+-- 0 in all other members; what is told has 0 for a refusal. `doneTold`, `decisionTold`, .. read the answers back.
+-- The contracts of the conversions, and of every call of the C interface, are stated with these.
+use Prim.Native.Nat.{ℕ, zero, suc}
+use mathlib.Core.Bool.{Bool, true, false, cond}
+use lib.Dec.{eqb}
 use Rattle.refusals.specs.Answers.{Answer, refused, told}
 use Rattle.runs.specs.declared.replay.RunEnd.{RunEnd}
 use Rattle.runs.specs.declared.replay.Replayed.{Replayed}
@@ -37,8 +37,8 @@ appliedOf (told applying.does-not-apply) = record { refusal = 0; yes = 0 }
 
 -- the length of the block that was written
 abbrev pub lengthOf : Answer ℕ → Length
-lengthOf (refused number) = record { refusal = number; length = 0 }
-lengthOf (told length) = record { refusal = 0; length = length }
+lengthOf (refused number) = record { refusal = number; bytes = 0 }
+lengthOf (told bytes) = record { refusal = 0; bytes = bytes }
 
 -- the entry of the table; 'no path' is one
 abbrev pub entryOf : Answer ℕ → Entry
@@ -64,3 +64,36 @@ withoutPlan refusal status visits = searchNumbers refusal status (planless visit
 abbrev pub searchNumbersOf : Answer SearchAnswer → SearchNumbers
 searchNumbersOf (refused number) = withoutPlan number 0 0
 searchNumbersOf (told a) = searchNumbers 0 (a .status) (a .plan)
+
+-- read back: told where the refusal's number is 0
+abbrev pub toldBy : {A : Type 0} → ℕ → A → Answer A
+toldBy zero a = told a
+toldBy (suc k) a = refused (suc k)
+
+-- 'accepted', 'filled'
+abbrev pub doneTold : ℕ → Answer (Unit {0})
+doneTold number = toldBy number tt
+
+-- yes or no
+abbrev pub decisionTold : Decision → Answer Bool
+decisionTold r = toldBy (r .refusal) (eqb (r .yes) 1)
+
+-- 'done' or 'does not apply'
+abbrev pub appliedTold : Decision → Answer applying.Applied
+appliedTold r = toldBy (r .refusal) (cond (eqb (r .yes) 1) applying.done applying.does-not-apply)
+
+-- the length of the block that was written
+abbrev pub lengthTold : Length → Answer ℕ
+lengthTold r = toldBy (r .refusal) (r .bytes)
+
+-- the entry of the table
+abbrev pub entryTold : Entry → Answer ℕ
+entryTold r = toldBy (r .refusal) (r .entry)
+
+-- 'done' or 'stuck', with where the replay ends
+abbrev pub replayTold : ReplayNumbers → Answer Replayed
+replayTold r = toldBy (r .refusal) (cond (eqb (r .stuck) 1) (Stuck (r .end)) (Done (r .end)))
+
+-- status and plan of a search
+abbrev pub searchTold : SearchNumbers → Answer SearchAnswer
+searchTold r = toldBy (r .refusal) (record { status = r .status; plan = r .plan })

@@ -14,7 +14,7 @@ use refusals::Refusal;
 #[repr(C)]
 pub struct Length {
     pub refusal: u32,
-    pub length: usize,
+    pub bytes: usize,
 }
 
 // The length of a refused call.
@@ -23,7 +23,7 @@ fn not_written(refusal: Refusal) -> Length
 {
     Length {
         refusal: number_of(refusal),
-        length: 0,
+        bytes: 0,
     }
 }
 
@@ -32,7 +32,7 @@ pub fn read(reading: Reading) -> Length
     ensures { λ r. ⌜ r ≡ lengthOf (readingOf reading) ⌝ }
 {
     match reading {
-        Reading::Done(length) => Length { refusal: 0, length },
+        Reading::Done(bytes) => Length { refusal: 0, bytes },
         Reading::Refused(refusal) => not_written(refusal),
     }
 }
@@ -42,7 +42,7 @@ pub fn relabelled(relabelling: Relabelling) -> Length
     ensures { λ r. ⌜ r ≡ lengthOf (relabellingOf relabelling) ⌝ }
 {
     match relabelling {
-        Relabelling::Done(length) => Length { refusal: 0, length },
+        Relabelling::Done(bytes) => Length { refusal: 0, bytes },
         Relabelling::Refused(refusal) => not_written(refusal),
     }
 }

@@ -120,12 +120,12 @@ compiled {b} {code₀} {code₁} {code₂} {code₃} valid len rs gs cs w = (
     valid = valid;
     counted = cs .counted;
     rule = λ r l.
-        let few : r < 64 = omega (arith, valid .sized .head .sizes .r-high) in
+        let few : r < 64 = omega (arith, valid .sized .headed .sizes .r-high) in
         rule-kept b code₁ code₃ r (rs .rule r l)
         (λ j a c. cs .code .before j (omega arith) ∙ gs .code .before j (omega arith))
         (cs .code .before (816 + r) (omega arith) ∙ gs .code .behind (816 + r) (omega arith));
     goal = λ g l.
-        let few : g < 8 = omega (arith, valid .sized .head .sizes .g-high) in
+        let few : g < 8 = omega (arith, valid .sized .headed .sizes .g-high) in
         sided-kept (positions b) (goalOf b g) (goalOf b g) code₂ code₃ (goalPlace g) (gs .goal g l)
         (λ j a c. cs .code .before j (omega arith));
     weighted = w;

@@ -57,7 +57,7 @@ pairs-weighted {b} {singles} {weights} h single pairs =
           joined j x y (omega arith) (omega (arith, label-count-low b h (2 * j)))
           (omega (arith, label-count-low b h (suc (2 * j))))
           ∙ ap₂ _+_ (single .weight (2 * j) x (omega arith) lx) (single .weight (suc (2 * j)) y l ly);
-      last = λ j x y e lx ly.
+      final = λ j x y e lx ly.
           let n = h .sizes .n-high in
           joined j x y (omega arith) (omega (arith, label-count-low b h (2 * j))) ly
           ∙ ap₂ _+_ (single .weight (2 * j) x (omega arith) lx) (single .behind (16 * suc (2 * j) + y) (omega arith))

@@ -11,9 +11,10 @@ use lib.Dec.{ltb, eqb}
 use lib.ListN.{length, getD}
 use borrow.Author.Tests.{ltb-true, eqb-true, ne-eqb}
 use Rattle.basics.specs.Bounded.{all, some, first}
+use Rattle.basics.specs.Marks.{mark}
 use Rattle.basics.proofs.Truth.{and-true}
 use Rattle.basics.proofs.Bounded.{all-at, first-holds}
-use Rattle.distances.specs.Graphs.{Graph, mark, leadsOn, Achieved, LeastTable}
+use Rattle.distances.specs.Graphs.{Graph, leadsOn, Achieved, LeastTable}
 use Rattle.distances.specs.LowerBounds.{passes}
 use Rattle.distances.specs.Certificates.{metBy, met, certifies}
 use Rattle.distances.proofs.Reaching.{reaches-intro}

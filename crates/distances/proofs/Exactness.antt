@@ -9,8 +9,9 @@ use Prim.Native.Nat.{ℕ, _+_, _≤_, _<_}
 use native.Mathlib.Omega.{arith}
 use lib.ListN.{length, getD}
 use lib.Seq.{ext-getD}
+use Rattle.basics.specs.Marks.{mark}
 use Rattle.basics.proofs.Comparing.{same?}
-use Rattle.distances.specs.Graphs.{Graph, mark, Achieved, Least, LeastTable}
+use Rattle.distances.specs.Graphs.{Graph, Achieved, Least, LeastTable}
 use Rattle.distances.specs.LowerBounds.{passes}
 use Rattle.distances.specs.Filling.{Good}
 use Rattle.distances.proofs.Reaching.{reaches-intro}

@@ -8,8 +8,9 @@ use mathlib.Core.List.{List}
 use Prim.Native.Nat.{ℕ, _≤_, _<_}
 use native.Mathlib.Omega.{arith}
 use lib.ListN.{getD}
+use Rattle.basics.specs.Marks.{mark}
 use Rattle.basics.proofs.Comparing.{same?}
-use Rattle.distances.specs.Graphs.{Graph, mark, reaches, totalCost, Least, LeastTable}
+use Rattle.distances.specs.Graphs.{Graph, reaches, totalCost, Least, LeastTable}
 use Rattle.distances.specs.LowerBounds.{passes}
 use Rattle.distances.specs.LeastCosts.{leastWithin, leastCosts}
 use Rattle.distances.specs.Filling.{Cheap}

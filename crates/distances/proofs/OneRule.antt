@@ -10,8 +10,9 @@ use native.Mathlib.Omega.{arith}
 use lib.ListN.{getD}
 use borrow.Author.Tests.{lt-ltb, le-ltb}
 use borrow.Author.Count.{below-more}
+use Rattle.basics.specs.Marks.{mark}
 use Rattle.basics.proofs.Comparing.{below?}
-use Rattle.distances.specs.Graphs.{Graph, mark}
+use Rattle.distances.specs.Graphs.{Graph}
 use Rattle.distances.specs.Filling.{none, via, Best}
 
 -- the cost by one rule that takes u to v

@@ -1,8 +1,9 @@
 -- The lower-bound test as two propositions, at one state (`at-goal`, `at-rule`, `at-intro`) and at all (`passes-goal`,
 -- `passes-rule`, `passes-intro`, `passes-at`). A table that passes is at most the cost of every list that reaches a
--- goal (`passing-bound`), and zeros pass (`zeros-pass`). Exactness, the certificate, the sweeps of the fill, the test
--- at one state and what a passing table promises rest on these.
-use mathlib.Core.Path.{_≡_, refl, ap}
+-- goal (`passing-bound`), a table with the same entries passes too (`passes-same`), and zeros pass (`zeros-pass`).
+-- Exactness, the certificate, the sweeps of the fill, the test at one state and what a passing table promises rest on
+-- these.
+use mathlib.Core.Path.{_≡_, refl, ap, _∙_}
 use mathlib.Core.Logic.{_≢_}
 use mathlib.Core.Bool.{Bool, true, false, not, _&&_, _||_}
 use mathlib.Core.List.{List, [], _∷_}
@@ -12,9 +13,10 @@ use lib.Dec.{eqb, leb}
 use lib.ListN.{getD}
 use borrow.Author.Tests.{lt-ltb, ltb-true, eqb-true, eqb-false, eq-eqb, ne-eqb, leb-true, le-leb, not-true}
 use Rattle.basics.specs.Bounded.{all}
+use Rattle.basics.specs.Marks.{mark}
 use Rattle.basics.proofs.Truth.{and-true, and-intro}
 use Rattle.basics.proofs.Bounded.{all-at, all-intro}
-use Rattle.distances.specs.Graphs.{Graph, mark, leadsOn, reaches, totalCost}
+use Rattle.distances.specs.Graphs.{Graph, leadsOn, reaches, totalCost}
 use Rattle.distances.specs.LowerBounds.{zeroAtGoal, boundedBy, passesAt, passes}
 use Rattle.distances.proofs.Reaching.{reaches-cons}
 
@@ -101,3 +103,12 @@ module _ (g : Graph) (t : List ℕ) where
   pub zeros-pass : ((u : ℕ) → u < g .states → getD t u 0 ≡ 0) → passes g t ≡ true
   zeros-pass z =
       passes-intro (λ u l e. z u l) (λ u r l i v m. let a = z u l in omega arith)
+
+-- only the entries of the states count
+pub passes-same :
+    (g : Graph) (t t′ : List ℕ) → ((k : ℕ) → k < g .states → getD t′ k 0 ≡ getD t k 0)
+    → passes g t ≡ true → passes g t′ ≡ true
+passes-same g t t′ same h =
+    passes-intro g t′ (λ u l goal. same u l ∙ passes-goal g t h u l goal) (λ u r l i there unmarked.
+    rw (same u l, same (g .step u r) there)
+    (passes-rule g t h u r l i there (rw (same (g .step u r) there) at unmarked)))

@@ -8,8 +8,10 @@ use Prim.Native.Nat.{ℕ, _+_, _≤_, _<_}
 use native.Mathlib.Omega.{arith}
 use lib.ListN.{getD, set}
 use borrow.Author.Count.{below-more}
-use Rattle.distances.specs.Graphs.{Graph, mark}
-use Rattle.distances.specs.Filling.{Cheap, total, Good, via, Best, Swept}
+use Rattle.basics.specs.Lists.{total}
+use Rattle.basics.specs.Marks.{mark}
+use Rattle.distances.specs.Graphs.{Graph}
+use Rattle.distances.specs.Filling.{Cheap, Good, via, Best, Swept}
 use Rattle.distances.proofs.Passing.{passes-intro}
 use Rattle.distances.proofs.Writing.{entry-falls, total-falls, room, good-write}
 use Rattle.distances.proofs.OneRule.{via-at, via-found}

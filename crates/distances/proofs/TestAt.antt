@@ -10,8 +10,9 @@ use native.Mathlib.Omega.{arith}
 use lib.Dec.{leb}
 use lib.ListN.{getD}
 use borrow.Author.Tests.{leb-true, leb-false}
+use Rattle.basics.specs.Marks.{mark}
 use Rattle.basics.proofs.Truth.{not-so}
-use Rattle.distances.specs.Graphs.{Graph, mark}
+use Rattle.distances.specs.Graphs.{Graph}
 use Rattle.distances.specs.LowerBounds.{passesAt}
 use Rattle.distances.specs.Filling.{Cheap, none, Best}
 use Rattle.distances.proofs.Passing.{ZeroAtGoal, at-goal, at-rule, at-intro}

@@ -11,9 +11,10 @@ use native.Mathlib.Omega.{arith}
 use lib.Dec.{eqb}
 use lib.ListN.{length, getD}
 use borrow.Author.Tests.{lt-ltb, ltb-true, eqb-true, eqb-false}
+use Rattle.basics.specs.Marks.{mark}
 use Rattle.basics.proofs.Comparing.{below?}
 use Rattle.basics.proofs.Lists.{length-tabulate, getD-tabulate}
-use Rattle.distances.specs.Graphs.{Graph, mark, leadsOn, reaches, totalCost}
+use Rattle.distances.specs.Graphs.{Graph, leadsOn, reaches, totalCost}
 use Rattle.distances.specs.LeastCosts.{before, byRule, leastBy, leastWithin}
 use Rattle.distances.specs.Filling.{Cheap}
 use Rattle.distances.proofs.Reaching.{reaches-cons, reaches-intro}

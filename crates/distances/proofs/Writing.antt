@@ -11,9 +11,11 @@ use lib.Dec.{ltb}
 use lib.ListN.{length, getD, set, length-set}
 use lib.Seq.{getD-set-same, getD-set-other}
 use borrow.Author.Tests.{lt-ltb, le-ltb}
+use Rattle.basics.specs.Lists.{total}
+use Rattle.basics.specs.Marks.{mark}
 use Rattle.basics.proofs.Comparing.{below?, same?}
-use Rattle.distances.specs.Graphs.{Graph, mark, Achieved}
-use Rattle.distances.specs.Filling.{Cheap, unmarked, total, Good}
+use Rattle.distances.specs.Graphs.{Graph, Achieved}
+use Rattle.distances.specs.Filling.{Cheap, unmarked, Good}
 use Rattle.distances.proofs.Reaching.{reaches-intro}
 
 -- how many entries are not the mark

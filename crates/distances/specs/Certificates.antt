@@ -7,7 +7,8 @@ use Prim.Native.Nat.{ℕ, _+_}
 use lib.Dec.{ltb, eqb}
 use lib.ListN.{length, getD}
 use Rattle.basics.specs.Bounded.{all, some}
-use Rattle.distances.specs.Graphs.{Graph, mark, leadsOn}
+use Rattle.basics.specs.Marks.{mark}
+use Rattle.distances.specs.Graphs.{Graph, leadsOn}
 use Rattle.distances.specs.LowerBounds.{passes}
 
 -- rule r costs more than 0, and its cost and the entry after it make the entry of u

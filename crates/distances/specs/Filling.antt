@@ -6,7 +6,9 @@ use mathlib.Core.List.{List, [], _∷_}
 use Prim.Native.Nat.{ℕ, _+_, _*_, _≤_, _<_}
 use lib.Dec.{ltb}
 use lib.ListN.{length, getD}
-use Rattle.distances.specs.Graphs.{Graph, mark, leadsOn, Achieved}
+use Rattle.basics.specs.Lists.{total}
+use Rattle.basics.specs.Marks.{mark}
+use Rattle.distances.specs.Graphs.{Graph, leadsOn, Achieved}
 use Rattle.distances.specs.LowerBounds
 
 -- no rule costs more than 255
@@ -17,11 +19,6 @@ Cheap g = (r : ℕ) → r < g .rules → g .cost r ≤ 255
 unfoldable pub unmarked : List ℕ → ℕ
 unmarked [] = 0
 unmarked (x ∷ xs) = cond (ltb x mark) 1 0 + unmarked xs
-
--- the sum of all entries
-unfoldable pub total : List ℕ → ℕ
-total [] = 0
-total (x ∷ xs) = x + total xs
 
 -- What every write keeps. An entry that is not the mark is at most 255
 -- for each entry that is not, so that it stays far below the mark.

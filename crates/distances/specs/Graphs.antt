@@ -8,6 +8,7 @@ use mathlib.Core.List.{List, [], _∷_}
 use Prim.Native.Nat.{ℕ, _+_, _≤_, _<_}
 use lib.Dec.{ltb}
 use lib.ListN.{length, getD}
+use Rattle.basics.specs.Marks.{mark}
 
 -- States are the numbers below `states`, rules those below `rules`. `step u r` is the state that rule r takes u to;
 -- it is no state where r does not apply.
@@ -17,10 +18,6 @@ pub record Graph : Type 0 where
   pub step : ℕ → ℕ → ℕ
   pub cost : ℕ → ℕ
   pub goal : ℕ → Bool
-
--- the mark 'no path'
-abbrev pub mark : ℕ
-mark = 4294967295
 
 -- rule r applies to the state u
 abbrev pub leadsOn : Graph → ℕ → ℕ → Bool

@@ -7,7 +7,8 @@ use Prim.Native.Nat.{ℕ, zero, suc, _+_, min}
 use lib.Dec.{eqb}
 use lib.ListN.{getD}
 use Rattle.basics.specs.Lists.{tabulate}
-use Rattle.distances.specs.Graphs.{Graph, mark, leadsOn}
+use Rattle.basics.specs.Marks.{mark}
+use Rattle.distances.specs.Graphs.{Graph, leadsOn}
 
 -- the cost c before the entry f; the mark stays the mark
 abbrev pub before : ℕ → ℕ → ℕ

@@ -6,7 +6,8 @@ use Prim.Native.Nat.{ℕ, _+_}
 use lib.Dec.{leb, eqb}
 use lib.ListN.{getD}
 use Rattle.basics.specs.Bounded.{all}
-use Rattle.distances.specs.Graphs.{Graph, mark, leadsOn}
+use Rattle.basics.specs.Marks.{mark}
+use Rattle.distances.specs.Graphs.{Graph, leadsOn}
 
 -- condition (ii) for a rule of cost c, with the entry e before it and f after it: if f is not the mark, e is not the
 -- mark and at most c plus f

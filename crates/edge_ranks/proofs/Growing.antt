@@ -12,7 +12,7 @@ use Rattle.edge_ranks.specs.Lists.{sourceAt, targetAt, Extended, LabelsA
 
 -- the ranks before `at` are kept, and the first `count` of them stand again from `at` on, each with so much more
 pub record Longer (count at by : ℕ) (old new : ℕ → ℕ) : Type 0 where
-  pub first : new 0 ≡ old 0
+  pub front : new 0 ≡ old 0
   pub kept : (j : ℕ) → j < at → new j ≡ old j
   pub more : (j : ℕ) → j < count → new (at + j) ≡ (old j + by) % 16384
 
@@ -32,12 +32,12 @@ longer-both {count} {at} {by} {by₂} {old} {mid} {new} a b low room =
     let front : (j : ℕ) → j < 16384 → getD new j 0 ≡ getD mid j 0 = λ j l. b .outside .before j (omega arith) in
     let back : (j : ℕ) → targetAt mid j ≡ targetAt old j = λ j. a .outside .behind (16384 + j) (omega arith) in (
       record {
-        first = front 0 (omega arith) ∙ first-kept a low;
+        front = front 0 (omega arith) ∙ first-kept a low;
         kept = λ j l. front j (omega arith) ∙ a .outside .before j (omega arith);
         more = λ j l. front (at + j) (omega arith) ∙ rw (zero-add at, zero-add j) at (a .more j l);
       },
       record {
-        first = first-kept b low ∙ back 0;
+        front = first-kept b low ∙ back 0;
         kept = λ j l. b .outside .before (16384 + j) (omega arith) ∙ back j;
         more = λ j l.
             ap (λ (i : ℕ). getD new i 0) (sym (add-assoc 16384 at j)) ∙ b .more j l
@@ -47,7 +47,7 @@ longer-both {count} {at} {by} {by₂} {old} {mid} {new} a b low room =
 
 -- the labels below `label` have been added
 pub record Grown (f : ℕ → ℕ) (label p count at : ℕ) (old now : ℕ → ℕ) : Type 0 where
-  pub first : now 0 ≡ old 0
+  pub front : now 0 ≡ old 0
   pub kept : (j : ℕ) → j < count → now j ≡ old j
   pub more :
       (l j : ℕ) → 1 ≤ l → l < label → j < count
@@ -69,7 +69,7 @@ next-at count label at e = omega (arith, add-mul label 1 count, one-mul count)
 
 module _ {f : ℕ → ℕ} {p count : ℕ} {old : ℕ → ℕ} where
   pub grown-none : (at : ℕ) → Grown f 1 p count at old old
-  grown-none at = record { first = refl; kept = λ j l. refl; more = λ l j a b. absurd (omega arith) }
+  grown-none at = record { front = refl; kept = λ j l. refl; more = λ l j a b. absurd (omega arith) }
 
   pub grown-more :
       {label at by : ℕ} {now next : ℕ → ℕ} → Grown f label p count at old now → Longer count at by now next
@@ -77,7 +77,7 @@ module _ {f : ℕ → ℕ} {p count : ℕ} {old : ℕ → ℕ} where
       → Grown f (label + 1) p count (at + count) old next
   grown-more {label} {at} {by} {now} {next} g e i low h =
       record {
-        first = e .first ∙ g .first;
+        front = e .front ∙ g .front;
         kept = λ j l. e .kept j (omega arith) ∙ g .kept j l;
         more = λ l j a b m.
             ⊎-elim
@@ -99,12 +99,12 @@ module _ {f : ℕ → ℕ} {p count : ℕ} {old : ℕ → ℕ} where
   grown-all {labels} {label} {at} g l m n i =
       record {
         few = m;
-        some =
+        not-none =
             λ z.
             ⊎-elim (λ e. absurd (omega (arith, i ∙ ap (λ (x : ℕ). label * x) e, mul-zero label)))
             (λ d. omega arith)
             (same? count 0);
-        first = g .first;
+        front = g .front;
         kept = λ z j i. (omega arith, g .kept j i);
         more = λ z k j a b i. g .more k j a (omega arith) i;
       }
@@ -115,8 +115,8 @@ module _ {f : ℕ → ℕ} {p count : ℕ} {old : ℕ → ℕ} where
   grown-over g =
       record {
         few = omega arith;
-        some = λ z. absurd (omega arith);
-        first = g .first;
+        not-none = λ z. absurd (omega arith);
+        front = g .front;
         kept = λ z. absurd (omega arith);
         more = λ z. absurd (omega arith);
       }

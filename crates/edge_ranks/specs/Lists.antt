@@ -37,8 +37,8 @@ pub record Extended (list count at by : ℕ) (old new : List ℕ) : Type 0 where
 -- word alone adds to the first rank; where the new count is not 0
 pub record LabelsAdded (f : ℕ → ℕ) (labels p count new : ℕ) (old now : ℕ → ℕ) : Type 0 where
   pub few : new ≤ 16384
-  pub some : 0 < new → 0 < count
-  pub first : now 0 ≡ old 0
+  pub not-none : 0 < new → 0 < count
+  pub front : now 0 ≡ old 0
   pub kept : 0 < new → (j : ℕ) → j < count → (j < new) × (now j ≡ old j)
   pub more :
       0 < new → (l j : ℕ) → 1 ≤ l → l < labels → j < count

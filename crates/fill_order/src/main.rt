@@ -1,6 +1,6 @@
-// Whether the fast pass of the fill leaves nothing to the sweeps behind it: fills a table for each exercise of the
-// input, and tells whether a sweep still lowered an entry. A fill is right in any case; where one lowers an entry late
-// it may be slow.
+// Whether the fast pass of the fill leaves nothing to the sweeps behind it: makes that pass for each exercise of the
+// input, and tests the table that it leaves. A fill is right in any case; where the sweeps lower an entry late it may
+// be slow.
 mod fills;
 mod texts;
 

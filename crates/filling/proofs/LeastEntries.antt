@@ -10,6 +10,7 @@ use Prim.Native.Nat.{ℕ, _≤_, _<_}
 use native.Mathlib.Omega.{arith}
 use lib.ListN.{length, getD}
 use Rattle.basics.specs.Lists.{Bytes}
+use Rattle.basics.specs.Marks.{mark}
 use Rattle.blocks.specs.Layout.{rules, ruleAt, abstractStates, costOf}
 use Rattle.blocks.specs.Validity.{Valid}
 use Rattle.blocks.specs.States.{stateOk, abstractOk}
@@ -19,7 +20,7 @@ use Rattle.psvn.specs.Ranks.{rank}
 use Rattle.psvn.proofs.Relabelled.{rules-relabelled, cost-relabelled, abstract-states-relabelled}
 use Rattle.psvn.proofs.Stepping.{relabelled-state, abstract-states}
 use Rattle.psvn.proofs.RelabelledValid.{relabelled-valid}
-use Rattle.distances.specs.Graphs.{mark, reaches, totalCost, Least, LeastTable}
+use Rattle.distances.specs.Graphs.{reaches, totalCost, Least, LeastTable}
 use Rattle.distances.specs.LeastCosts.{leastCosts}
 use Rattle.distances.specs.Filling.{Cheap}
 use Rattle.distances.proofs.LeastCostLaws.{least-costs, least-costs-pass}
@@ -69,10 +70,10 @@ cost-bytes b small r l = small (ruleAt b r)
 
 -- the filled table, where costs are bytes
 module _ (b : List ℕ) (v : Valid b) (bytes : CostBytes b) where
-  few : abstractStates (relabelBlock b) ≤ 16384
-  few = relabelled-valid b v .sized .head .few
+  pub few : abstractStates (relabelBlock b) ≤ 16384
+  few = relabelled-valid b v .sized .headed .few
 
-  cheap : Cheap (graphOf (relabelBlock b))
+  pub cheap : Cheap (graphOf (relabelBlock b))
   cheap r l =
       let l′ : r < rules b = omega (arith, rules-relabelled b) in
       omega (arith, cost-relabelled b r l′, bytes r l′)

@@ -1,17 +1,17 @@
 // The fill: the table is cleared, lowered in about the right order, and swept until nothing falls.
 ghost use mathlib.Core.Path.{_≡_};
-ghost use mathlib.Core.Bool.{cond};
+ghost use mathlib.Core.Bool.{true, cond};
 ghost use Prim.Native.Nat.{_≤_};
 ghost use lib.ListN.{length};
 ghost use Rattle.basics.specs.Lists.{atFront};
+ghost use Rattle.basics.specs.Marks.{mark};
 ghost use Rattle.blocks.specs.Layout.{goals, abstractStates};
 ghost use Rattle.blocks.specs.Validity.{Headed, Valid};
 ghost use Rattle.words.specs.Sides.{meetsWord};
-ghost use Rattle.distances.specs.Graphs.{mark};
 ghost use Rattle.distances.specs.LeastCosts.{leastCosts};
 ghost use Rattle.distances.specs.Filling.{Good};
 ghost use Rattle.tables.specs.Abstraction.{graphOf, Relabelled, Ready};
-ghost use Rattle.filling.specs.FilledTables.{filled};
+ghost use Rattle.filling.specs.FilledTables.{filled, Lowered};
 ghost use Rattle.filling.specs.RankWords.{Ranked};
 use super::queue::END;
 use super::rank_words::RankWords;
@@ -58,11 +58,12 @@ fn clear(block: &[u8], code: &Code, weights: &Weights, ranked: &mut RankWords, t
     }
 }
 
-// Compiles a relabelled block and fills the table; and whether the sweeps still lowered an entry. Nothing is proved
-// of this answer, which `fill_order` watches.
-fn fill_relabelled(block: &[u8], table: &mut [u32]) -> bool
+// Compiles a relabelled block and lowers entries backwards from the goals; then, where it is wanted, sweeps until
+// nothing falls, which leaves the least costs.
+fn fill_relabelled(block: &[u8], sweeps: bool, table: &mut [u32])
     requires { ⌜ Relabelled (now block) × (length (now table) ≡ abstractStates (now block)) ⌝ }
-    ensures { λ _. ⌜ now (table .exit) ≡ leastCosts (graphOf (now (block .entry))) ⌝ }
+    ensures { λ _. ⌜ Good (graphOf (now (block .entry))) (now (table .exit)) ×
+        (sweeps ≡ true → now (table .exit) ≡ leastCosts (graphOf (now (block .entry)))) ⌝ }
 {
     let mut code = [0u64; CODE];
     let mut weights = [0u16; WEIGHTS];
@@ -71,18 +72,37 @@ fn fill_relabelled(block: &[u8], table: &mut [u32]) -> bool
     compile(block, &mut code, &mut weights);
     clear(block, &code, &weights, &mut ranked, table);
     spread(block, &code, &weights, &ranked, table, &mut links);
-    settle(block, &code, &weights, &ranked, table, &mut links)
+    if sweeps {
+        settle(block, &code, &weights, &ranked, table, &mut links);
+    }
 }
 
-// Fills the table of a block; and whether the sweeps still lowered an entry, of which the fast pass should leave
-// none. Nothing is proved of this answer, which `fill_order` watches.
-pub fn fill(block: &[u8], table: &mut [u32]) -> bool
+// Relabels a block, and fills the front of its table, with or without sweeps.
+fn fill_front(block: &[u8], sweeps: bool, table: &mut [u32])
     requires { ⌜ Valid (now block) × (abstractStates (now block) ≤ length (now table)) ⌝ }
-    ensures { λ _. ⌜ now (table .exit) ≡ atFront (filled (now (block .entry))) (now (table .entry)) ⌝ }
+    ensures { λ _. ⌜ Lowered (now (block .entry)) (now (table .entry)) (now (table .exit)) × (sweeps ≡ true →
+        now (table .exit) ≡ atFront (filled (now (block .entry))) (now (table .entry))) ⌝ }
 {
     let length = layout::relabelled_length(block);
     let states = layout::abstract_states(block);
     let mut relabelled = [0u8; layout::BLOCK_ROOM];
     relabel_block(block, &mut relabelled);
-    fill_relabelled(&relabelled[..length], &mut table[..states])
+    fill_relabelled(&relabelled[..length], sweeps, &mut table[..states]);
+}
+
+// Fills the table of a block.
+pub fn fill(block: &[u8], table: &mut [u32])
+    requires { ⌜ Valid (now block) × (abstractStates (now block) ≤ length (now table)) ⌝ }
+    ensures { λ _. ⌜ now (table .exit) ≡ atFront (filled (now (block .entry))) (now (table .entry)) ⌝ }
+{
+    fill_front(block, true, table);
+}
+
+// The fast pass of the fill by itself, for whoever asks whether it leaves nothing to the sweeps: a table that then
+// passes the lower-bound test is the filled one.
+pub fn fast_pass(block: &[u8], table: &mut [u32])
+    requires { ⌜ Valid (now block) × (abstractStates (now block) ≤ length (now table)) ⌝ }
+    ensures { λ _. ⌜ Lowered (now (block .entry)) (now (table .entry)) (now (table .exit)) ⌝ }
+{
+    fill_front(block, false, table);
 }

@@ -5,4 +5,5 @@ mod rank_words;
 mod spreading;
 mod sweeping;
 
+pub use filling::fast_pass;
 pub use filling::fill;

@@ -40,8 +40,7 @@ fn sweep(
     fell
 }
 
-// Where the table does not pass yet, sweeps until nothing falls; and whether an entry fell at all. Nothing is proved
-// of this answer, which `fill_order` watches.
+// Where the table does not pass yet, sweeps until nothing falls.
 pub fn settle(
     block: &[u8],
     code: &Code,
@@ -49,20 +48,19 @@ pub fn settle(
     ranked: &RankWords,
     table: &mut [u32],
     lists: &mut Lists,
-) -> bool
+)
     requires { ⌜ Ready (now block) (now code) (now weights) × Ranked (now block) (now ranked) ×
         Good (graphOf (now block)) (now table) ⌝ }
     requires { ⌜ length (now lists) ≡ listsLength ⌝ }
-    ensures { λ _. ⌜ LeastTable (graphOf (now (block .entry))) (now (table .exit)) ⌝ }
+    ensures { λ _. ⌜ Good (graphOf (now (block .entry))) (now (table .exit)) ×
+        LeastTable (graphOf (now (block .entry))) (now (table .exit)) ⌝ }
 {
     if passes_by_sides(block, code, weights, table, lists) {
-        return false;
+        return;
     }
-    let mut lowered = false;
     loop {
         if !sweep(block, code, weights, ranked, table) {
-            return lowered;
+            return;
         }
-        lowered = true;
     }
 }

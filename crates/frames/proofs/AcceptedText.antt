@@ -79,7 +79,7 @@ module _ (ls : List (List ℕ)) (room : ℕ) where
     block-sized =
         let same = ap blockLength (block-split ls) ∙ same-length (headOf ls) (blockOf (tail ls)) (a .five) in
         record {
-          head = subst Headed (sym (block-split ls)) (same-head (headOf ls) (blockOf (tail ls)) (a .five) (a .head));
+          headed = subst Headed (sym (block-split ls)) (same-head (headOf ls) (blockOf (tail ls)) (a .five) (a .head));
           len = block-length ∙ sym same;
         }
 

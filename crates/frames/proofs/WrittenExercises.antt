@@ -96,10 +96,10 @@ module _ (b : List ℕ) (v : Valid b) (small : Bytes b) where
 
   -- the head has five bytes, is in its limits, and asks for what stands behind it
   five : length head ≡ headLength
-  five = length-take-le headLength b (v .sized .head .long)
+  five = length-take-le headLength b (v .sized .headed .long)
 
   head-right : Headed head
-  head-right = head-alone head rest five (subst Headed (sym (take-append-drop headLength b)) (v .sized .head))
+  head-right = head-alone head rest five (subst Headed (sym (take-append-drop headLength b)) (v .sized .headed))
 
   long : blockLength head ≡ length b
   long =
@@ -109,7 +109,7 @@ module _ (b : List ℕ) (v : Valid b) (small : Bytes b) where
   unfolding frameAt
   left =
       let all = ap (frameAt head) (zero-add (frameCount head)) in
-      omega (arith, all, frames-all head, long, length-drop headLength b, v .sized .head .long)
+      omega (arith, all, frames-all head, long, length-drop headLength b, v .sized .headed .long)
 
   all-bytes : AllBytes (framesOf b)
   all-bytes =

@@ -21,7 +21,7 @@ use Rattle.frames.specs.declared.reading.Reading.the-variants.{Done, Ref
 
 -- the length of the block
 abbrev pub readingOf : Reading → Answer ℕ
-readingOf (Done length) = told length
+readingOf (Done bytes) = told bytes
 readingOf (Refused refusal) = refused (refusalNumber refusal)
 
 -- "Head, map, each rule and each goal is one frame a line": the head, and the whole block
@@ -40,11 +40,11 @@ linesOk (l ∷ ls) = lineOk l && linesOk ls
 abbrev pub headLineOk : List (List ℕ) → Bool
 headLineOk ls = eqb (length (headOf ls)) headLength
 
--- 2, others: from frame i on there is a line for each frame that the head demands, of its length, and no further one
+-- 2, others: from frame i on there is a line for each frame that the head h demands, of its length, and no further one
 abbrev pub linesFit : List ℕ → ℕ → List (List ℕ) → Bool
-linesFit head i [] = eqb i (frameCount head)
-linesFit head i (l ∷ ls) =
-    ltb i (frameCount head) && (eqb (length (lineBytes l)) (frameLength head i) && linesFit head (suc i) ls)
+linesFit h i [] = eqb i (frameCount h)
+linesFit h i (l ∷ ls) =
+    ltb i (frameCount h) && (eqb (length (lineBytes l)) (frameLength h i) && linesFit h (suc i) ls)
 
 -- what turns the head back: 2 for its line, 3
 abbrev pub headConditions : List (List ℕ) → List Condition

@@ -6,11 +6,11 @@ use lib.ListN.{take, drop}
 use Rattle.blocks.specs.Layout.{headLength, frameCount, frameLength}
 use Rattle.frames.specs.Lines.{lineOf}
 
--- k frames from frame i on, cut from what stands there
+-- k frames from frame i on, as long as the head h says, cut from what stands there
 abbrev pub framesFrom : List ℕ → ℕ → ℕ → List ℕ → List (List ℕ)
-framesFrom head i zero rest = []
-framesFrom head i (suc k) rest =
-    take (frameLength head i) rest ∷ framesFrom head (suc i) k (drop (frameLength head i) rest)
+framesFrom h i zero rest = []
+framesFrom h i (suc k) rest =
+    take (frameLength h i) rest ∷ framesFrom h (suc i) k (drop (frameLength h i) rest)
 
 -- the head, and the frames behind it
 abbrev pub framesOf : List ℕ → List (List ℕ)

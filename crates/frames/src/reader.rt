@@ -10,30 +10,20 @@ pub struct Reader<'a> {
     pub at: usize,
 }
 
-// A reader at the front of a text.
-pub fn new<'a>(text: &'a [u8]) -> Reader<'a>
-    ensures { λ r. ⌜ (r .text ≡ text .entry) × (r .at ≡ 0) ⌝ }
+// Takes the line at the reader's place: the reader then stands behind it, over the same text.
+pub fn next_line<'s, 'a>(reader: &'s mut Reader<'a>) -> Line
+    ensures { λ l. ⌜ (l ≡ lineAt (now (now (reader .entry) .text)) (now (reader .entry) .at))
+        × (now (reader .exit) .text ≡ now (reader .entry) .text) × (now (reader .exit) .at ≡ l .next) ⌝ }
 {
-    Reader { text, at: 0 }
+    let line = line_at(reader.text, reader.at);
+    reader.at = line.next;
+    line
 }
 
-// The line at the reader's place.
-pub fn line<'a>(r: Reader<'a>) -> Line
-    ensures { λ l. ⌜ l ≡ lineAt (now (r .entry .text)) (r .entry .at) ⌝ }
-{
-    line_at(r.text, r.at)
-}
-
-// The reader at another place of its text.
-pub fn moved<'a>(r: Reader<'a>, at: usize) -> Reader<'a>
-    ensures { λ q. ⌜ (q .text ≡ r .entry .text) × (q .at ≡ at) ⌝ }
-{
-    Reader { text: r.text, at }
-}
-
-// The line that a reader finds once it has read a text up to `at`.
+// The line that a reader takes once it has read a text up to `at`.
 pub fn read_line(text: &[u8], at: usize) -> Line
     ensures { λ l. ⌜ l ≡ lineAt (now (text .entry)) at ⌝ }
 {
-    line(moved(new(text), at))
+    let mut reader = Reader { text, at };
+    next_line(&mut reader)
 }

@@ -1,3 +1,3 @@
 -- What the proofs of the calls share.
--- Those of calls with a buffer carry the answer and the buffer over from the outcome that `engine` ensures.
+-- They carry the answer, the buffer and the promise over from what `engine` ensures.
 pub mod Carried

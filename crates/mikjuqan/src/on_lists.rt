@@ -1,8 +1,8 @@
 // The calls on lists of rules: replaying one that is given, and searching for a plan.
 ghost use mathlib.Core.Path.{_≡_};
-ghost use Rattle.run_calls.specs.Replaying.{replayRun};
-ghost use Rattle.search_calls.specs.Searching.{findPlan};
-ghost use Rattle.c_answers.specs.Numbers.{replayNumbersOf, searchNumbersOf};
+ghost use Rattle.run_calls.specs.Replaying.{replayRun, ReplayKept};
+ghost use Rattle.search_calls.specs.Searching.{findPlan, PlanKept};
+ghost use Rattle.c_answers.specs.Numbers.{replayNumbersOf, searchNumbersOf, replayTold, searchTold};
 use c_answers::ReplayNumbers;
 use c_answers::SearchNumbers;
 use queries::Limits;
@@ -17,13 +17,14 @@ pub extern "C" fn mikjuqan_replay_run(
 ) -> ReplayNumbers
     ensures { λ r. ⌜ (let o = replayRun (now (block .entry)) (now (start .entry)) (now (list .entry)) (now (out .entry))
         in (r ≡ replayNumbersOf (o .answer)) × (now (out .exit) ≡ o .out)) ⌝ }
+    ensures { λ r. ⌜ ReplayKept (now (block .entry)) (now (start .entry)) (now (list .entry))
+        (replayTold r) (now (out .exit)) ⌝ }
 {
     let replay = engine::replay_run(block, start, list, out);
     c_answers::replayed(replay)
 }
 
-// The answer of a search; a plan that is found then stands at the front of `plan`. Demand 3 is in the contract of
-// `engine::find_plan`, whose answer and buffer these are.
+// The answer of a search; a plan that is found then stands at the front of `plan`.
 #[no_mangle]
 pub extern "C" fn mikjuqan_find_plan(
     block: &[u8],
@@ -34,6 +35,8 @@ pub extern "C" fn mikjuqan_find_plan(
 ) -> SearchNumbers
     ensures { λ r. ⌜ (let o = findPlan (now (block .entry)) (now (start .entry)) limits (now (table .entry))
         (now (plan .entry)) in (r ≡ searchNumbersOf (o .answer)) × (now (plan .exit) ≡ o .out)) ⌝ }
+    ensures { λ r. ⌜ PlanKept (now (block .entry)) (now (start .entry)) limits (now (table .entry))
+        (searchTold r) (now (plan .exit)) ⌝ }
 {
     let search = engine::find_plan(block, start, limits, table, plan);
     c_answers::searched(search)

@@ -1,11 +1,11 @@
 // The calls on a state: applying a rule, the goal test, stepping back; and whether a rule is reversible by form.
 ghost use mathlib.Core.Path.{_≡_};
 ghost use Rattle.backward.specs.Predecessors.{from-first, after};
-ghost use Rattle.psvn_calls.specs.Applying.{applyRule};
-ghost use Rattle.psvn_calls.specs.Goals.{testGoals};
-ghost use Rattle.backward_calls.specs.Predecessors.{stepBackFrom};
-ghost use Rattle.backward_calls.specs.Reversing.{testReversible};
-ghost use Rattle.c_answers.specs.Numbers.{decisionOf, appliedOf};
+ghost use Rattle.psvn_calls.specs.Applying.{applyRule, ApplicationKept};
+ghost use Rattle.psvn_calls.specs.Goals.{testGoals, GoalTestKept};
+ghost use Rattle.backward_calls.specs.Predecessors.{stepBackFrom, PredecessorKept};
+ghost use Rattle.backward_calls.specs.Reversing.{testReversible, ReversibilityKept};
+ghost use Rattle.c_answers.specs.Numbers.{decisionOf, appliedOf, decisionTold, appliedTold};
 use c_answers::Decision;
 
 // Yes where the rule applies; the new state then stands at the front of `out`.
@@ -18,6 +18,8 @@ pub extern "C" fn mikjuqan_apply_rule(
 ) -> Decision
     ensures { λ r. ⌜ (let o = applyRule (now (block .entry)) rule (now (state .entry)) (now (out .entry))
         in (r ≡ appliedOf (o .answer)) × (now (out .exit) ≡ o .out)) ⌝ }
+    ensures { λ r. ⌜
+        ApplicationKept (now (block .entry)) rule (now (state .entry)) (appliedTold r) (now (out .exit)) ⌝ }
 {
     let application = engine::apply_rule(block, rule, state, out);
     c_answers::applied(application)
@@ -27,6 +29,7 @@ pub extern "C" fn mikjuqan_apply_rule(
 #[no_mangle]
 pub extern "C" fn mikjuqan_test_goals(block: &[u8], state: &[u8]) -> Decision
     ensures { λ r. ⌜ r ≡ decisionOf (testGoals (now (block .entry)) (now (state .entry))) ⌝ }
+    ensures { λ r. ⌜ GoalTestKept (now (block .entry)) (now (state .entry)) (decisionTold r) ⌝ }
 {
     let test = engine::test_goals(block, state);
     c_answers::met(test)
@@ -42,6 +45,8 @@ pub extern "C" fn mikjuqan_first_predecessor(
 ) -> Decision
     ensures { λ r. ⌜ (let o = stepBackFrom (now (block .entry)) rule (now (state .entry)) from-first (now (out .entry))
         in (r ≡ decisionOf (o .answer)) × (now (out .exit) ≡ o .out)) ⌝ }
+    ensures { λ r. ⌜ PredecessorKept (now (block .entry)) rule (now (state .entry)) from-first
+        (decisionTold r) (now (out .exit)) ⌝ }
 {
     let predecessor = engine::first_predecessor(block, rule, state, out);
     c_answers::stepped_back(predecessor)
@@ -60,6 +65,8 @@ pub extern "C" fn mikjuqan_next_predecessor(
         (let o = stepBackFrom (now (block .entry)) rule (now (state .entry)) (after (now (earlier .entry)))
         (now (out .entry))
         in (r ≡ decisionOf (o .answer)) × (now (out .exit) ≡ o .out)) ⌝ }
+    ensures { λ r. ⌜ PredecessorKept (now (block .entry)) rule (now (state .entry)) (after (now (earlier .entry)))
+        (decisionTold r) (now (out .exit)) ⌝ }
 {
     let predecessor = engine::next_predecessor(block, rule, state, earlier, out);
     c_answers::stepped_back(predecessor)
@@ -69,6 +76,7 @@ pub extern "C" fn mikjuqan_next_predecessor(
 #[no_mangle]
 pub extern "C" fn mikjuqan_test_reversible(block: &[u8], rule: usize) -> Decision
     ensures { λ r. ⌜ r ≡ decisionOf (testReversible (now (block .entry)) rule) ⌝ }
+    ensures { λ r. ⌜ ReversibilityKept (now (block .entry)) rule (decisionTold r) ⌝ }
 {
     let reversibility = engine::test_reversible(block, rule);
     c_answers::reversible(reversibility)

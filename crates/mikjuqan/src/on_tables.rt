@@ -1,8 +1,8 @@
 // The calls on a table: filling it, testing it, looking an estimate up.
 ghost use mathlib.Core.Path.{_≡_};
-ghost use Rattle.table_calls.specs.Estimating.{lookUpEstimate};
-ghost use Rattle.table_calls.specs.WholeTables.{fillTable, testTable};
-ghost use Rattle.c_answers.specs.Numbers.{refusalOf, decisionOf, entryOf};
+ghost use Rattle.table_calls.specs.Estimating.{lookUpEstimate, EstimateKept};
+ghost use Rattle.table_calls.specs.WholeTables.{fillTable, FillingKept, testTable, TableTestKept};
+ghost use Rattle.c_answers.specs.Numbers.{refusalOf, decisionOf, entryOf, doneTold, decisionTold, entryTold};
 use c_answers::Decision;
 use c_answers::Entry;
 
@@ -11,6 +11,7 @@ use c_answers::Entry;
 pub extern "C" fn mikjuqan_fill_table(block: &[u8], table: &mut [u32]) -> u32
     ensures { λ r. ⌜ (let o = fillTable (now (block .entry)) (now (table .entry))
         in (r ≡ refusalOf (o .answer)) × (now (table .exit) ≡ o .out)) ⌝ }
+    ensures { λ r. ⌜ FillingKept (now (block .entry)) (doneTold r) (now (table .exit)) ⌝ }
 {
     let filling = engine::fill_table(block, table);
     c_answers::filled(filling)
@@ -20,6 +21,7 @@ pub extern "C" fn mikjuqan_fill_table(block: &[u8], table: &mut [u32]) -> u32
 #[no_mangle]
 pub extern "C" fn mikjuqan_test_table(block: &[u8], table: &[u32]) -> Decision
     ensures { λ r. ⌜ r ≡ decisionOf (testTable (now (block .entry)) (now (table .entry))) ⌝ }
+    ensures { λ r. ⌜ TableTestKept (now (block .entry)) (now (table .entry)) (decisionTold r) ⌝ }
 {
     let test = engine::test_table(block, table);
     c_answers::passes(test)
@@ -29,6 +31,7 @@ pub extern "C" fn mikjuqan_test_table(block: &[u8], table: &[u32]) -> Decision
 #[no_mangle]
 pub extern "C" fn mikjuqan_look_up_estimate(block: &[u8], state: &[u8], table: &[u32]) -> Entry
     ensures { λ r. ⌜ r ≡ entryOf (lookUpEstimate (now (block .entry)) (now (state .entry)) (now (table .entry))) ⌝ }
+    ensures { λ r. ⌜ EstimateKept (now (block .entry)) (now (state .entry)) (now (table .entry)) (entryTold r) ⌝ }
 {
     let estimate = engine::look_up_estimate(block, state, table);
     c_answers::looked_up(estimate)

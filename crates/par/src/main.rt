@@ -1,12 +1,10 @@
 // Works out par: reads an exercise and queries from standard input, and prints the answer line of each query as soon as
 // it is known.
-use libc::STDIN_FILENO;
-
-// One byte more than an input may have, so that a longer one is seen.
-const INPUT_ROOM: usize = 32769;
+use par_sessions::INPUT_ROOM;
+use par_sessions::OUTPUT_ROOM;
 
 fn main() {
     let mut input = [0u8; INPUT_ROOM];
-    let count = io::read_full(STDIN_FILENO, &mut input);
-    par_sessions::print_session(&input[..count]);
+    let mut output = [0u8; OUTPUT_ROOM];
+    par_sessions::run_session(&mut input, &mut output);
 }

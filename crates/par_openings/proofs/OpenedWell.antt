@@ -1,13 +1,12 @@
--- What an opened exercise leaves its caller: a valid block and its filled table at the fronts of the buffers, and the
--- place of the query lines (`opened-well`).
--- Whoever answers query lines after opening goes by this.
+-- What opening leaves its caller: a valid block and its filled table at the fronts of the buffers, and the place of the
+-- query lines (`opened-well`); or it tells the number of the verdict (`opened-not`). An accepted exercise is valid
+-- (`open-valid`). Whoever answers query lines after opening goes by these.
 use mathlib.Core.Path.{_≡_, refl, sym, ap, _∙_, subst}
 use mathlib.Core.List.{List}
 use Prim.Native.Nat.{ℕ, _≤_}
 use native.Mathlib.Omega.{arith}
 use lib.Dec.{leb}
-use lib.ListN as list
-use lib.ListN.{take}
+use lib.ListN.{length, take}
 use Rattle.basics.specs.Lists.{atFront}
 use Rattle.basics.proofs.Lists.{front-taken, front-fits}
 use Rattle.refusals.specs.Answers.{Answer, refused, told, verdict}
@@ -24,34 +23,50 @@ use Rattle.par_openings.specs.Openings.{longestInput, blockRoom, exercis
 use Rattle.par_openings.specs.Openings.{openConditions, Exercise, exercise, OpenOutcome, openOutcome, openedFor}
 use Rattle.par_openings.specs.Openings.{openExercise}
 
-pub record OpenedWell (x block table : List ℕ) (length states queriesAt : ℕ) : Type 0 where
+pub record OpenedWell (x block table : List ℕ) (bytes states queriesAt : ℕ) : Type 0 where
   pub accepted : verdict (openConditions x) ≡ told tt
-  pub part : take length block ≡ exerciseBlock x
-  pub valid : Valid (take length block)
-  pub entries : take states table ≡ filled (take length block)
-  pub block-fits : length ≤ list.length block
-  pub table-fits : states ≤ list.length table
+  pub part : take bytes block ≡ exerciseBlock x
+  pub valid : Valid (take bytes block)
+  pub entries : take states table ≡ filled (take bytes block)
+  pub block-fits : bytes ≤ length block
+  pub table-fits : states ≤ length table
   pub begins : queriesAt ≡ exerciseEnd x
 
 -- an accepted exercise is valid
-open-valid : (x : List ℕ) → verdict (openConditions x) ≡ told tt → Valid (exerciseBlock x)
+pub open-valid : (x : List ℕ) → verdict (openConditions x) ≡ told tt → Valid (exerciseBlock x)
 unfolding openConditions
 open-valid x h =
     let ls = exerciseLines (linesOf x) in
-    read-valid ls blockRoom (verdict-told 2 (leb (list.length x) longestInput) (readConditions ls blockRoom) h .1)
+    read-valid ls blockRoom (verdict-told 2 (leb (length x) longestInput) (readConditions ls blockRoom) h .1)
 
-module _ (x block table block′ table′ : List ℕ) (length states queriesAt : ℕ) where
+-- where a refusal is told, the exercise is refused with its number
+module _ (x block table block′ table′ : List ℕ) (k : ℕ) where
+  refused-with :
+      (v : Answer (Unit {0})) → openOutcome (refused k) block′ table′ ≡ openedFor v x block table → v ≡ refused k
+  refused-with (refused n) e =
+      let answers : _≡_ {A = Answer Exercise} (refused k) (refused n) = ap (λ (s : OpenOutcome). s .answer) e in
+      cc
+  refused-with (told u) e =
+      let answers = ap (λ (s : OpenOutcome). s .answer) e in
+      absurd (told-refused refl (sym answers))
+
+  pub opened-not :
+      openOutcome (refused k) block′ table′ ≡ openExercise x block table → verdict (openConditions x) ≡ refused k
+  unfolding openExercise
+  opened-not e = refused-with (verdict (openConditions x)) e
+
+module _ (x block table block′ table′ : List ℕ) (bytes states queriesAt : ℕ) where
   -- what is told of the exercise, and what is so
   abbrev given : Exercise
-  given = exercise length states queriesAt
+  given = exercise bytes states queriesAt
 
   abbrev due : Exercise
-  due = exercise (list.length (exerciseBlock x)) (abstractStates (exerciseBlock x)) (exerciseEnd x)
+  due = exercise (length (exerciseBlock x)) (abstractStates (exerciseBlock x)) (exerciseEnd x)
 
   by-verdict :
       (v : Answer (Unit {0})) → verdict (openConditions x) ≡ v
       → openOutcome (told given) block′ table′ ≡ openedFor v x block table
-      → OpenedWell x block′ table′ length states queriesAt
+      → OpenedWell x block′ table′ bytes states queriesAt
   by-verdict (refused k) h e =
       let answers : _≡_ {A = Answer Exercise} (told given) (refused k) = ap (λ (s : OpenOutcome). s .answer) e in
       absurd (told-refused refl answers)
@@ -61,23 +76,23 @@ module _ (x block table block′ table′ : List ℕ) (length states queriesAt :
       let same : given ≡ due = cc in
       let left : block′ ≡ atFront b block = ap (λ (s : OpenOutcome). s .block) e in
       let filled-in : table′ ≡ atFront (filled b) table = ap (λ (s : OpenOutcome). s .table) e in
-      let long : length ≡ list.length b = ap (λ (o : Exercise). o .length) same in
+      let long : bytes ≡ length b = ap (λ (o : Exercise). o .bytes) same in
       let valid = open-valid x h in
       let entries = filled-length b valid (cost-bytes b (block-small (exerciseLines (linesOf x)))) in
-      let many : states ≡ list.length (filled b) = ap (λ (o : Exercise). o .states) same ∙ sym entries in
-      let part : take length block′ ≡ b = ap (take length) left ∙ front-taken b block length long in
+      let many : states ≡ length (filled b) = ap (λ (o : Exercise). o .states) same ∙ sym entries in
+      let part : take bytes block′ ≡ b = ap (take bytes) left ∙ front-taken b block bytes long in
       record {
         accepted = h;
         part = part;
         valid = subst Valid (sym part) valid;
         entries = ap (take states) filled-in ∙ front-taken (filled b) table states many ∙ ap filled (sym part);
-        block-fits = omega (arith, long, ap list.length left, front-fits b block);
-        table-fits = omega (arith, many, ap list.length filled-in, front-fits (filled b) table);
+        block-fits = omega (arith, long, ap length left, front-fits b block);
+        table-fits = omega (arith, many, ap length filled-in, front-fits (filled b) table);
         begins = ap (λ (o : Exercise). o .queriesAt) same;
       }
 
   pub opened-well :
-      openOutcome (told (exercise length states queriesAt)) block′ table′ ≡ openExercise x block table
-      → OpenedWell x block′ table′ length states queriesAt
+      openOutcome (told (exercise bytes states queriesAt)) block′ table′ ≡ openExercise x block table
+      → OpenedWell x block′ table′ bytes states queriesAt
   unfolding openExercise
   opened-well e = by-verdict (verdict (openConditions x)) refl e

@@ -57,17 +57,17 @@ exerciseBlock x = blockOf (exerciseLines (linesOf x))
 unfoldable pub openConditions : List ℕ → List Condition
 openConditions x = 2 unless leb (length x) longestInput ∷ readConditions (exerciseLines (linesOf x)) blockRoom
 
--- an open exercise: the length of its block, the number of its abstract states, and where its query lines begin
+-- an open exercise: how many bytes its block has, the number of its abstract states, and where its query lines begin
 pub record Exercise : Type 0 where
-  pub length : ℕ
+  pub bytes : ℕ
   pub states : ℕ
   pub queriesAt : ℕ
 
 abbrev pub exercise : ℕ → ℕ → ℕ → Exercise
-exercise length states queriesAt = record { length = length; states = states; queriesAt = queriesAt }
+exercise bytes states queriesAt = record { bytes = bytes; states = states; queriesAt = queriesAt }
 
 abbrev pub openingOf : Opening → Answer Exercise
-openingOf (Opened length states queriesAt) = told (exercise length states queriesAt)
+openingOf (Opened bytes states queriesAt) = told (exercise bytes states queriesAt)
 openingOf (Refused refusal) = refused (refusalNumber refusal)
 
 -- the answer, and the final contents of the lent block and table

@@ -23,12 +23,12 @@ use refusals::Refusal;
 use refusals::Verdict;
 
 // The most bytes of input.
-const LONGEST_INPUT: usize = 32768;
+pub const LONGEST_INPUT: usize = 32768;
 
 // What opening answers: how many bytes the block has, how many entries its table has, and where the query lines begin.
 pub enum Opening {
     Opened {
-        length: usize,
+        bytes: usize,
         states: usize,
         queries_at: usize,
     },
@@ -89,10 +89,10 @@ fn open_within(input: &[u8], block: &mut [u8], table: &mut [u32]) -> Opening
     let reading = read_text(&input[..queries_at], heading, block);
     match reading {
         Reading::Refused(refusal) => Opening::Refused(refusal),
-        Reading::Done(length) => {
-            let states = fill_whole(&block[..length], table);
+        Reading::Done(bytes) => {
+            let states = fill_whole(&block[..bytes], table);
             Opening::Opened {
-                length,
+                bytes,
                 states,
                 queries_at,
             }

@@ -1,4 +1,5 @@
 -- The theorems on the output of `par`.
--- What it means, and that a session writes it.
+-- What it is made of, what it means, and how long it is.
 pub mod Meaning
 pub mod Whole
+pub mod OutputLengths

@@ -1,11 +1,11 @@
 -- The output of `par` means what specs/Promises.antt says: `par-means`. A query that is not refused keeps demand 3 since
 -- the filled table of an exercise that is read from text passes the lower-bound test.
--- `session-prints` (Whole.antt) carries this over to what a session writes.
+-- The contract of a session promises this of what it prints.
 use mathlib.Core.Path.{_≡_, ap, _∙_}
 use mathlib.Core.List.{List}
-use Prim.Native.Nat.{ℕ, _+_, _<_}
+use Prim.Native.Nat.{ℕ, _+_, _≤_, _<_}
 use native.Mathlib.Omega.{arith}
-use lib.ListN.{drop}
+use lib.ListN.{length, drop}
 use Rattle.basics.specs.Lists.{Bytes}
 use Rattle.basics.proofs.ByteLists.{bytes-drop}
 use Rattle.refusals.specs.Answers.{Answer, refused, told, verdict, answered}
@@ -16,6 +16,7 @@ use Rattle.psvn.proofs.RunLaws.{reaches-run}
 use Rattle.filling.specs.FilledTables.{filled, CostBytes}
 use Rattle.filling.proofs.LeastEntries.{cost-bytes, filled-low, filled-small}
 use Rattle.rounds.specs.Rounds as rounds
+use Rattle.queries.specs.Queries.{longestPlan}
 use Rattle.queries.proofs.QueryLaws.{QueryAccepted, query-accepted}
 use Rattle.search.specs.Promises.{SearchKept}
 use Rattle.search.proofs.Demand.{kept, visits-within, cost-within}
@@ -33,7 +34,7 @@ use Rattle.par_outputs.specs.Output.{printedFor, parOutput}
 use Rattle.par_outputs.specs.Promises.{QueryMeans, ExerciseMeans, Means}
 
 -- the answer line by the verdict on the query line
-line-by :
+pub line-by :
     (b line : List ℕ) (v : Answer (Unit {0})) → verdict (queryLineConditions b line) ≡ v
     → answerLine b line ≡ lineOf (recordOf (answered v (searchFor b (lineBytes line))))
 unfolding answerLine
@@ -63,15 +64,17 @@ module _
   limit-below : (k : ℕ) → numberOf (drop k q) < 4294967296
   limit-below k = four-below (drop k q) (bytes-drop k q (line-small line))
 
-  -- the numbers of the answer line are bytes: a plan has at most 64 steps, and each is the number of one of at most 64
-  -- rules
+  -- a plan has at most as many steps as a step limit may have
+  pub few-steps : (u c : ℕ) (p : List ℕ) → answer ≡ rounds.found u p c → length p ≤ longestPlan
+  few-steps u c p e = omega (arith, promised .plan u c p e .0 .steps, content .steps-few)
+
+  -- the numbers of the answer line are bytes: a plan has few steps, and each is the number of one of at most 64 rules
   small : Bytes (answerBytes answer)
   small =
       answer-small answer (λ u c p e.
-      let w = promised .plan u c p e .0 in
-      let numbers = reaches-run b (startOf b q) p (w .reaching) .numbers in
-      let few = valid .sized .head .sizes .r-high in
-      (omega (arith, w .steps, content .steps-few), bytes-within p (λ i l. omega (arith, numbers i l, few))))
+      let numbers = reaches-run b (startOf b q) p (promised .plan u c p e .0 .reaching) .numbers in
+      let few = valid .sized .headed .sizes .r-high in
+      (omega (arith, few-steps u c p e), bytes-within p (λ i l. omega (arith, numbers i l, few))))
 
   shown : answerLine b line ≡ lineOf (answerBytes answer)
   shown = line-by b line (told tt) h

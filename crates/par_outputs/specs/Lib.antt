@@ -1,5 +1,4 @@
 -- The definitions of what `par` prints.
--- The whole output of an input; what it means; what a session writes.
+-- The whole output of an input; what it means.
 pub mod Output
 pub mod Promises
-pub mod Sessions

@@ -1,2 +1,1 @@
-// The whole output of the program `par`: its definition, what it means, and what a session writes. Statements and
-// proofs only.
+// The whole output of the program `par`: its definition, what it means, and how long it is. Statements and proofs only.

@@ -25,6 +25,10 @@ queryLineConditions b line = lineConditions b line ++ recordConditions b (lineBy
 abbrev pub searchFor : List ℕ → List ℕ → rounds.Answer
 searchFor b q = searchAsked b q (filled b)
 
+-- room for every line: two digits for each byte of a record, and the line feed
+abbrev pub lineRoom : ℕ
+lineRoom = 149
+
 -- the line of a refusal: "FF and the number"
 abbrev pub refusalLine : ℕ → List ℕ
 refusalLine number = lineOf (refusalBytes number)
@@ -37,5 +41,5 @@ answerLine b line =
 -- what answering the query line at the place `at` of the input x tells and leaves in the line's buffer: the answer line
 -- with its length, and the place behind the query line
 pub record AnsweredAt (b x : List ℕ) (at : ℕ) (old : List ℕ) (r : Answered) (new : List ℕ) : Type 0 where
-  pub written : Written (answerLine b (lineFrom x at)) old (r .length) new
+  pub written : Written (answerLine b (lineFrom x at)) old (r .bytes) new
   pub onward : r .next ≡ at + length (lineFrom x at)

@@ -1,9 +1,10 @@
 // The answer line of a query line.
 ghost use mathlib.Core.Path.{_≡_};
+ghost use Prim.Native.Nat.{_≤_};
+ghost use lib.ListN.{length};
 ghost use Rattle.blocks.specs.Validity.{Valid};
 ghost use Rattle.filling.specs.FilledTables.{filled};
-ghost use Rattle.par_queries.specs.QueryLines.{AnsweredAt};
-use super::LineBuffer;
+ghost use Rattle.par_queries.specs.QueryLines.{lineRoom, AnsweredAt};
 use super::refusing::refuse;
 use frames::lines::decode_line;
 use frames::lines::encode_line;
@@ -13,9 +14,9 @@ use records::RECORD_ROOM;
 use records::query_length;
 use refusals::Refusal;
 
-// How long an answer line is, and the place behind the query line.
+// How many bytes an answer line has, and the place behind the query line.
 pub struct Answered {
-    pub length: usize,
+    pub bytes: usize,
     pub next: usize,
 }
 
@@ -26,26 +27,26 @@ pub fn answer_line(
     input: &[u8],
     at: usize,
     table: &[u32],
-    line: &mut LineBuffer,
+    line: &mut [u8],
 ) -> Answered
-    requires { ⌜ Valid (now block) × (now table ≡ filled (now block)) ⌝ }
+    requires { ⌜ Valid (now block) × (now table ≡ filled (now block)) × (lineRoom ≤ length (now line)) ⌝ }
     ensures { λ r. ⌜
         AnsweredAt (now (block .entry)) (now (input .entry)) at (now (line .entry)) r (now (line .exit)) ⌝ }
 {
     let found = read_line(input, at);
     let next = found.next;
     if !found.ok {
-        let length = refuse(Refusal::Character, line);
-        return Answered { length, next };
+        let bytes = refuse(Refusal::Character, line);
+        return Answered { bytes, next };
     }
     if found.bytes != query_length(block) {
-        let length = refuse(Refusal::Line, line);
-        return Answered { length, next };
+        let bytes = refuse(Refusal::Line, line);
+        return Answered { bytes, next };
     }
     let mut query = [0u8; QUERY_ROOM];
     let asked = decode_line(&input[at..next], &mut query, 0);
-    let mut bytes = [0u8; RECORD_ROOM];
-    let count = records::answer_query(block, &query[..asked], table, &mut bytes);
-    let length = encode_line(&bytes[..count], line);
-    Answered { length, next }
+    let mut answer = [0u8; RECORD_ROOM];
+    let count = records::answer_query(block, &query[..asked], table, &mut answer);
+    let bytes = encode_line(&answer[..count], line);
+    Answered { bytes, next }
 }

@@ -8,6 +8,3 @@ pub use refusing::refuse;
 
 // Room for every line: two digits for each of at most 74 bytes of a record, and the line feed.
 pub const LINE_ROOM: usize = 149;
-
-// The buffer of a line.
-pub type LineBuffer = [u8; LINE_ROOM];

@@ -1,47 +1,120 @@
 // A session of the program `par`: an exercise and its queries in one input, with each answer line printed as soon as it
 // is known.
 ghost use mathlib.Core.Path.{_≡_};
+ghost use Prim.Native.Nat.{_+_, _≤_};
+ghost use lib.IntN.{pos};
+ghost use lib.ListN.{length, take};
 ghost use Rattle.blocks.specs.Validity.{Valid};
 ghost use Rattle.filling.specs.FilledTables.{filled};
+ghost use Rattle.records.specs.Records.{Written};
+ghost use Rattle.refusals.specs.Refusals.{refusalNumber};
+ghost use Rattle.par_queries.specs.QueryLines.{lineRoom, refusalLine};
+ghost use Rattle.par_outputs.specs.Output.{parOutput, answersFrom, outputRoom};
+ghost use Rattle.par_outputs.specs.Promises.{Means};
 use blocks::layout::BLOCK_ROOM;
 use blocks::validity::MOST_STATES;
+use libc::STDIN_FILENO;
 use libc::STDOUT_FILENO;
+use par_openings::LONGEST_INPUT;
 use par_openings::Opening;
 use par_queries::LINE_ROOM;
 use refusals::Refusal;
 
-// Prints the line of a refusal.
-fn print_refusal(refusal: Refusal) {
-    let mut line = [0u8; LINE_ROOM];
-    let length = par_queries::refuse(refusal, &mut line);
-    io::write_all(STDOUT_FILENO, &line[..length]);
+// One byte more than an input may have, so that a longer one is seen.
+pub const INPUT_ROOM: usize = LONGEST_INPUT + 1;
+
+// Room for every output, which is at most eight times as long as the longest input, and behind it for one more line, so
+// that a line can be written in place wherever it begins.
+pub const OUTPUT_ROOM: usize = 8 * LONGEST_INPUT + LINE_ROOM;
+
+// The buffers of an input and of an output.
+pub type InputBuffer = [u8; INPUT_ROOM];
+
+pub type OutputBuffer = [u8; OUTPUT_ROOM];
+
+// How many bytes of input a session read, and how many it printed.
+pub struct Session {
+    pub read: usize,
+    pub printed: usize,
 }
 
-// Prints the answer lines of the query lines from `queries_at` on.
-fn print_answers(block: &[u8], input: &[u8], queries_at: usize, table: &[u32])
-    requires { ⌜ Valid (now block) × (now table ≡ filled (now block)) ⌝ }
+// Prints the next `count` bytes of the output, from `from` on, and gives the place behind them. Nothing else writes.
+// Descriptor 1 is standard output.
+fn print_part(descriptor: i32, output: &[u8], from: usize, count: usize) -> usize
+    requires { ⌜ (descriptor ≡ pos 1) × (from + count ≤ length (now output)) ⌝ }
+    ensures { λ to. ⌜ to ≡ from + count ⌝ }
 {
-    let mut line = [0u8; LINE_ROOM];
-    let mut at = queries_at;
+    let to = from + count;
+    io::write_all(descriptor, &output[from..to]);
+    to
+}
+
+// Prints the line of a refusal, and gives its length.
+fn answer_refusal(refusal: Refusal, output: &mut [u8]) -> usize
+    requires { ⌜ lineRoom ≤ length (now output) ⌝ }
+    ensures { λ n. ⌜ Written (refusalLine (refusalNumber refusal)) (now (output .entry)) n (now (output .exit)) ⌝ }
+{
+    let bytes = par_queries::refuse(refusal, output);
+    print_part(STDOUT_FILENO, output, 0, bytes)
+}
+
+// Prints the answer lines of the query lines from `from` on, and gives their length.
+fn answer_queries(
+    block: &[u8],
+    input: &[u8],
+    from: usize,
+    table: &[u32],
+    output: &mut [u8],
+) -> usize
+    requires { ⌜ Valid (now block) × (now table ≡ filled (now block)) ×
+        (length (answersFrom (now block) (now input) from) + lineRoom ≤ length (now output)) ⌝ }
+    ensures { λ n. ⌜ Written (answersFrom (now (block .entry)) (now (input .entry)) from)
+        (now (output .entry)) n (now (output .exit)) ⌝ }
+{
+    let mut at = from;
+    let mut to: usize = 0;
     while at < input.len() {
-        let answered = par_queries::answer_line(block, input, at, table, &mut line);
-        let length = answered.length;
-        io::write_all(STDOUT_FILENO, &line[..length]);
+        let answered = par_queries::answer_line(block, input, at, table, &mut output[to..]);
+        to = print_part(STDOUT_FILENO, output, to, answered.bytes);
         at = answered.next;
     }
+    to
 }
 
-// Prints what `par` prints for an input.
-pub fn print_session(input: &[u8]) {
+// Prints what `par` prints for an input, and gives its length.
+fn answer_input(input: &[u8], output: &mut [u8]) -> usize
+    requires { ⌜ outputRoom ≤ length (now output) ⌝ }
+    ensures { λ n. ⌜ Written (parOutput (now (input .entry))) (now (output .entry)) n (now (output .exit)) ⌝ }
+{
     let mut block = [0u8; BLOCK_ROOM];
     let mut table = [0u32; MOST_STATES];
     let opening = par_openings::open(input, &mut block, &mut table);
     match opening {
-        Opening::Refused(refusal) => print_refusal(refusal),
+        Opening::Refused(refusal) => answer_refusal(refusal, output),
         Opening::Opened {
-            length,
+            bytes,
             states,
             queries_at,
-        } => print_answers(&block[..length], input, queries_at, &table[..states]),
+        } => answer_queries(&block[..bytes], input, queries_at, &table[..states], output),
     }
+}
+
+// Runs a session in a buffer that holds every output.
+fn run_within(input: &mut [u8], output: &mut [u8]) -> Session
+    requires { ⌜ outputRoom ≤ length (now output) ⌝ }
+    ensures { λ r. ⌜ Written (parOutput (take (r .read) (now (input .exit)))) (now (output .entry)) (r .printed)
+        (now (output .exit)) ⌝ }
+{
+    let read = io::read_full(STDIN_FILENO, input);
+    let printed = answer_input(&input[..read], output);
+    Session { read, printed }
+}
+
+// Reads an input from standard input, and prints what `par` prints for it. Both stay at the fronts of their buffers.
+pub fn run_session(input: &mut InputBuffer, output: &mut OutputBuffer) -> Session
+    ensures { λ r. ⌜ Written (parOutput (take (r .read) (now (input .exit)))) (now (output .entry)) (r .printed)
+        (now (output .exit)) ⌝ }
+    ensures { λ r. ⌜ Means (take (r .read) (now (input .exit))) (take (r .printed) (now (output .exit))) ⌝ }
+{
+    run_within(input, output)
 }

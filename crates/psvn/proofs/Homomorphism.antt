@@ -144,7 +144,7 @@ map-alike b i j x = refl
 -- a valid block
 module _ (b : List ℕ) (v : Valid b) where
   pub map-small : (i x : ℕ) → i < positions b → x < labelCount b i → mapAt b i x < 16
-  map-small i x l m = omega (arith, map-below b v i x m, abstract-count-low b (v .sized .head) i)
+  map-small i x l m = omega (arith, map-below b v i x m, abstract-count-low b (v .sized .headed) i)
 
   pub applies-relabelled :
       (r : ℕ) → r < rules b → (s : List ℕ) → applies b r s ≡ true → applies (relabelBlock b) r (relabelState b s) ≡ true

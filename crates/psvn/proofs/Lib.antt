@@ -1,7 +1,8 @@
 -- The theorems on the language.
--- Matching in words, what a side makes, relabelling, the homomorphism, states that stay states, ranks, runs of rules.
+-- Matching and applying in words, what a side makes, relabelling, the homomorphism, states that stay states, ranks, runs of rules.
 pub mod Matching
 pub mod Making
+pub mod Successors
 pub mod Relabelled
 pub mod Homomorphism
 pub mod Stepping

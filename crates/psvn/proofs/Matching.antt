@@ -12,12 +12,9 @@ use borrow.Author.Tests.{eq-eqb, eqb-true}
 use Rattle.basics.proofs.Bounded.{all-at, all-intro, first-holds, some-intro}
 use Rattle.blocks.specs.Terms.{termOf}
 use Rattle.psvn.specs.Rules.{bound, given, agrees, matches}
+use Rattle.psvn.specs.Meaning.{Matched}
 use Rattle.blocks.proofs.TermCases.{View, label, variable, dash, refused, view, is-label, is-variable, is-dash}
 use Rattle.blocks.proofs.TermCases.{is-refused}
-
-pub record Matched (n : ℕ) (side : ℕ → ℕ) (s : List ℕ) : Type 0 where
-  pub constant : (i : ℕ) → i < n → side i < 16 → getD s i 0 ≡ side i
-  pub same : (i j : ℕ) → i < n → j < n → 16 ≤ side i → side i < 32 → side j ≡ side i → getD s i 0 ≡ getD s j 0
 
 module _ (n : ℕ) (side : ℕ → ℕ) (s : List ℕ) where
   -- position by position, both ways

@@ -55,7 +55,7 @@ module _ (b : List ℕ) (v : Valid b) where
   -- the conditions on a block, one by one
   sizes-relabelled : Sizes (relabelBlock b)
   sizes-relabelled =
-      let h = v .sized .head in
+      let h = v .sized .headed in
       record {
         n-low = omega (arith, positions-relabelled b);
         n-high = omega (arith, positions-relabelled b);
@@ -70,7 +70,7 @@ module _ (b : List ℕ) (v : Valid b) where
 
   headed-relabelled : Headed (relabelBlock b)
   headed-relabelled =
-      let h = v .sized .head in
+      let h = v .sized .headed in
       record {
         long = relabelled-long b;
         sizes = sizes-relabelled;
@@ -115,8 +115,8 @@ module _ (b : List ℕ) (v : Valid b) where
   pub relabelled-valid : Valid (relabelBlock b)
   relabelled-valid =
       record {
-        sized = record { head = headed-relabelled; len = block-length-relabelled b };
-        map = map-ok-relabelled;
+        sized = record { headed = headed-relabelled; len = block-length-relabelled b };
+        mapped = map-ok-relabelled;
         terms = terms-ok-relabelled;
         bound = bound-ok-relabelled;
       }

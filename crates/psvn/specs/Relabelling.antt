@@ -11,13 +11,13 @@ use Rattle.blocks.specs.declared.terms.Term.the-variants.{Label, Variable, Dash
 
 -- a constant is sent through the map, all else is as before
 abbrev pub mappedTerm : (ℕ → ℕ) → ℕ → Term → ℕ
-mappedTerm map byte (Label label) = map (label .0)
-mappedTerm map byte (Variable v) = byte
-mappedTerm map byte Dash = byte
-mappedTerm map byte Refused = byte
+mappedTerm φ byte (Label label) = φ (label .0)
+mappedTerm φ byte (Variable v) = byte
+mappedTerm φ byte Dash = byte
+mappedTerm φ byte Refused = byte
 
 abbrev pub relabelTerm : (ℕ → ℕ) → ℕ → ℕ
-relabelTerm map byte = mappedTerm map byte (termOf byte)
+relabelTerm φ byte = mappedTerm φ byte (termOf byte)
 
 unfoldable pub relabelSide : List ℕ → (ℕ → ℕ) → List ℕ
 relabelSide b side = tabulate (positions b) (λ i. relabelTerm (mapAt b i) (side i))

@@ -1,14 +1,17 @@
 -- Applying a rule, as a public call: `applyRule` is the answer with the final contents of the lent buffer, for every
--- input. `applicationOf` gives the document's answer for each case of the enum.
+-- input, and `ApplicationKept` what the call promises. `applicationOf` gives the document's answer for each case of the
+-- enum.
+use mathlib.Core.Path.{_≡_}
 use Prim.Native.Nat.{ℕ}
-use mathlib.Core.Bool.{cond}
+use mathlib.Core.Bool.{true, false, cond}
 use mathlib.Core.List.{List, [], _∷_, _++_}
 use lib.Dec.{leb, ltb}
-use lib.ListN.{length}
+use lib.ListN.{length, take}
 use Rattle.basics.specs.Lists.{atFront}
 use Rattle.refusals.specs.Answers.{Answer, refused, told, Condition, _unless_, verdict, Outcome, outcome, guarded}
 use Rattle.refusals.specs.Refusals.{refusalNumber}
 use Rattle.blocks.specs.Layout.{positions, rules}
+use Rattle.blocks.specs.States.{stateOk}
 use Rattle.psvn.specs.Rules.{applies, step}
 use Rattle.psvn_calls.specs.Checking.{stateConditions}
 use Rattle.psvn_calls.specs.declared.applying.Application.{Application}
@@ -33,3 +36,11 @@ unfoldable pub applyRule : List ℕ → ℕ → List ℕ → List ℕ → Outcom
 applyRule b r s out =
     guarded (verdict (applyConditions b r s (length out))) out
     (cond (applies b r s) (outcome (told done) (atFront (step b r s) out)) (outcome (told does-not-apply) out))
+
+-- 'done' where the rule's left side matches s: the state that the rule makes, a state of the exercise, then stands at
+-- the front of the buffer; 'does not apply' where it does not match
+abbrev pub ApplicationKept : List ℕ → ℕ → List ℕ → Answer Applied → List ℕ → Type 0
+ApplicationKept b r s (told done) out =
+    (applies b r s ≡ true) × (take (positions b) out ≡ step b r s) × (stateOk b (take (positions b) out) ≡ true)
+ApplicationKept b r s (told does-not-apply) out = applies b r s ≡ false
+ApplicationKept b r s (refused number) out = Unit {0}

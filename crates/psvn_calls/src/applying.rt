@@ -2,7 +2,7 @@
 ghost use mathlib.Core.Path.{_≡_};
 ghost use Rattle.refusals.specs.Answers.{verdict, outcome};
 ghost use Rattle.refusals.specs.Refusals.{verdictOf};
-ghost use Rattle.psvn_calls.specs.Applying.{applicationOf, applyConditions, applyRule};
+ghost use Rattle.psvn_calls.specs.Applying.{applicationOf, applyConditions, applyRule, ApplicationKept};
 use super::checking::check_state;
 use refusals::Refusal;
 use refusals::Verdict;
@@ -36,6 +36,8 @@ pub fn check_application(block: &[u8], rule: usize, state: &[u8], room: usize) -
 pub fn apply_rule(block: &[u8], rule: usize, state: &[u8], out: &mut [u8]) -> Application
     ensures { λ r. ⌜ outcome (applicationOf r) (now (out .exit)) ≡
         applyRule (now (block .entry)) rule (now (state .entry)) (now (out .entry)) ⌝ }
+    ensures { λ r. ⌜
+        ApplicationKept (now (block .entry)) rule (now (state .entry)) (applicationOf r) (now (out .exit)) ⌝ }
 {
     let checked = check_application(block, rule, state, out.len());
     if let Verdict::Refused(refusal) = checked {

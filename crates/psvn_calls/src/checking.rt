@@ -2,13 +2,14 @@
 ghost use mathlib.Core.Path.{_≡_};
 ghost use Rattle.refusals.specs.Answers.{verdict};
 ghost use Rattle.refusals.specs.Refusals.{verdictOf};
-ghost use Rattle.psvn_calls.specs.Checking.{checkBlock, stateConditions};
+ghost use Rattle.psvn_calls.specs.Checking.{checkBlock, CheckKept, stateConditions};
 use refusals::Refusal;
 use refusals::Verdict;
 
 // Checks a block: accepted, or refused with 3 to 7.
 pub fn check_block(block: &[u8]) -> Verdict
     ensures { λ r. ⌜ verdictOf r ≡ checkBlock (now (block .entry)) ⌝ }
+    ensures { λ r. ⌜ CheckKept (now (block .entry)) (verdictOf r) ⌝ }
 {
     blocks::validity::check(block)
 }

@@ -1,7 +1,7 @@
 // Relabelling a block.
 ghost use mathlib.Core.Path.{_≡_};
 ghost use Rattle.refusals.specs.Answers.{outcome};
-ghost use Rattle.psvn_calls.specs.Relabelling.{relabellingOf, relabelExercise};
+ghost use Rattle.psvn_calls.specs.Relabelling.{relabellingOf, relabelExercise, RelabellingKept};
 use refusals::Refusal;
 use refusals::Verdict;
 
@@ -15,6 +15,7 @@ pub enum Relabelling {
 pub fn relabel_block(block: &[u8], out: &mut [u8]) -> Relabelling
     ensures { λ r. ⌜ outcome (relabellingOf r) (now (out .exit)) ≡
         relabelExercise (now (block .entry)) (now (out .entry)) ⌝ }
+    ensures { λ r. ⌜ RelabellingKept (relabellingOf r) (now (out .exit)) ⌝ }
 {
     let checked = blocks::validity::check(block);
     if let Verdict::Refused(refusal) = checked {

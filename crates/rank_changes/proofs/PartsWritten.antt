@@ -45,31 +45,31 @@ part-adds {p = p} {at = at} {changes₁ = changes₁} l part w =
     ∙ ap (λ (x : ℕ). getD changes₁ (at + 1 + x) 0) (digit-shift w p)
     ∙ part .adds (digit w p) (digit-lt w p)
 
-module _ {rows : List ℕ} {first r : ℕ} where
-  pub parts-none : (changes : List ℕ) → PartsPlaced rows first r 0 0 changes changes
+module _ {rows : List ℕ} {lead r : ℕ} where
+  pub parts-none : (changes : List ℕ) → PartsPlaced rows lead r 0 0 changes changes
   unfolding addedTo
   parts-none changes =
       record {
-        some = λ l. omega arith;
+        some-part = λ l. omega arith;
         few = omega arith;
         added = λ w. refl;
         changes = outside-none (changePlace r + 1) (changePlace r + 273) changes;
       }
 
   pub parts-as :
-      {p p′ count : ℕ} {changes₀ changes₁ : List ℕ} → p ≡ p′ → PartsPlaced rows first r p count changes₀ changes₁
-      → PartsPlaced rows first r p′ count changes₀ changes₁
+      {p p′ count : ℕ} {changes₀ changes₁ : List ℕ} → p ≡ p′ → PartsPlaced rows lead r p count changes₀ changes₁
+      → PartsPlaced rows lead r p′ count changes₀ changes₁
   parts-as {count = count} {changes₀ = changes₀} {changes₁ = changes₁} =
-      subst (λ (p : ℕ). PartsPlaced rows first r p count changes₀ changes₁)
+      subst (λ (p : ℕ). PartsPlaced rows lead r p count changes₀ changes₁)
 
-  module _ {p count : ℕ} {changes₀ changes₁ : List ℕ} (parts : PartsPlaced rows first r p count changes₀ changes₁) where
+  module _ {p count : ℕ} {changes₀ changes₁ : List ℕ} (parts : PartsPlaced rows lead r p count changes₀ changes₁) where
     pub part-more :
         {changes₂ : List ℕ} → p < 16 → PartPlaced rows p (partPlace r count) changes₁ changes₂
-        → PartsPlaced rows first r (p + 1) (count + 1) changes₀ changes₂
+        → PartsPlaced rows lead r (p + 1) (count + 1) changes₀ changes₂
     unfolding addedTo
     part-more {changes₂} l part =
         record {
-          some = λ m. omega arith;
+          some-part = λ m. omega arith;
           few = omega (arith, parts .few);
           added = λ w.
               ap (addedTo changes₂ r w) (add-one count)
@@ -83,11 +83,11 @@ module _ {rows : List ℕ} {first r : ℕ} where
               (part .changes));
         }
 
-    pub plain-more : isPart rows first p ≡ false → PartsPlaced rows first r (p + 1) count changes₀ changes₁
+    pub plain-more : isPart rows lead p ≡ false → PartsPlaced rows lead r (p + 1) count changes₀ changes₁
     plain-more plain =
-        let parted = or-false (eqb p first) _ plain in
+        let parted = or-false (eqb p lead) _ plain in
         record {
-          some = λ m. parts .some (let other = eqb-false p first (parted .0) in omega arith);
+          some-part = λ m. parts .some-part (let other = eqb-false p lead (parted .0) in omega arith);
           few = omega (arith, parts .few);
           added = λ w.
               let none =

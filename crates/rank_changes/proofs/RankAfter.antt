@@ -48,7 +48,7 @@ module _ (b : List ℕ) (valid : Valid b) {singles : List ℕ} (single : Singles
 
   rank-low : (s : List ℕ) → stateOk b s ≡ true → rank b (relabelState b s) < 16384
   rank-low s ok =
-      omega (arith, rank-below b (relabelState b s) (relabelled-state b valid s ok), valid .sized .head .few)
+      omega (arith, rank-below b (relabelState b s) (relabelled-state b valid s ok), valid .sized .headed .few)
 
   module _
       {r : ℕ} (lr : r < rules b) {rows₀ rows : List ℕ} {constant₀ : ℕ}
@@ -73,13 +73,13 @@ module _ (b : List ℕ) (valid : Valid b) {singles : List ℕ} (single : Singles
         let n = positions b in
         let after = step-state b valid r lr s ok in
         ap (λ (y : ℕ). (y + total (entryOf rows s) n) % 16384) (sym (weight-sum s ok))
-        ∙ balanced-folded n (leftOf b r) balanced folded s (label-below b (valid .sized .head) s ok) can
+        ∙ balanced-folded n (leftOf b r) balanced folded s (label-below b (valid .sized .headed) s ok) can
         ∙ ap (λ (y : ℕ). y % 16384) (made s ∙ weight-sum (step b r s) after)
         ∙ mod-eq-of-lt (rank-low (step b r s) after)
 
     module _
-        {first count : ℕ} {changes₀ changes₁ : List ℕ} (below : first < positions b)
-        (parts : PartsPlaced rows first r (positions b) count changes₀ changes₁)
+        {lead count : ℕ} {changes₀ changes₁ : List ℕ} (below : lead < positions b)
+        (parts : PartsPlaced rows lead r (positions b) count changes₀ changes₁)
         (room : length changes₀ ≡ changesLength) where
       abbrev written : List ℕ
       written = set changes₁ (changePlace r) count
@@ -87,7 +87,7 @@ module _ (b : List ℕ) (valid : Valid b) {singles : List ℕ} (single : Singles
       count-is : partCount written r ≡ count
       count-is =
           getD-set-same changes₁ (changePlace r) count 0
-          (omega (arith, valid .sized .head .sizes .r-high, parts .changes .len))
+          (omega (arith, valid .sized .headed .sizes .r-high, parts .changes .len))
 
       added-is : (w : ℕ) → addedTo written r w count ≡ total (entryOf rows (unpack (positions b) w)) (positions b)
       added-is w =
@@ -110,8 +110,8 @@ module _ (b : List ℕ) (valid : Valid b) {singles : List ℕ} (single : Singles
       change-placed =
           record {
             change = record {
-              some = omega (arith, count-is, parts .some below);
-              few = omega (arith, count-is, parts .few, valid .sized .head .sizes .n-high);
+              some-part = omega (arith, count-is, parts .some-part below);
+              few = omega (arith, count-is, parts .few, valid .sized .headed .sizes .n-high);
               next = next-is;
             };
             changes =
@@ -127,7 +127,7 @@ pub change-kept :
 unfolding nextRank
 change-kept {b} {changes} {changes′} r same change =
     record {
-      some = omega (arith, counted, change .some);
+      some-part = omega (arith, counted, change .some-part);
       few = omega (arith, counted, change .few);
       next = λ w ok can.
           let k = rank b (relabelState b (unpack (positions b) w)) in
@@ -144,7 +144,7 @@ change-kept {b} {changes} {changes′} r same change =
 pub changed : {b changes₀ changes₁ : List ℕ} → ChangesPlaced b changes₀ changes₁ → Changed b changes₁
 changed placed =
     record {
-      some = λ r l. placed .change r l .some;
+      some-part = λ r l. placed .change r l .some-part;
       few = λ r l. placed .change r l .few;
       next = λ r w l ok can. placed .change r l .next w ok can;
     }

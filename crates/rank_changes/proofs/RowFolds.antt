@@ -36,13 +36,13 @@ with-weights weights constant rows rows′ e = omega arith
 module _ (n : ℕ) (left : ℕ → ℕ) where
   pub folded-none :
       {rows : List ℕ} {constant : ℕ} → Low rows → constant < 16384 → Folded n left rows constant rows constant
-  folded-none low l = record { sum = λ s small m. refl; low = low; constant-low = l }
+  folded-none low l = record { summed = λ s small m. refl; low = low; constant-low = l }
 
   pub folded-then :
       {rows₀ rows₁ rows₂ : List ℕ} {constant₀ constant₁ constant₂ : ℕ} → Folded n left rows₀ constant₀ rows₁ constant₁
       → Folded n left rows₁ constant₁ rows₂ constant₂ → Folded n left rows₀ constant₀ rows₂ constant₂
   folded-then f g =
-      record { sum = λ s small m. g .sum s small m ∙ f .sum s small m; low = g .low; constant-low = g .constant-low }
+      record { summed = λ s small m. g .summed s small m ∙ f .summed s small m; low = g .low; constant-low = g .constant-low }
 
   pub row-folded :
       {rows rows′ : List ℕ} (constant p : ℕ) → p < n → (c : ConcreteLabel) (x : ℕ) → termOf (left p) ≡ Label c
@@ -50,7 +50,7 @@ module _ (n : ℕ) (left : ℕ → ℕ) where
       → Folded n left rows constant rows′ ((constant + entry rows p x) % 16384)
   row-folded {rows} {rows′} constant p l c x e f cleared =
       record {
-        sum = λ s small m.
+        summed = λ s small m.
             moved constant (total (entryOf rows s) n) (total (entryOf rows′ s) n) (entry rows p x)
             (total-one (entryOf rows′ s) (entryOf rows s) p (entry rows p x) n l (kept s small) (fell s small m));
         low = cleared .low;
@@ -65,7 +65,7 @@ module _ (n : ℕ) (left : ℕ → ℕ) where
           (s : List ℕ) → ((p : ℕ) → p < n → getD s p 0 < 16) → matches n left s ≡ true
           → entryOf rows s p % 16384 ≡ (entryOf rows′ s p + entry rows p x) % 16384
       fell s small m =
-          omega (arith, ap (entry rows p) (label-is s m), cleared .none (getD s p 0) (small p l))
+          omega (arith, ap (entry rows p) (label-is s m), cleared .zeros (getD s p 0) (small p l))
 
       kept :
           (s : List ℕ) → ((p : ℕ) → p < n → getD s p 0 < 16) → (k : ℕ) → k < n → (k ≡ p → ⊥)
@@ -83,7 +83,7 @@ module _ (n : ℕ) (left : ℕ → ℕ) where
       → RowAdded (λ _. constant₁) p 16 rows₁ rows₂ → Folded n left rows₀ constant₀ rows₂ 0
   constant-folded p l folded added =
       record {
-        sum = λ s small m. omega (arith, folded .sum s small m, total-added added n l s small);
+        summed = λ s small m. omega (arith, folded .summed s small m, total-added added n l s small);
         low = added .low;
         constant-low = omega arith;
       }
@@ -97,8 +97,8 @@ module _ (n : ℕ) (left : ℕ → ℕ) where
       ≡ total (λ k. entry singles k (given n left s k (termOf (right k)))) i % 16384
   balanced-folded {singles = singles} {rows₀ = rows₀} {rows₁ = rows₁} {constant₀ = constant₀} balanced folded s low m =
       with-weights (total (entryOf singles s) n) constant₀ (total (entryOf rows₀ s) n) (total (entryOf rows₁ s) n)
-      (folded .sum s low m)
-      ∙ balanced .sum s low
+      (folded .summed s low m)
+      ∙ balanced .summed s low
 
 -- the same by other names
 pub folded-as :

@@ -63,7 +63,7 @@ low-set {rows} low at v l h =
 module _ {d : ℕ → ℕ} {p : ℕ} where
   pub added-none : {rows : List ℕ} → Low rows → RowAdded d p 0 rows rows
   added-none {rows} low =
-      record { sum = λ k l. absurd (not-suc-le-zero l); rows = outside-none (16 * p) (16 * p + 0) rows; low = low }
+      record { summed = λ k l. absurd (not-suc-le-zero l); rows = outside-none (16 * p) (16 * p + 0) rows; low = low }
 
   pub added-more :
       {x : ℕ} {rows₀ rows : List ℕ} → p < 16 → x < 16 → RowAdded d p x rows₀ rows
@@ -72,8 +72,8 @@ module _ {d : ℕ → ℕ} {p : ℕ} where
       let at = 16 * p + x in
       let v = (entry rows p x + d x) % 16384 in
       record {
-        sum =
-            below-more _ _ (λ k h. getD-set-other rows at (16 * p + k) v 0 (λ e. omega arith) ∙ added .sum k h)
+        summed =
+            below-more _ _ (λ k h. getD-set-other rows at (16 * p + k) v 0 (λ e. omega arith) ∙ added .summed k h)
             (getD-set-same rows at v 0 (omega (arith, added .low .len))
             ∙ ap (λ (y : ℕ). (y + d x) % 16384) (added .rows .behind at (omega arith)));
         rows =
@@ -89,7 +89,7 @@ module _ {d : ℕ → ℕ} {p : ℕ} where
       → total (entryOf rows₁ s) n % 16384 ≡ (total (entryOf rows₀ s) n + d (getD s p 0)) % 16384
   total-added {rows₀} {rows₁} added n l s small =
       total-one (entryOf rows₀ s) (entryOf rows₁ s) p (d (getD s p 0)) n l kept
-      (ap (λ (y : ℕ). y % 16384) (added .sum (getD s p 0) (small p l))
+      (ap (λ (y : ℕ). y % 16384) (added .summed (getD s p 0) (small p l))
       ∙ mod-mod (entryOf rows₀ s p + d (getD s p 0)) 16384)
     where
       kept : (k : ℕ) → k < n → (k ≡ p → ⊥) → entryOf rows₁ s k ≡ entryOf rows₀ s k
@@ -145,7 +145,7 @@ module _ (n : ℕ) (left right : ℕ → ℕ) (singles : List ℕ) (few : n ≤ 
   pub balanced-none : {rows : List ℕ} → RowsBegun singles rows → Balanced n left right singles rows 0 0
   balanced-none {rows} begun =
       record {
-        sum = λ s small. omega (arith, begun-sum singles rows s low begun n few small);
+        summed = λ s small. omega (arith, begun-sum singles rows s low begun n few small);
         low = record { len = begun .len; each = λ k l. omega (arith, begun .taken k l) };
         constant-low = omega arith;
       }
@@ -165,9 +165,9 @@ module _ (n : ℕ) (left right : ℕ → ℕ) (singles : List ℕ) (few : n ≤ 
         → Balanced n left right singles rows ((constant + entry singles i x) % 16384) (i + 1)
     constant-more c x e f =
         record {
-          sum = λ s small.
+          summed = λ s small.
               with-constant (total (entryOf singles s) n) constant (total (entryOf rows s) n) _ (entry singles i x) _
-              (b .sum s small)
+              (b .summed s small)
               (more s (entry singles i x)
               (ap (λ t. entry singles i (given n left s i t)) e ∙ ap (entry singles i) (sym f)));
           low = b .low;
@@ -179,10 +179,10 @@ module _ (n : ℕ) (left right : ℕ → ℕ) (singles : List ℕ) (few : n ≤ 
         → Balanced n left right singles rows′ constant (i + 1)
     row-more {rows′} p l source added =
         record {
-          sum = λ s small.
+          summed = λ s small.
               let d = entry singles i (getD s p 0) in
               with-row (total (entryOf singles s) n) constant (total (entryOf rows s) n) (total (entryOf rows′ s) n)
-              _ d _ (b .sum s small) (more s d (ap (entry singles i) (source .label s)))
+              _ d _ (b .summed s small) (more s d (ap (entry singles i) (source .label s)))
               (total-added added n l s small);
           low = added .low;
           constant-low = b .constant-low;

@@ -22,7 +22,7 @@ pub record PairsCopied (pairs changes : List ℕ) : Type 0 where
 
 -- the change of rule r is right where the rule applies
 pub record ChangeAt (b changes : List ℕ) (r : ℕ) : Type 0 where
-  pub some : 0 < partCount changes r
+  pub some-part : 0 < partCount changes r
   pub few : partCount changes r ≤ 16
   pub next :
       (w : ℕ) → stateOk b (unpack (positions b) w) ≡ true → applies b r (unpack (positions b) w) ≡ true

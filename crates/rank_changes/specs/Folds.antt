@@ -11,7 +11,7 @@ use Rattle.rank_changes.specs.Rows.{total, entry, entryOf, Low}
 
 -- the row of position p adds nothing; the others stay
 pub record RowCleared (p : ℕ) (rows₀ rows₁ : List ℕ) : Type 0 where
-  pub none : (x : ℕ) → x < 16 → entry rows₁ p x ≡ 0
+  pub zeros : (x : ℕ) → x < 16 → entry rows₁ p x ≡ 0
   pub rows : Outside (16 * p) (16 * p + 16) rows₀ rows₁
   pub low : Low rows₁
 
@@ -19,7 +19,7 @@ pub record RowCleared (p : ℕ) (rows₀ rows₁ : List ℕ) : Type 0 where
 pub record Folded
     (n : ℕ) (left : ℕ → ℕ) (rows₀ : List ℕ) (constant₀ : ℕ) (rows₁ : List ℕ) (constant₁ : ℕ)
     : Type 0 where
-  pub sum :
+  pub summed :
       (s : List ℕ) → ((p : ℕ) → p < n → getD s p 0 < 16) → matches n left s ≡ true
       → (constant₁ + total (entryOf rows₁ s) n) % 16384 ≡ (constant₀ + total (entryOf rows₀ s) n) % 16384
   pub low : Low rows₁

@@ -19,7 +19,7 @@ plainRow rows p = all 16 (λ x. eqb (entry rows p x) 0)
 
 -- the row of the first part is one, and each other one that adds something
 abbrev pub isPart : List ℕ → ℕ → ℕ → Bool
-isPart rows first p = eqb p first || not (plainRow rows p)
+isPart rows lead p = eqb p lead || not (plainRow rows p)
 
 -- the row of position p
 pub record PartPlaced (rows : List ℕ) (p at : ℕ) (changes₀ changes₁ : List ℕ) : Type 0 where
@@ -28,8 +28,8 @@ pub record PartPlaced (rows : List ℕ) (p at : ℕ) (changes₀ changes₁ : Li
   pub changes : Outside at (at + 17) changes₀ changes₁
 
 -- the rows of the first p positions, together: as many parts as add something, and that of the first part
-pub record PartsPlaced (rows : List ℕ) (first r p count : ℕ) (changes₀ changes₁ : List ℕ) : Type 0 where
-  pub some : first < p → 0 < count
+pub record PartsPlaced (rows : List ℕ) (lead r p count : ℕ) (changes₀ changes₁ : List ℕ) : Type 0 where
+  pub some-part : lead < p → 0 < count
   pub few : count ≤ p
   pub added : (w : ℕ) → addedTo changes₁ r w count ≡ total (λ k. entry rows k (digit w k)) p
   pub changes : Outside (changePlace r + 1) (changePlace r + 273) changes₀ changes₁

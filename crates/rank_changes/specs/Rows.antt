@@ -40,14 +40,14 @@ pub record RowsBegun (singles rows : List ℕ) : Type 0 where
 
 -- the row of position p with d added to its first x entries, modulo 16,384
 pub record RowAdded (d : ℕ → ℕ) (p x : ℕ) (rows₀ rows₁ : List ℕ) : Type 0 where
-  pub sum : (k : ℕ) → k < x → entry rows₁ p k ≡ (entry rows₀ p k + d k) % 16384
+  pub summed : (k : ℕ) → k < x → entry rows₁ p k ≡ (entry rows₀ p k + d k) % 16384
   pub rows : Outside (16 * p) (16 * p + x) rows₀ rows₁
   pub low : Low rows₁
 
 -- the weights of a state's labels, the constant and the rows together: the weights of the labels that the first i
 -- terms give, modulo 16,384
 pub record Balanced (n : ℕ) (left right : ℕ → ℕ) (singles rows : List ℕ) (constant i : ℕ) : Type 0 where
-  pub sum :
+  pub summed :
       (s : List ℕ) → ((p : ℕ) → p < n → getD s p 0 < 16)
       → (total (entryOf singles s) n + constant + total (entryOf rows s) n) % 16384
       ≡ total (λ k. entry singles k (given n left s k (termOf (right k)))) i % 16384

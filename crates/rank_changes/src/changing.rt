@@ -45,9 +45,9 @@ fn place_change(block: &[u8], singles: &Singles, changes: &mut Changes, r: usize
     let mut rows = [0u16; ROWS];
     let added = add_terms(block, left, right, n, singles, &mut rows);
     let constant = fold_terms(block, left, n, &mut rows, added);
-    let first = first_part(&rows, n);
-    add_constant(&mut rows, first, constant);
-    let count = place_parts(&rows, n, first, changes, r);
+    let lead = first_part(&rows, n);
+    add_constant(&mut rows, lead, constant);
+    let count = place_parts(&rows, n, lead, changes, r);
     changes[FIRST_CHANGE + CHANGE * r] = count as u16;
 }
 

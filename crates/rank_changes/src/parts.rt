@@ -56,11 +56,11 @@ pub fn add_constant(rows: &mut Rows, p: usize, constant: u16)
 }
 
 // Whether the row of position p is a part: the first one is, and each other one that adds something.
-fn is_part(rows: &Rows, first: usize, p: usize) -> bool
+fn is_part(rows: &Rows, lead: usize, p: usize) -> bool
     requires { ⌜ p < 16 ⌝ }
-    ensures { λ r. ⌜ r ≡ isPart (now (rows .entry)) first p ⌝ }
+    ensures { λ r. ⌜ r ≡ isPart (now (rows .entry)) lead p ⌝ }
 {
-    if p == first {
+    if p == lead {
         return true;
     }
     !is_plain(rows, p)
@@ -81,16 +81,16 @@ fn place_part(rows: &Rows, p: usize, changes: &mut Changes, at: usize)
 
 // Writes the rows of n positions that add something, and that of the first part, as the parts of rule r, and tells
 // how many these are.
-pub fn place_parts(rows: &Rows, n: usize, first: usize, changes: &mut Changes, r: usize) -> usize
+pub fn place_parts(rows: &Rows, n: usize, lead: usize, changes: &mut Changes, r: usize) -> usize
     requires { ⌜ (n ≤ 16) × (r < 64) × (length (now changes) ≡ changesLength) ⌝ }
-    ensures { λ count. ⌜ PartsPlaced (now (rows .entry)) first r n count (now (changes .entry)) (now (changes .exit))
+    ensures { λ count. ⌜ PartsPlaced (now (rows .entry)) lead r n count (now (changes .entry)) (now (changes .exit))
         ⌝ }
 {
     let at = FIRST_CHANGE + CHANGE * r + 1;
     let mut count: usize = 0;
     let mut p: usize = 0;
     while p < n {
-        if is_part(rows, first, p) {
+        if is_part(rows, lead, p) {
             place_part(rows, p, changes, at + PART * count);
             count += 1;
         }

@@ -11,7 +11,7 @@ use lib.Dec.{leb, ltb}
 use borrow.Author.Tests.{ltb-true, ltb-false}
 use Rattle.rounds.specs.Systems.{System, Estimate, mark, at}
 use Rattle.rounds.specs.Rounds.{free, upto, Progress, on, hit, stop, Answer, noPlan, spent, visits, Offer, cut}
-use Rattle.rounds.specs.Rounds.{over, due, andThen, behind, takeUp, conclude, capped, begin, arrive, Visitor}
+use Rattle.rounds.specs.Rounds.{overshoot, due, andThen, behind, takeUp, conclude, capped, begin, arrive, Visitor}
 use Rattle.rounds.specs.Rounds.{offer, extend, visit, round, rounds, roundsFrom, search}
 
 -- the visits used
@@ -57,7 +57,7 @@ used-take-up :
     → ((t : S) → u ≤ used (next t u o)) → u ≤ used (takeUp f r next u o)
 unfolding used takeUp
 used-take-up cut r next u o rise = omega arith
-used-take-up (over f) r next u o rise = omega arith
+used-take-up (overshoot f) r next u o rise = omega arith
 used-take-up (due t) r next u o rise = omega (arith, used-behind r (next t u o), rise t)
 
 used-then :
@@ -80,7 +80,7 @@ held-take-up :
     → ((t : S) → Held v (next t u o) (other t u o)) → Held v (takeUp f r next u o) (takeUp f r other u o)
 unfolding Held used takeUp
 held-take-up v cut r next other u o l held = inl (l, refl)
-held-take-up v (over f) r next other u o l held = inl (l, refl)
+held-take-up v (overshoot f) r next other u o l held = inl (l, refl)
 held-take-up v (due t) r next other u o l held = held-behind v r (next t u o) (other t u o) (held t)
 
 -- where the first part is the same

@@ -43,8 +43,8 @@ module _
     -- an open list that reaches a goal: visited, or an edge at no more than its cost
     met : (q : List ℕ) → Open Y D s q → Reaches Y s q → Hits Y h T (s ∷ []) s 0 q ⊎ EdgeUnder Y h T (s ∷ []) s 0 q
     met q o w =
-        elim (reach Y h T L P (s ∷ []) s 0 q (w .last) good (open-trail Y D s q (w .last) o (w .runs)) (w .meets))
-        [ inl v ↦ inl (w .last, v, w .meets) | inr v ↦ inr v ]
+        elim (reach Y h T L P (s ∷ []) s 0 q (w .final) good (open-trail Y D s q (w .final) o (w .runs)) (w .meets))
+        [ inl v ↦ inl (w .final, v, w .meets) | inr v ↦ inr v ]
 
     -- visited where it costs at most T
     cheap-hits : (q : List ℕ) → Open Y D s q → Reaches Y s q → totalCost Y q ≤ T → Hits Y h T (s ∷ []) s 0 q
@@ -75,10 +75,10 @@ module _
           omega (arith, a .costs),
           record {
             open-list = trail-open Y D s p t tr (a .inside);
-            reaches = record { last = t; runs = trail-run Y (s ∷ []) s p t tr; meets = g };
+            reaches = record { final = t; runs = trail-run Y (s ∷ []) s p t tr; meets = g };
             within = omega arith;
             cheapest = λ q o w. omega (arith, fl q o w);
-            first = λ q o w e. a .first q (o .short) (cheap-hits q o w (omega arith));
+            earliest = λ q o w e. a .first q (o .short) (cheap-hits q o w (omega arith));
           },
         )
 
@@ -111,13 +111,13 @@ module _
   -- the start's estimate is a floor; with a marked start there is no plan
   pub floor-start : (T : ℕ) → h s ≡ at T → Floor Y D s T
   floor-start T e q o w =
-      let (j, x, y) = bound Y h L P s q (w .last) good (w .runs) (w .meets) in
+      let (j, x, y) = bound Y h L P s q (w .final) good (w .runs) (w .meets) in
       let z : T ≡ j = at-injective T j (sym e ∙ x) in
       omega arith
 
   none-start : h s ≡ mark → (q : List ℕ) → Reaches Y s q → ⊥
   none-start e q w =
-      let (j, x, y) = bound Y h L P s q (w .last) good (w .runs) (w .meets) in
+      let (j, x, y) = bound Y h L P s q (w .final) good (w .runs) (w .meets) in
       mark-at j (sym e ∙ x)
 
   begin-right :

@@ -12,8 +12,9 @@ use lib.ListN.{length}
 use Rattle.basics.proofs.Comparing.{below?}
 use Rattle.rounds.specs.Systems.{System, Estimate, at, Lawful, Passing}
 use Rattle.rounds.specs.OpenLists.{Before, totalCost, Reaches}
-use Rattle.rounds.specs.Rounds.{Allowance, free, upto, on, Answer, found, noPlan, spent, visits, round, search}
+use Rattle.rounds.specs.Rounds.{Allowance, free, upto, Answer, found, noPlan, spent, visits, search}
 use Rattle.rounds.specs.Promises.{Floor, BestPlan, Kept}
+use Rattle.rounds.specs.Thresholds.{RoundAt, first-round, further}
 use Rattle.rounds.proofs.OpenListLaws.{shortcut}
 use Rattle.rounds.proofs.OneRound.{round-passed}
 use Rattle.rounds.proofs.Allowed.{upto-enough, upto-spent}
@@ -23,12 +24,6 @@ module _ (Y : System) {Legal : Y .State → Type 0} (L : Lawful Y Legal) (D : �
   -- a floor for open lists is one for all lists within the step limit
   pub floor-all : (T : ℕ) → Floor Y D s T → (q : List ℕ) → Reaches Y s q → length q ≤ D → T ≤ totalCost Y q
   floor-all T fl q w l = let (p, o, r, m, c) = shortcut Y L D s q w l in omega (arith, fl p o r)
-
-module _ (Y : System) (h : Y .State → Estimate) (D B : ℕ) (s : Y .State) where
-  -- the search with an allowance comes to a round at T after u visits
-  pub data RoundAt (A : Allowance) : ℕ → ℕ → Type 0 where
-    first-round : (T : ℕ) → h s ≡ at T → RoundAt A T 0
-    further : (T u w n : ℕ) → RoundAt A T u → T ≤ B → round Y h A D s T u ≡ on w (at n) → RoundAt A n w
 
 -- lists each of which is the other or comes before it are the same
 pub before-antisym : (p q : List ℕ) → Before p q → Before q p → p ≡ q
@@ -46,8 +41,8 @@ pub best-one :
 best-one Y D s B C p q a b =
     let le : totalCost Y p ≤ totalCost Y q = a .cheapest q (b .open-list) (b .reaches) in
     let ge : totalCost Y q ≤ totalCost Y p = b .cheapest p (a .open-list) (a .reaches) in
-    before-antisym p q (a .first q (b .open-list) (b .reaches) (omega arith))
-    (b .first p (a .open-list) (a .reaches) (omega arith))
+    before-antisym p q (a .earliest q (b .open-list) (b .reaches) (omega arith))
+    (b .earliest p (a .open-list) (a .reaches) (omega arith))
 
 module _
     (Y : System) (h : Y .State → Estimate) {Legal : Y .State → Type 0} (L : Lawful Y Legal) (P : Passing Y Legal h)

@@ -10,7 +10,7 @@ use Prim.Native.Nat.{ℕ, zero, suc, _+_}
 use lib.Dec.{leb}
 use Rattle.rounds.specs.Systems.{System, Lawful, Estimate, mark, at, plus, lower}
 use Rattle.rounds.specs.Rounds.{occurs, Allowance, allows, Progress, on, hit, stop, found, noPlan, spent, Offer}
-use Rattle.rounds.specs.Rounds.{cut, over, due, judge, weigh, andThen, behind, takeUp, arrive, conclude, capped}
+use Rattle.rounds.specs.Rounds.{cut, overshoot, due, judge, weigh, andThen, behind, takeUp, arrive, conclude, capped}
 use Rattle.rounds.specs.Rounds.{Answer, Visitor, offered, offer, extend, visit, round, roundsFrom}
 use Rattle.rounds.proofs.ReachingLists.{offer-judge}
 use Rattle.rounds.proofs.RoundCounts.{rounds-again}
@@ -82,8 +82,8 @@ module _ (Y : System) (h : Y .State → Estimate) (T : ℕ) (seen : List (Y .Sta
         offer-judge Y h T seen s g r t k (record { steps = e; fresh = x; rated = f })
         ∙ ap (λ (c : Bool). judge c t (g + Y .cost r + k)) l
 
-    pub offer-over : leb (g + Y .cost r + k) T ≡ false → offer Y h T seen s g r ≡ over (g + Y .cost r + k)
-    offer-over l = offer-at false l
+    pub offer-overshoot : leb (g + Y .cost r + k) T ≡ false → offer Y h T seen s g r ≡ overshoot (g + Y .cost r + k)
+    offer-overshoot l = offer-at false l
 
     pub offer-due : leb (g + Y .cost r + k) T ≡ true → offer Y h T seen s g r ≡ due t
     offer-due l = offer-at true l
@@ -108,11 +108,11 @@ module _ (Y : System) (h : Y .State → Estimate) (T : ℕ) (seen : List (Y .Sta
     unfolding extend andThen takeUp handed-on taken-up
     extend-cut e = ap taken-up e
 
-    pub extend-over :
-        (f : ℕ) → offer Y h T seen s g i ≡ over f
+    pub extend-overshoot :
+        (f : ℕ) → offer Y h T seen s g i ≡ overshoot f
         → extend Y h T next seen s g (suc k) i u o ≡ extend Y h T next seen s g k (suc i) u (lower f o)
     unfolding extend andThen takeUp handed-on taken-up
-    extend-over f e = ap taken-up e
+    extend-overshoot f e = ap taken-up e
 
     module _ (t : Y .State) (e : offer Y h T seen s g i ≡ due t) where
       extend-due :

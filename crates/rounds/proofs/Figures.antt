@@ -1,7 +1,7 @@
 -- The lists of a round by their figures: it visits just the open lists whose prefixes all have a figure of at most the
--- threshold (`visited-in`, `in-visited`), and its edges are the fringe (`edge-fringe`, `fringe-edge`). So the next
--- threshold is the least figure of the fringe (`next-least`, `next-threshold`). These show the rounds to be the rounds
--- of document 01; nothing else rests on them.
+-- threshold (`visited-in`, `in-visited`), and its edges are those with an overshoot (`edge-overshoot`,
+-- `overshoot-edge`). So the next threshold is the least overshoot (`next-least`, `next-threshold`). These show the rounds
+-- to be the rounds of document 01; the thresholds of a search as a list rest on them.
 use mathlib.Core.Path.{_≡_, refl, ap, subst, sym, _∙_}
 use mathlib.Core.Logic.{inl, inr}
 use mathlib.Core.Option.{some}
@@ -12,13 +12,13 @@ use native.Mathlib.Omega.{arith}
 use lib.ListN.{length}
 use Rattle.rounds.specs.Systems.{System, Estimate, mark, at, plus, Within, Lawful}
 use Rattle.rounds.specs.OpenLists.{plusMaybe, Avoids, run, totalCost, Open, figure}
-use Rattle.rounds.specs.Rounds.{Allowance, on, Offer, cut, over, due, offer, round}
-use Rattle.rounds.specs.Promises.{InRound, Fringe, NextThreshold}
+use Rattle.rounds.specs.Rounds.{Allowance, on, Offer, cut, overshoot, due, offer, round}
+use Rattle.rounds.specs.Promises.{InRound, Overshoot, NextThreshold}
+use Rattle.rounds.specs.Thresholds.{RoundAt, first-round, further}
 use Rattle.rounds.proofs.OpenListLaws.{Trail, run-step, trail-open, open-trail, avoids-fresh, fresh-avoids}
 use Rattle.rounds.proofs.EstimateLaws.{within-mono, zero-plus, number}
 use Rattle.rounds.proofs.OneRound.{OnEdge, Visited, Edge, at-visited, at-edge, round-passed}
 use Rattle.rounds.proofs.BestPlans.{higher}
-use Rattle.rounds.proofs.Demand.{RoundAt, first-round, further}
 use Rattle.rounds.proofs.ReachingLists.{Leads, Sound, offer-sound, offer-cases, visited-cons, visited-trail}
 
 module _ (Y : System) (h : Y .State → Estimate) where
@@ -54,8 +54,8 @@ module _ (Y : System) (h : Y .State → Estimate) where
     ProperFrom : ℕ → Y .State → List ℕ → Type 0
     ProperFrom g s p = (q : List ℕ) (i : ℕ) (z : List ℕ) → p ≡ q ++ i ∷ z → Within (figureFrom g s q) T
 
-    abbrev FringeFrom : List (Y .State) → Y .State → ℕ → List ℕ → ℕ → Type 0
-    FringeFrom seen s g p f =
+    abbrev OvershootFrom : List (Y .State) → Y .State → ℕ → List ℕ → ℕ → Type 0
+    OvershootFrom seen s g p f =
         (t : Y .State) × Trail Y seen s p t × (figureFrom g s p ≡ at f) × (T < f) × ProperFrom g s p
 
     -- a figure of at most T is a number
@@ -134,7 +134,7 @@ module _ (Y : System) (h : Y .State → Estimate) where
 
       edge-from :
           (seen : List (Y .State)) (s : Y .State) (g : ℕ) (p : List ℕ) (f : ℕ) → Within (plus g (h s)) T
-          → Edge Y h T seen s g p f → FringeFrom seen s g p f
+          → Edge Y h T seen s g p f → OvershootFrom seen s g p f
       edge-from seen s g [] f a v = absurd v
       edge-from seen s g (r ∷ p) f a v =
           go (offer Y h T seen s g r) (offer-sound Y h T seen s g r) v
@@ -142,7 +142,7 @@ module _ (Y : System) (h : Y .State → Estimate) where
         where
           one :
               (m : Y .State) (k z : ℕ) → Leads Y h seen s r m k → z ≡ g + Y .cost r + k → T < z → z ≡ f
-              → FringeFrom seen s g (r ∷ []) f
+              → OvershootFrom seen s g (r ∷ []) f
           one m k z l e b c = (
             m,
             (m, l .steps, fresh-avoids Y L m seen (l .fresh), refl),
@@ -155,11 +155,11 @@ module _ (Y : System) (h : Y .State → Estimate) where
               (x : Offer (Y .State)) → Sound Y h T seen s g r x
               → OnEdge x p f (λ m. Edge Y h T (m ∷ seen) m (g + Y .cost r) p f)
               → ((m : Y .State) → Within (plus (g + Y .cost r) (h m)) T → Edge Y h T (m ∷ seen) m (g + Y .cost r) p f
-              → FringeFrom (m ∷ seen) m (g + Y .cost r) p f)
-              → FringeFrom seen s g (r ∷ p) f
+              → OvershootFrom (m ∷ seen) m (g + Y .cost r) p f)
+              → OvershootFrom seen s g (r ∷ p) f
           go cut w e ih = absurd e
-          go (over z) w e ih =
-              subst (λ (l : List ℕ). FringeFrom seen s g (r ∷ l) f) (sym (e .0))
+          go (overshoot z) w e ih =
+              subst (λ (l : List ℕ). OvershootFrom seen s g (r ∷ l) f) (sym (e .0))
               (one (w .0) (w .1) z (w .2) (w .3) (w .4) (e .1))
           go (due m) (k, l, b) e ih =
               let (t, x, y, u, w) = ih m (within-at (h m) (g + Y .cost r) k (l .rated) b) e in (
@@ -182,7 +182,7 @@ module _ (Y : System) (h : Y .State → Estimate) where
           let (k, x, y) = number (h m) (g + Y .cost r) f (sym (figure-one g r s m n) ∙ e) in
           elim (offer-cases Y h T seen s g r m k (leads seen s m r k n o x)) [
             | inl z ↦ absurd (omega (arith, z .0))
-            | inr z ↦ at-edge Y h T seen s g r (over (g + Y .cost r + k)) (z .1) [] f (refl, y)
+            | inr z ↦ at-edge Y h T seen s g r (overshoot (g + Y .cost r + k)) (z .1) [] f (refl, y)
           ]
       from-edge seen s g (r ∷ j ∷ p) f t a (m, n, o, w) e l b =
           let c : Within (plus (g + Y .cost r) (h m)) T = within (figure-one g r s m n) (b (r ∷ []) j p refl) in
@@ -217,11 +217,11 @@ module _ (Y : System) (h : Y .State → Estimate) where
       in-visited d s p t o e i =
           from-visited (s ∷ []) s 0 p t (open-trail Y d s p t o e) (λ q z x. within (sym (figure-from s q)) (i q z x))
 
-      pub edge-fringe :
+      pub edge-overshoot :
           (d : ℕ) (s : Y .State) (p : List ℕ) (f : ℕ) → Within (h s) T → length p ≤ d → Edge Y h T (s ∷ []) s 0 p f
-          → Fringe Y h T d s p f
+          → Overshoot Y h T d s p f
       unfolding ProperFrom
-      edge-fringe d s p f a l v =
+      edge-overshoot d s p f a l v =
           let (t, w, x, y, z) = edge-from (s ∷ []) s 0 p f (at-start s a) v in
           record {
             open-list = trail-open Y d s p t w l;
@@ -230,17 +230,17 @@ module _ (Y : System) (h : Y .State → Estimate) where
             proper = λ q i r e. within (figure-from s q) (z q i r e);
           }
 
-      pub fringe-edge :
-          (d : ℕ) (s : Y .State) (p : List ℕ) (f : ℕ) → Within (h s) T → Fringe Y h T d s p f
+      pub overshoot-edge :
+          (d : ℕ) (s : Y .State) (p : List ℕ) (f : ℕ) → Within (h s) T → Overshoot Y h T d s p f
           → Edge Y h T (s ∷ []) s 0 p f
       unfolding ProperFrom
-      fringe-edge d s p f a v =
+      overshoot-edge d s p f a v =
           let (t, e) = v .open-list .applies in
           from-edge (s ∷ []) s 0 p f t (at-start s a) (open-trail Y d s p t (v .open-list) e)
           (figure-from s p ∙ v .figured) (v .above)
           (λ q i r e. within (sym (figure-from s q)) (v .proper q i r e))
 
-      -- what a round without a plan leaves is the least figure of the fringe
+      -- what a round without a plan leaves is the least overshoot
       pub next-least :
           (A : Allowance) (d : ℕ) (s : Y .State) (u w : ℕ) (o : Estimate) → Within (h s) T
           → round Y h A d s T u ≡ on w o
@@ -248,10 +248,10 @@ module _ (Y : System) (h : Y .State → Estimate) where
       next-least A d s u w o a e =
           let y = round-passed Y h T L A d s u w o e in
           record {
-            low = λ p f v. y .below p f (v .open-list .short) (fringe-edge d s p f a v);
+            least = λ p f v. y .below p f (v .open-list .short) (overshoot-edge d s p f a v);
             one-of =
                 elim (y .attained)
-                [ inl x ↦ inl x | inr x ↦ inr (x .0, x .1, edge-fringe d s (x .0) (x .1) a (x .2) (x .3), x .4) ];
+                [ inl x ↦ inl x | inr x ↦ inr (x .0, x .1, edge-overshoot d s (x .0) (x .1) a (x .2) (x .3), x .4) ];
           }
 
 -- so it is in every round that the search comes to

@@ -13,4 +13,5 @@ pub mod Demand
 pub mod Figures
 pub mod LogCounts
 pub mod LogLaws
+pub mod Thresholds
 pub mod Images

@@ -1,6 +1,6 @@
--- A round's visits are as many as its log is long, and it finds a plan just where
--- the log has ended (`log-counts`). Shown part by part (`Counts`). With what the
--- log holds, this shows what visits are counted of; nothing else rests on it.
+-- A round's visits are as many as its log is long, and it finds a plan just where the log has ended (`log-counts`).
+-- Shown part by part (`Counts`). With what the log holds, this shows what visits are counted of; that the visits of a
+-- search are those of its rounds rests on it.
 use mathlib.Core.Path.{_≡_, refl, sym}
 use mathlib.Core.Bool.{Bool, true, false, true≢false}
 use mathlib.Core.List.{List, [], _∷_}
@@ -8,7 +8,7 @@ use Prim.Native.Nat.{ℕ, zero, suc, _+_}
 use native.Mathlib.Omega.{arith}
 use lib.ListN.{length, length-append, length-map}
 use Rattle.rounds.specs.Systems.{System, Estimate, mark}
-use Rattle.rounds.specs.Rounds.{free, Progress, on, hit, stop, Offer, cut, over, due, andThen, behind, takeUp}
+use Rattle.rounds.specs.Rounds.{free, Progress, on, hit, stop, Offer, cut, overshoot, due, andThen, behind, takeUp}
 use Rattle.rounds.specs.Rounds.{arrive, Visitor, offer, extend, visit, round}
 use Rattle.rounds.specs.Logs.{Log, log, logAfter, logThen, logBehind, logTake, logArrive, logExtend, logVisit}
 use Rattle.rounds.specs.Logs.{roundLog}
@@ -34,7 +34,7 @@ counts-take :
     → ((t : S) → Counts u (next t u o) (other t)) → Counts u (takeUp x r next u o) (logTake x r other)
 unfolding takeUp logTake
 counts-take cut r next other u o c = counts-on u o
-counts-take (over f) r next other u o c = counts-on u _
+counts-take (overshoot f) r next other u o c = counts-on u _
 counts-take (due t) r next other u o c = counts-behind u r (next t u o) (other t) (c t)
 
 counts-after :

@@ -11,15 +11,16 @@ use native.Mathlib.Omega.{arith}
 use lib.ListN.{length}
 use Rattle.rounds.specs.Systems.{System, Estimate, Within, Lawful}
 use Rattle.rounds.specs.OpenLists.{Before, Sooner}
-use Rattle.rounds.specs.Rounds.{Allowance, Offer, cut, over, due, offer}
+use Rattle.rounds.specs.Rounds.{Allowance, Offer, cut, overshoot, due, offer}
 use Rattle.rounds.specs.Logs.{Log, log, Member, Rising, logAfter, logThen, logBehind, logTake, logArrive}
 use Rattle.rounds.specs.Logs.{logExtend, logVisit, roundLog, Logged}
+use Rattle.rounds.specs.Thresholds.{RoundAt}
 use Rattle.rounds.proofs.OpenListLaws.{trail-run}
 use Rattle.rounds.proofs.ListSets.{Short, Only, From, only-from, later-from, from-split, from-none, from-short}
 use Rattle.rounds.proofs.ListSets.{only-sooner}
 use Rattle.rounds.proofs.OneRound.{OnDue, Visited, Hits, not-goal, visited-at, none-due, at-visited, due-rule}
 use Rattle.rounds.proofs.ReachingLists.{visited-trail}
-use Rattle.rounds.proofs.Demand.{RoundAt, before-antisym}
+use Rattle.rounds.proofs.Demand.{before-antisym}
 use Rattle.rounds.proofs.Figures.{visited-in, in-visited, start-within}
 
 member-append : (p : List ℕ) (xs ys : List (List ℕ)) → Member p (xs ++ ys) → Member p xs ⊎ Member p ys
@@ -162,7 +163,7 @@ module _ (Y : System) (h : Y .State → Estimate) (T : ℕ) where
         → LogSays seen s g (Only i d) (logTake x i next)
     unfolding logTake
     take-holds cut e next ih = nothing cut e (λ P w. w)
-    take-holds (over f) e next ih = nothing (over f) e (λ P w. w)
+    take-holds (overshoot f) e next ih = nothing (overshoot f) e (λ P w. w)
     take-holds (due t) e next ih = behind-holds t e (next t) (ih t)
 
     after-holds :
@@ -342,14 +343,14 @@ module _ (Y : System) (h : Y .State → Estimate) (T : ℕ) where
           first q l (t, v, g) =
               let (x, y) = visited-in Y h T L D s q t w l v in
               let tr = visited-trail Y h T L (s ∷ []) s 0 q t v in
-              f q x y (record { last = t; runs = trail-run Y (s ∷ []) s q t tr; meets = g })
+              f q x y (record { final = t; runs = trail-run Y (s ∷ []) s q t tr; meets = g })
 
       due-logged : (p : List ℕ) → Due (s ∷ []) s 0 (Short D) p → Logged Y h T D s p
       due-logged p (l, (t, v), f) =
           let (x, y) = visited-in Y h T L D s p t w l v in (
             x,
             y,
-            λ q o i r. f q (o .short) (r .last, in-visited Y h T L D s q (r .last) o (r .runs) i, r .meets),
+            λ q o i r. f q (o .short) (r .final, in-visited Y h T L D s q (r .final) o (r .runs) i, r .meets),
           )
 
       -- the same by the definitions alone

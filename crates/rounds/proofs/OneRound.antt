@@ -12,7 +12,7 @@ use native.Mathlib.Omega.{arith}
 use lib.ListN.{length}
 use Rattle.rounds.specs.Systems.{System, Estimate, mark, at, Within, lower, Lawful}
 use Rattle.rounds.specs.OpenLists.{Before, totalCost}
-use Rattle.rounds.specs.Rounds.{Allowance, allows, Progress, on, hit, stop, Offer, cut, over, due, andThen}
+use Rattle.rounds.specs.Rounds.{Allowance, allows, Progress, on, hit, stop, Offer, cut, overshoot, due, andThen}
 use Rattle.rounds.specs.Rounds.{behind, takeUp, arrive, Visitor, offered, offer, extend, visit, round}
 use Rattle.rounds.proofs.EstimateLaws.{lower-within, lower-kept, lower-cases}
 use Rattle.rounds.proofs.ListSets.{Short, Only, From, only-from, later-from, from-split, from-none, from-short}
@@ -21,13 +21,13 @@ use Rattle.rounds.proofs.ListSets.{only-sooner}
 -- what holds of the state that is offered for a visit
 abbrev pub OnDue : {S : Type 0} → Offer S → (S → Type 0) → Type 0
 OnDue cut P = ⊥
-OnDue (over f) P = ⊥
+OnDue (overshoot f) P = ⊥
 OnDue (due m) P = P m
 
 -- what holds where p is all that is left and its figure is f, or else of the state that is offered
 abbrev pub OnEdge : {S : Type 0} → Offer S → List ℕ → ℕ → (S → Type 0) → Type 0
 OnEdge cut p f P = ⊥
-OnEdge (over e) p f P = (p ≡ []) × (e ≡ f)
+OnEdge (overshoot e) p f P = (p ≡ []) × (e ≡ f)
 OnEdge (due m) p f P = P m
 
 module _ (Y : System) (h : Y .State → Estimate) (T : ℕ) where
@@ -207,22 +207,22 @@ module _ (Y : System) (h : Y .State → Estimate) (T : ℕ) where
         below : (p : List ℕ) (f : ℕ) → Only i d p → Edge seen s g p f → Within o f
         below [] f w x = absurd w
         below (r ∷ p) f w x = absurd (edge-at seen s g i cut e r p f (w .0) x)
-    take-up-says (over z) e next ih u o =
+    take-up-says (overshoot z) e next ih u o =
         record {
-          missed = λ p w x. none-due seen s g i (over z) e (λ P y. y) d p (x .0) w (x .1);
+          missed = λ p w x. none-due seen s g i (overshoot z) e (λ P y. y) d p (x .0) w (x .1);
           below = below;
           kept = λ f w. lower-kept z f o w;
           attained =
               elim (lower-cases z o) [
                 | inl f ↦ inl f
-                | inr f ↦ inr (i ∷ [], z, (refl, omega arith), at-edge seen s g i (over z) e [] z (refl, refl), f)
+                | inr f ↦ inr (i ∷ [], z, (refl, omega arith), at-edge seen s g i (overshoot z) e [] z (refl, refl), f)
               ];
         }
       where
         below : (p : List ℕ) (f : ℕ) → Only i d p → Edge seen s g p f → Within (lower z o) f
         below [] f w x = absurd w
         below (r ∷ p) f w x =
-            lower-within z f o (let q = edge-at seen s g i (over z) e r p f (w .0) x in omega (arith, q .1))
+            lower-within z f o (let q = edge-at seen s g i (overshoot z) e r p f (w .0) x in omega (arith, q .1))
     take-up-says (due t) e next ih u o = behind-says t e o (next t u o) (ih t u o)
 
   -- ---- the extensions of a list, and a visit

@@ -3,14 +3,14 @@
 -- rules and no more cost (`shortcut`). What is shown of visited lists and of plans rests on these.
 use mathlib.Core.Path.{_≡_, refl, ap, ap₂, subst, sym, _∙_}
 use mathlib.Core.Bool.{Bool, true, false, _||_, false≢true}
-use mathlib.Core.Option.{Option, none, some, Option·none-ne-some, Option·some-injective}
+use mathlib.Core.Option.{Option, none, some, Option·none-ne-some, Option·some-injective, bind}
 use mathlib.Core.List.{List, [], _∷_}
 use Prim.Native.Nat.{ℕ, _≤_}
 use native.Mathlib.Omega.{arith}
 use lib.ListN.{length}
 use Rattle.basics.proofs.Truth.{true-false, not-so, or-false}
 use Rattle.rounds.specs.Systems.{System, Lawful}
-use Rattle.rounds.specs.OpenLists.{Avoids, Once, bind, follow, run, totalCost, rest, path, Open, Reaches}
+use Rattle.rounds.specs.OpenLists.{Avoids, Once, follow, run, totalCost, rest, path, Open, Reaches}
 use Rattle.rounds.specs.Rounds.{occurs}
 
 -- each of a list is none of another
@@ -36,6 +36,7 @@ apart-tail m (x ∷ xs) seen a = (a .0 .1, apart-tail m xs seen (a .1))
 
 module _ (Y : System) where
   pub run-step : (r : ℕ) (s m : Y .State) (p : List ℕ) → Y .step r s ≡ some m → run Y s (r ∷ p) ≡ run Y m p
+  unfolding bind
   run-step r s m p e = ap (λ (x : Option (Y .State)). bind x (λ t. run Y t p)) e
 
   pub rest-step : (r : ℕ) (s m : Y .State) (p : List ℕ) → Y .step r s ≡ some m → rest Y s (r ∷ p) ≡ path Y m p
@@ -44,6 +45,7 @@ module _ (Y : System) where
   run-split :
       (x : Option (Y .State)) (p : List ℕ) (t : Y .State) → bind x (λ m. run Y m p) ≡ some t
       → (m : Y .State) × (x ≡ some m) × (run Y m p ≡ some t)
+  unfolding bind
   run-split none p t e = absurd (Option·none-ne-some t e)
   run-split (some m) p t e = (m, refl, e)
 
@@ -181,10 +183,10 @@ module _ (Y : System) where
         (d : ℕ) (s : Y .State) (p : List ℕ) → Reaches Y s p → length p ≤ d
         → (q : List ℕ) × Open Y d s q × Reaches Y s q × (length q ≤ length p) × (totalCost Y q ≤ totalCost Y p)
     shortcut d s p w l =
-        let c : Loopless s (w .last) p = loopless s (w .last) p (w .runs) in (
+        let c : Loopless s (w .final) p = loopless s (w .final) p (w .runs) in (
           c .plan,
-          record { applies = (w .last, c .runs); once = c .once; short = omega (arith, c .shorter) },
-          record { last = w .last; runs = c .runs; meets = w .meets },
+          record { applies = (w .final, c .runs); once = c .once; short = omega (arith, c .shorter) },
+          record { final = w .final; runs = c .runs; meets = w .meets },
           c .shorter,
           c .cheaper,
         )

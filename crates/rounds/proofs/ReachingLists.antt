@@ -14,7 +14,7 @@ use lib.Dec.{leb}
 use borrow.Author.Tests.{leb-true, leb-false}
 use Rattle.rounds.specs.Systems.{System, Estimate, mark, at, plus, Lawful, Passing}
 use Rattle.rounds.specs.OpenLists.{run, totalCost}
-use Rattle.rounds.specs.Rounds.{occurs, Offer, cut, over, due, judge, rate, weigh, offered, offer}
+use Rattle.rounds.specs.Rounds.{occurs, Offer, cut, overshoot, due, judge, rate, weigh, offered, offer}
 use Rattle.rounds.proofs.OpenListLaws.{Trail, run-cons, fresh-avoids, avoids-fresh, trail-run}
 use Rattle.rounds.proofs.OneRound.{OnDue, OnEdge, Visited, Edge, at-visited, at-edge}
 
@@ -47,7 +47,7 @@ module _ (Y : System) (h : Y .State → Estimate) (T : ℕ) where
   -- what an offer of rule r at a list of cost g with last state s says
   abbrev pub Sound : List (Y .State) → Y .State → ℕ → ℕ → Offer (Y .State) → Type 0
   Sound seen s g r cut = Unit {0}
-  Sound seen s g r (over f) = (m : Y .State) × (k : ℕ) × Leads Y h seen s r m k × (f ≡ g + Y .cost r + k) × (T < f)
+  Sound seen s g r (overshoot f) = (m : Y .State) × (k : ℕ) × Leads Y h seen s r m k × (f ≡ g + Y .cost r + k) × (T < f)
   Sound seen s g r (due m) = (k : ℕ) × Leads Y h seen s r m k × (g + Y .cost r + k ≤ T)
 
   module _ (seen : List (Y .State)) (s : Y .State) (g r : ℕ) where
@@ -91,7 +91,7 @@ module _ (Y : System) (h : Y .State → Estimate) (T : ℕ) where
     abbrev pub DueOrOver : Y .State → ℕ → Type 0
     DueOrOver m k =
         ((g + Y .cost r + k ≤ T) × (offer Y h T seen s g r ≡ due m))
-        ⊎ ((T < g + Y .cost r + k) × (offer Y h T seen s g r ≡ over (g + Y .cost r + k)))
+        ⊎ ((T < g + Y .cost r + k) × (offer Y h T seen s g r ≡ overshoot (g + Y .cost r + k)))
 
     pub offer-cases : (m : Y .State) (k : ℕ) → Leads Y h seen s r m k → DueOrOver m k
     offer-cases m k w = go (leb (g + Y .cost r + k) T) refl (offer-judge m k w)
@@ -116,7 +116,7 @@ module _ (Y : System) (h : Y .State → Estimate) (T : ℕ) where
             (x : Offer (Y .State)) → Sound seen s g r x → OnDue x (λ m. Visited Y h T (m ∷ seen) m (g + Y .cost r) p t)
             → Onward
         go cut f w = absurd w
-        go (over z) f w = absurd w
+        go (overshoot z) f w = absurd w
         go (due m) f w = (m, f .0, f .1, f .2, w)
 
   pub edge-above :
@@ -129,7 +129,7 @@ module _ (Y : System) (h : Y .State → Estimate) (T : ℕ) where
           (x : Offer (Y .State)) → Sound seen s g r x → OnEdge x p f (λ m. Edge Y h T (m ∷ seen) m (g + Y .cost r) p f)
           → ((m : Y .State) → Edge Y h T (m ∷ seen) m (g + Y .cost r) p f → T < f) → T < f
       go cut w e ih = absurd e
-      go (over z) w e ih = omega (arith, w .4, e .1)
+      go (overshoot z) w e ih = omega (arith, w .4, e .1)
       go (due m) w e ih = ih m e
 
   pub visited-cost :
@@ -176,7 +176,7 @@ module _ (Y : System) (h : Y .State → Estimate) (T : ℕ) where
               → Visited Y h T seen s g (r ∷ p) t ⊎ EdgeUnder seen s g (r ∷ p)
           go m k l (inr x) y =
               let f : ℕ = g + Y .cost r + k in
-              inr (r ∷ [], f, at-edge Y h T seen s g r (over f) (x .1) [] f (refl, refl), omega arith, omega arith)
+              inr (r ∷ [], f, at-edge Y h T seen s g r (overshoot f) (x .1) [] f (refl, refl), omega arith, omega arith)
           go m k l (inl x) (inl v) = inl (at-visited Y h T seen s g r (due m) (x .1) p t v)
           go m k l (inl x) (inr (q, f, e, c, n)) =
               inr (r ∷ q, f, at-edge Y h T seen s g r (due m) (x .1) q f e, omega arith, omega arith)

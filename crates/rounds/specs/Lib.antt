@@ -5,3 +5,4 @@ pub mod OpenLists
 pub mod Rounds
 pub mod Promises
 pub mod Logs
+pub mod Thresholds

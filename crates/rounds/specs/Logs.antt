@@ -1,5 +1,5 @@
 -- The lists that a round with no allowance visits, in the order of the visits: its log (`roundLog`), built beside the
--- round, part by part. That visits are counted list by list, a list anew in each round, is stated with it; `Logged`
+-- round, part by part. Visits are counted list by list, a list anew in each round, with it (`roundVisits`); `Logged`
 -- says by figures which lists they are, and `Rising` their order.
 use mathlib.Core.Path.{_≡_}
 use mathlib.Core.Logic.{_⊎_}
@@ -8,15 +8,19 @@ use mathlib.Core.List.{List, [], _∷_, _++_, map}
 use Prim.Native.Nat.{ℕ, zero, suc, _+_}
 use Rattle.rounds.specs.Systems.{System, Estimate}
 use Rattle.rounds.specs.OpenLists.{Before, Sooner, Open, Reaches}
-use Rattle.rounds.specs.Rounds.{Offer, cut, over, due, offer}
+use Rattle.rounds.specs.Rounds.{Offer, cut, overshoot, due, offer}
 use Rattle.rounds.specs.Promises.{InRound}
 
 -- the lists visited, and whether the last meets a goal
 pub data Log : Type 0 where
   log : (lists : List (List ℕ)) (ended : Bool) → Log
 
--- p is one of the lists
-abbrev pub Member : List ℕ → List (List ℕ) → Type 0
+-- the lists of a log
+abbrev pub listsOf : Log → List (List ℕ)
+listsOf (log xs b) = xs
+
+-- p is one of a list
+abbrev pub Member : {A : Type 0} → A → List A → Type 0
 Member p [] = ⊥
 Member p (x ∷ xs) = (p ≡ x) ⊎ Member p xs
 
@@ -41,7 +45,7 @@ logBehind r (log xs b) = log (map (λ p. r ∷ p) xs) b
 -- the log of `takeUp`
 unfoldable pub logTake : {S : Type 0} → Offer S → ℕ → (S → Log) → Log
 logTake cut r next = log [] false
-logTake (over f) r next = log [] false
+logTake (overshoot f) r next = log [] false
 logTake (due t) r next = logBehind r (next t)
 
 -- the log of `arrive`, where the visit is allowed

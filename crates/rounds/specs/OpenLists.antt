@@ -4,18 +4,13 @@
 use mathlib.Core.Path.{_≡_}
 use mathlib.Core.Logic.{_⊎_}
 use mathlib.Core.Bool.{true}
-use mathlib.Core.Option.{Option, none, some}
+use mathlib.Core.Option.{Option, none, some, bind}
 use mathlib.Core.List.{List, [], _∷_}
 use Prim.Native.Nat.{ℕ, _+_, _≤_, _<_}
 use lib.ListN.{length}
 use Rattle.rounds.specs.Systems.{System, Estimate, mark, plus}
 
--- go on from a state, where there is one
-abbrev pub bind : {A B : Type 0} → Option A → (A → Option B) → Option B
-bind none f = none
-bind (some a) f = f a
-
--- the same with a list, empty where there is none
+-- a list that goes on from a state, and is empty where there is none
 abbrev pub follow : {A B : Type 0} → Option A → (A → List B) → List B
 follow none f = []
 follow (some a) f = f a
@@ -74,9 +69,9 @@ module _ (Y : System) where
 
   -- a list that reaches a goal; it may pass a state twice
   pub record Reaches (s : Y .State) (p : List ℕ) : Type 0 where
-    pub last : Y .State
-    pub runs : run s p ≡ some last
-    pub meets : Y .goal last ≡ true
+    pub final : Y .State
+    pub runs : run s p ≡ some final
+    pub meets : Y .goal final ≡ true
 
   -- the figure of a list: its cost plus the estimate of its last state
   abbrev pub figure : (Y .State → Estimate) → Y .State → List ℕ → Estimate

@@ -1,6 +1,7 @@
 -- What is promised of an answer (`Kept`, demand 3), and which plan is found (`BestPlan`); the search's own promises are
 -- made of these. A round by the figures of its lists (document 01): those it visits (`InRound`), those one rule past
--- them (`Fringe`), and the next threshold (`NextThreshold`); `Figures` shows the rounds to be that.
+-- them, with an overshoot (`Overshoot`), and the next threshold (`NextThreshold`); `Figures` shows the rounds to be
+-- that.
 use mathlib.Core.Path.{_≡_}
 use mathlib.Core.Logic.{_⊎_, _↔_}
 use mathlib.Core.List.{List, _∷_, _++_}
@@ -21,25 +22,24 @@ module _ (Y : System) (D : ℕ) (s : Y .State) where
     pub reaches : Reaches Y s p
     pub within : totalCost Y p ≤ B
     pub cheapest : Floor (totalCost Y p)
-    pub first : (q : List ℕ) → Open Y D s q → Reaches Y s q → totalCost Y q ≡ totalCost Y p → Before p q
+    pub earliest : (q : List ℕ) → Open Y D s q → Reaches Y s q → totalCost Y q ≡ totalCost Y p → Before p q
 
 module _ (Y : System) (h : Y .State → Estimate) (T : ℕ) where
   -- p and all its prefixes have a figure of at most T
   unfoldable pub InRound : Y .State → List ℕ → Type 0
   InRound s p = (q z : List ℕ) → p ≡ q ++ z → Within (figure Y h s q) T
 
-  -- an open list with figure f, above T, whose proper prefixes all have a figure of at most T
-  pub record Fringe (d : ℕ) (s : Y .State) (p : List ℕ) (f : ℕ) : Type 0 where
+  -- f is an overshoot of p: p is open with figure f, above T, and its proper prefixes all have a figure of at most T
+  pub record Overshoot (d : ℕ) (s : Y .State) (p : List ℕ) (f : ℕ) : Type 0 where
     pub open-list : Open Y d s p
     pub figured : figure Y h s p ≡ at f
     pub above : T < f
     pub proper : (q : List ℕ) (i : ℕ) (z : List ℕ) → p ≡ q ++ i ∷ z → Within (figure Y h s q) T
 
-  -- o is the next threshold after a round at T with step limit
-  -- d: the least figure of the fringe, the mark if there is none
+  -- o is the next threshold after a round at T with step limit d: the least overshoot, the mark if there is none
   pub record NextThreshold (d : ℕ) (s : Y .State) (o : Estimate) : Type 0 where
-    pub low : (p : List ℕ) (f : ℕ) → Fringe d s p f → Within o f
-    pub one-of : (o ≡ mark) ⊎ ((p : List ℕ) × (f : ℕ) × Fringe d s p f × (o ≡ at f))
+    pub least : (p : List ℕ) (f : ℕ) → Overshoot d s p f → Within o f
+    pub one-of : (o ≡ mark) ⊎ ((p : List ℕ) × (f : ℕ) × Overshoot d s p f × (o ≡ at f))
 
 -- demand 3, for the answer a from s with step limit D, cost limit B and visit allowance v
 pub record Kept (Y : System) (h : Y .State → Estimate) (D B v : ℕ) (s : Y .State) (a : Answer) : Type 0 where

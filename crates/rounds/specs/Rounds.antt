@@ -22,7 +22,7 @@ allows (upto v) u = ltb u v
 -- what a round, or a part of one, leaves: the visits used and the
 -- least overshoot so far; the plan and its cost; or no visit left
 pub data Progress : Type 0 where
-  on : (used : ℕ) (over : Estimate) → Progress
+  on : (used : ℕ) (overshoot : Estimate) → Progress
   hit : (used : ℕ) (plan : List ℕ) (cost : ℕ) → Progress
   stop : (used : ℕ) → Progress
 
@@ -56,17 +56,17 @@ plan (found u p c) = p
 plan (noPlan u) = []
 plan (spent u) = []
 
--- what a rule offers at a list: nothing, a figure above the threshold, or a state to visit
+-- what a rule offers at a list: nothing, an overshoot (a figure above the threshold), or a state to visit
 pub data Offer (S : Type 0) : Type 0 where
   cut : Offer S
-  over : ℕ → Offer S
+  overshoot : ℕ → Offer S
   due : S → Offer S
 
 module _ {S : Type 0} where
   -- whether the figure f of t is at most the threshold
   abbrev pub judge : Bool → S → ℕ → Offer S
   judge true t f = due t
-  judge false t f = over f
+  judge false t f = overshoot f
 
   -- a list without a figure is cut
   abbrev pub rate : ℕ → S → Estimate → Offer S
@@ -93,7 +93,7 @@ behind r (stop u) = stop u
 -- take up the offer of rule r; `next` visits a state
 unfoldable pub takeUp : {S : Type 0} → Offer S → ℕ → (S → ℕ → Estimate → Progress) → ℕ → Estimate → Progress
 takeUp cut r next u o = on u o
-takeUp (over f) r next u o = on u (lower f o)
+takeUp (overshoot f) r next u o = on u (lower f o)
 takeUp (due t) r next u o = behind r (next t u o)
 
 -- the answer after a round; `again` goes on at the next threshold, and without one there is no plan

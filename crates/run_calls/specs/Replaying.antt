@@ -1,14 +1,18 @@
 -- Replaying a recorded run, as a public call: `replayRun` is the answer with the final contents of the lent buffer, for
--- every input. `replayOf` gives the document's answer for each case of the enum.
+-- every input, and `ReplayKept` what the call promises. `replayOf` gives the document's answer for each case of the
+-- enum.
+use mathlib.Core.Path.{_≡_}
 use Prim.Native.Nat.{ℕ}
+use mathlib.Core.Bool.{true}
 use mathlib.Core.List.{List, [], _∷_, _++_}
 use lib.Dec.{leb}
-use lib.ListN.{length}
+use lib.ListN.{length, take}
 use Rattle.basics.specs.Lists.{atFront}
 use Rattle.refusals.specs.Answers.{Answer, refused, told, Condition, _unless_, verdict, Outcome, outcome, guarded}
 use Rattle.refusals.specs.Refusals.{refusalNumber}
 use Rattle.blocks.specs.Layout.{positions}
-use Rattle.runs.specs.Replay.{numbersOk, longestList, replayEnding, replayState}
+use Rattle.blocks.specs.States.{stateOk}
+use Rattle.runs.specs.Replay.{numbersOk, longestList, replayEnding, replayState, DoneAt, StuckAt}
 use Rattle.runs.specs.declared.replay.Replayed.{Replayed}
 use Rattle.runs.specs.declared.replay.Replayed.the-variants as replayed
 use Rattle.psvn_calls.specs.Checking.{stateConditions}
@@ -32,3 +36,11 @@ unfoldable pub replayRun : List ℕ → List ℕ → List ℕ → List ℕ → O
 replayRun b s rs out =
     guarded (verdict (replayConditions b s rs (length out))) out
     (outcome (told (replayEnding b s rs)) (atFront (replayState b s rs) out))
+
+-- done or stuck in the state at the front of the buffer, which is a state of the exercise
+abbrev pub ReplayKept : List ℕ → List ℕ → List ℕ → Answer Replayed → List ℕ → Type 0
+ReplayKept b s rs (told (replayed.Done end)) out =
+    DoneAt b s rs end (take (positions b) out) × (stateOk b (take (positions b) out) ≡ true)
+ReplayKept b s rs (told (replayed.Stuck end)) out =
+    StuckAt b s rs end (take (positions b) out) × (stateOk b (take (positions b) out) ≡ true)
+ReplayKept b s rs (refused number) out = Unit {0}

@@ -2,7 +2,7 @@
 ghost use mathlib.Core.Path.{_≡_};
 ghost use Rattle.refusals.specs.Answers.{verdict, outcome};
 ghost use Rattle.refusals.specs.Refusals.{verdictOf};
-ghost use Rattle.run_calls.specs.Replaying.{replayOf, replayConditions, replayRun};
+ghost use Rattle.run_calls.specs.Replaying.{replayOf, replayConditions, replayRun, ReplayKept};
 use psvn_calls::check_state;
 use refusals::Refusal;
 use refusals::Verdict;
@@ -44,6 +44,8 @@ fn check_replay(block: &[u8], start: &[u8], list: &[u8], room: usize) -> Verdict
 pub fn replay_run(block: &[u8], start: &[u8], list: &[u8], out: &mut [u8]) -> Replay
     ensures { λ r. ⌜ outcome (replayOf r) (now (out .exit)) ≡
         replayRun (now (block .entry)) (now (start .entry)) (now (list .entry)) (now (out .entry)) ⌝ }
+    ensures { λ r. ⌜ ReplayKept (now (block .entry)) (now (start .entry)) (now (list .entry))
+        (replayOf r) (now (out .exit)) ⌝ }
 {
     let checked = check_replay(block, start, list, out.len());
     if let Verdict::Refused(refusal) = checked {

@@ -19,26 +19,10 @@ use Rattle.psvn.specs.Rules.{applies}
 use Rattle.psvn.specs.Runs.{RuleNumbers, applyInTurn, run, totalCost}
 use Rattle.psvn.proofs.RunLaws.{in-turn-at, in-turn-intro, run-length, run-state}
 use Rattle.runs.specs.Replay.{numbersOk, appliedCount, applied}
-use Rattle.runs.specs.Replay.{replayEnd, replayEnding, replayState}
+use Rattle.runs.specs.Replay.{replayEnd, replayEnding, replayState, DoneAt, StuckAt}
 use Rattle.runs.specs.declared.replay.RunEnd.{RunEnd}
 use Rattle.runs.specs.declared.replay.Replayed.{Replayed}
 use Rattle.runs.specs.declared.replay.Replayed.the-variants.{Done, Stuck}
-
--- done at e: the rules apply in turn, and these are their number, their cost and the last state
-pub record DoneAt (b s rs : List ℕ) (e : RunEnd) : Type 0 where
-  pub in-turn : applyInTurn b s rs ≡ true
-  pub steps : e .steps ≡ length rs
-  pub cost : e .cost ≡ totalCost b rs
-  pub state : replayState b s rs ≡ run b s rs
-
--- stuck at e: the rules before its index apply in turn, the rule there does not apply then, and these are the cost and
--- the state there
-pub record StuckAt (b s rs : List ℕ) (e : RunEnd) : Type 0 where
-  pub within : e .steps < length rs
-  pub in-turn : applyInTurn b s (take (e .steps) rs) ≡ true
-  pub does-not-apply : applies b (getD rs (e .steps) 0) (run b s (take (e .steps) rs)) ≡ false
-  pub cost : e .cost ≡ totalCost b (take (e .steps) rs)
-  pub state : replayState b s rs ≡ run b s (take (e .steps) rs)
 
 -- each number by itself
 pub rule-numbers : (b rs : List ℕ) → numbersOk b rs ≡ true → RuleNumbers b rs
@@ -104,7 +88,7 @@ module _ (b s rs : List ℕ) where
   count-within = first-within (fails b s rs) (length rs)
 
   -- and back: by the count, a rule is left or none
-  stopped : ltb (appliedCount b s rs) (length rs) ≡ true → StuckAt b s rs (replayEnd b s rs)
+  stopped : ltb (appliedCount b s rs) (length rs) ≡ true → StuckAt b s rs (replayEnd b s rs) (replayState b s rs)
   unfolding appliedCount replayEnd
   stopped e =
       let n = appliedCount b s rs in
@@ -113,12 +97,13 @@ module _ (b s rs : List ℕ) where
       record {
         within = l;
         in-turn = before-intro n (omega arith) (first-least f (length rs));
-        does-not-apply = not-true _ (first-holds f (length rs) (sym (first-some f (length rs)) ∙ e) .1);
+        does-not-apply =
+            rw (state-at n refl) (not-true _ (first-holds f (length rs) (sym (first-some f (length rs)) ∙ e) .1));
         cost = refl;
         state = state-at n refl;
       }
 
-  finished : ltb (appliedCount b s rs) (length rs) ≡ false → DoneAt b s rs (replayEnd b s rs)
+  finished : ltb (appliedCount b s rs) (length rs) ≡ false → DoneAt b s rs (replayEnd b s rs) (replayState b s rs)
   unfolding appliedCount replayEnd
   finished e =
       let n = appliedCount b s rs in
@@ -133,20 +118,20 @@ module _ (b s rs : List ℕ) where
         state = state-at n refl ∙ ap (run b s) all;
       }
 
-  pub done-in-turn : (d : RunEnd) → replayEnding b s rs ≡ Done d → DoneAt b s rs d
+  pub done-in-turn : (d : RunEnd) → replayEnding b s rs ≡ Done d → DoneAt b s rs d (replayState b s rs)
   unfolding replayEnding
   done-in-turn d h = go (ltb (appliedCount b s rs) (length rs)) refl
     where
-      go : (t : Bool) → ltb (appliedCount b s rs) (length rs) ≡ t → DoneAt b s rs d
+      go : (t : Bool) → ltb (appliedCount b s rs) (length rs) ≡ t → DoneAt b s rs d (replayState b s rs)
       go true e = absurd (let z : _≡_ {A = ℕ} 0 1 = cc (e, h) in omega arith)
-      go false e = let q : replayEnd b s rs ≡ d = cc (e, h) in subst (DoneAt b s rs) q (finished e)
+      go false e = let q : replayEnd b s rs ≡ d = cc (e, h) in subst (λ (e : RunEnd). DoneAt b s rs e (replayState b s rs)) q (finished e)
 
-  pub stuck-at : (d : RunEnd) → replayEnding b s rs ≡ Stuck d → StuckAt b s rs d
+  pub stuck-at : (d : RunEnd) → replayEnding b s rs ≡ Stuck d → StuckAt b s rs d (replayState b s rs)
   unfolding replayEnding
   stuck-at d h = go (ltb (appliedCount b s rs) (length rs)) refl
     where
-      go : (t : Bool) → ltb (appliedCount b s rs) (length rs) ≡ t → StuckAt b s rs d
-      go true e = let q : replayEnd b s rs ≡ d = cc (e, h) in subst (StuckAt b s rs) q (stopped e)
+      go : (t : Bool) → ltb (appliedCount b s rs) (length rs) ≡ t → StuckAt b s rs d (replayState b s rs)
+      go true e = let q : replayEnd b s rs ≡ d = cc (e, h) in subst (λ (e : RunEnd). StuckAt b s rs e (replayState b s rs)) q (stopped e)
       go false e = absurd (let z : _≡_ {A = ℕ} 0 1 = cc (e, h) in omega arith)
 
   -- the state there

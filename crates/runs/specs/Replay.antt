@@ -1,15 +1,16 @@
 -- Replaying a recorded run, at most 4,096 rule numbers from a start: 'done', or 'stuck' at the first index whose rule
 -- does not apply (`replayEnding`); either way with the cost so far, and the state there written out (`replayState`).
--- The public call to replay a run is stated with these.
-use Prim.Native.Nat.{ℕ}
-use mathlib.Core.Bool.{Bool, cond, not}
+-- What the two mean is `DoneAt` and `StuckAt`. The public call to replay a run is stated with these.
+use mathlib.Core.Path.{_≡_}
+use Prim.Native.Nat.{ℕ, _<_}
+use mathlib.Core.Bool.{Bool, true, false, cond, not}
 use mathlib.Core.List.{List}
 use lib.Dec.{ltb}
 use lib.ListN.{length, getD, take}
 use Rattle.basics.specs.Bounded.{all, first}
 use Rattle.blocks.specs.Layout.{rules}
 use Rattle.psvn.specs.Rules.{applies}
-use Rattle.psvn.specs.Runs.{run, totalCost}
+use Rattle.psvn.specs.Runs.{applyInTurn, run, totalCost}
 use Rattle.runs.specs.declared.replay.RunEnd.{RunEnd}
 use Rattle.runs.specs.declared.replay.Replayed.{Replayed}
 use Rattle.runs.specs.declared.replay.Replayed.the-variants.{Done, Stuck}
@@ -40,3 +41,19 @@ replayEnding b s rs =
 
 unfoldable pub replayState : List ℕ → List ℕ → List ℕ → List ℕ
 replayState b s rs = run b s (applied b s rs)
+
+-- done in the state u: the rules apply in turn, and these are their number, their cost and the last state
+pub record DoneAt (b s rs : List ℕ) (end : RunEnd) (u : List ℕ) : Type 0 where
+  pub in-turn : applyInTurn b s rs ≡ true
+  pub steps : end .steps ≡ length rs
+  pub cost : end .cost ≡ totalCost b rs
+  pub state : u ≡ run b s rs
+
+-- stuck in the state u: the rules before the index apply in turn, these are their cost and the state that they lead
+-- to, and the rule at the index does not apply to it
+pub record StuckAt (b s rs : List ℕ) (end : RunEnd) (u : List ℕ) : Type 0 where
+  pub within : end .steps < length rs
+  pub in-turn : applyInTurn b s (take (end .steps) rs) ≡ true
+  pub cost : end .cost ≡ totalCost b (take (end .steps) rs)
+  pub state : u ≡ run b s (take (end .steps) rs)
+  pub does-not-apply : applies b (getD rs (end .steps) 0) u ≡ false

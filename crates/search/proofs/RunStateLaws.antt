@@ -10,6 +10,7 @@ use native.Mathlib.Nat.{mod-eq-of-lt}
 use lib.ListN.{length, getD, set, length-set}
 use lib.Seq.{getD-set-same, getD-set-other}
 use Rattle.basics.specs.Parts.{Outside}
+use Rattle.basics.specs.Marks.{largest32}
 use Rattle.basics.proofs.Parts.{outside-none, outside-set}
 use Rattle.tallies.specs.declared.Tally.{Tally}
 use Rattle.search.specs.Run.{runLength, threshold, allowance, stepLimit, visitsUsed, leastSoFar, tallyOf}
@@ -109,7 +110,7 @@ module _ (run : List ℕ) (long : length run ≡ runLength) (tally : Tally) wher
   least-at : leastSoFar both ≡ tally .least
   least-at = getD-set-same visited 263 (tally .least) 0 (omega (arith, length-set run 262 (tally .visits)))
 
-  pub carried-tally : tally .visits ≤ 4294967295 → Carried tally run both
+  pub carried-tally : tally .visits ≤ largest32 → Carried tally run both
   carried-tally small =
       record {
         told = ap₂ (λ (x y : ℕ). record { visits = x; least = y }) visits-at least-at;
@@ -121,7 +122,7 @@ module _ (run : List ℕ) (long : length run ≡ runLength) (tally : Tally) wher
 
 -- the tally that is carried already
 pub carried-same :
-    {run : List ℕ} {tally : Tally} → visitsUsed run ≤ 4294967295 → tallyOf run ≡ tally → Carried tally run run
+    {run : List ℕ} {tally : Tally} → visitsUsed run ≤ largest32 → tallyOf run ≡ tally → Carried tally run run
 carried-same {run} small e = record { told = e; visits-small = small; others = outside-none 262 264 run }
 
 -- ---- a list with one rule more

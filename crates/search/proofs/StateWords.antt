@@ -22,7 +22,7 @@ use Rattle.search.specs.Parts.{StateWord, Prepared}
 
 module _ {b code changes : List ℕ} (c : Compiled b code changes) where
   pub rules-few : rules b ≤ 64
-  rules-few = c .valid .sized .head .sizes .r-high
+  rules-few = c .valid .sized .headed .sizes .r-high
 
   pub good-step : (r w : ℕ) → r < rules b → StateWord b w → StateWord b (stepWord code r w)
   good-step r w l g =
@@ -41,7 +41,7 @@ module _ {b code changes : List ℕ} (k : Prepared b code changes) (w : ℕ) (g 
       )
 
   pub rank-small : rankWord changes (positions b) w < 16384
-  rank-small = omega (arith, rank-below, k .compiled .valid .sized .head .few)
+  rank-small = omega (arith, rank-below, k .compiled .valid .sized .headed .few)
 
 -- the rank that a rule leads to is that of the word it makes
 pub rank-after :

@@ -8,6 +8,7 @@ use Prim.Native.Nat.{ℕ, suc, _+_, _-_, _%_, _≤_, _<_}
 use lib.ListN.{length, getD}
 use Rattle.basics.specs.Parts.{Outside}
 use Rattle.basics.specs.Lists.{tabulateFrom}
+use Rattle.basics.specs.Marks.{largest32}
 use Rattle.tallies.specs.declared.Tally.{Tally}
 
 abbrev pub runLength : ℕ
@@ -67,7 +68,7 @@ pub record ListKept (depth : ℕ) (run run′ : List ℕ) : Type 0 where
 -- another tally is carried, and nothing else has changed
 pub record Carried (tally : Tally) (run run′ : List ℕ) : Type 0 where
   pub told : tallyOf run′ ≡ tally
-  pub visits-small : visitsUsed run′ ≤ 4294967295
+  pub visits-small : visitsUsed run′ ≤ largest32
   pub others : Outside 262 264 run run′
 
 -- the list with one rule more stands behind the list at a depth, and the tally is as it was

@@ -4,6 +4,7 @@
 ghost use mathlib.Core.Path.{_≡_};
 ghost use Prim.Native.Nat.{_≤_, _<_};
 ghost use lib.ListN.{length};
+ghost use Rattle.basics.specs.Marks.{largest32};
 ghost use Rattle.search.specs.Run.{runLength, visitsUsed, tallyOf, Carried, Put};
 use tallies::Tally;
 
@@ -35,7 +36,7 @@ pub type Run = [u64; RUN];
 
 // The tally that is carried.
 pub fn tally_of(run: &Run) -> Tally
-    requires { ⌜ visitsUsed (now run) ≤ 4294967295 ⌝ }
+    requires { ⌜ visitsUsed (now run) ≤ largest32 ⌝ }
     ensures { λ r. ⌜ r ≡ tallyOf (now (run .entry)) ⌝ }
 {
     Tally {

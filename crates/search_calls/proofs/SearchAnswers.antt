@@ -45,7 +45,7 @@ module _ (b s : List ℕ) (l : Limits) (t buffer buffer′ : List ℕ) where
   answered-by room (ending.NoPlan u) h = ap₂ answering (ap reported (h .told)) (h .written)
   answered-by room (ending.Spent u) h = ap₂ answering (ap reported (h .told)) (h .written)
 
-  pub kept-by : (r : Ending) → Answers b s l t buffer buffer′ r → PlanKept b s l t (givenAs r) buffer′
+  pub kept-by : (r : Ending) → Answers b s l t buffer buffer′ r → PlanKept b s l t (searchOf (givenAs r)) buffer′
   kept-by (ending.Found p) h = subst (SearchKept b s l t) (sym (h .told)) (h .kept)
   kept-by (ending.NoPlan u) h = subst (SearchKept b s l t) (sym (h .told)) (h .kept)
   kept-by (ending.Spent u) h = subst (SearchKept b s l t) (sym (h .told)) (h .kept)

@@ -1,7 +1,7 @@
 -- The search, as a public call: `findPlan` is the answer with the final contents of the plan buffer, for every input,
--- and `PlanKept` demand 3 for what the call itself gives. `searchOf` gives the document's answer for each case of the
+-- and `PlanKept` what the call promises, demand 3. `searchOf` gives the document's answer for each case of the
 -- enum, `reported` for an answer of the rounds.
-use Prim.Native.Nat.{ℕ}
+use Prim.Native.Nat.{ℕ, zero, suc}
 use mathlib.Core.List.{List, [], _∷_, _++_}
 use lib.Dec.{leb}
 use lib.ListN.{length, take}
@@ -56,10 +56,13 @@ findPlan b s l t buffer =
     guarded (verdict (searchConditions b s l t (length buffer))) buffer
     (outcome (told (reported (searchFrom b s l t))) (atFront (rounds.plan (searchFrom b s l t)) buffer))
 
--- demand 3, of the answer that the call gives with the plan in its buffer
-abbrev pub PlanKept : List ℕ → List ℕ → Limits → List ℕ → Search → List ℕ → Type 0
-PlanKept b s l t (Found plan) buffer =
-    SearchKept b s l t (rounds.found (plan .visits) (take (plan .steps) buffer) (plan .cost))
-PlanKept b s l t (NoPlan visits) buffer = SearchKept b s l t (rounds.noPlan visits)
-PlanKept b s l t (Spent visits) buffer = SearchKept b s l t (rounds.spent visits)
-PlanKept b s l t (Refused refusal) buffer = Unit {0}
+-- the answer of the rounds that an answer tells, with its plan read from the front of the buffer
+abbrev pub toldByStatus : ℕ → Plan → List ℕ → rounds.Answer
+toldByStatus zero plan buffer = rounds.found (plan .visits) (take (plan .steps) buffer) (plan .cost)
+toldByStatus (suc zero) plan buffer = rounds.noPlan (plan .visits)
+toldByStatus (suc (suc k)) plan buffer = rounds.spent (plan .visits)
+
+-- demand 3
+abbrev pub PlanKept : List ℕ → List ℕ → Limits → List ℕ → Answer SearchAnswer → List ℕ → Type 0
+PlanKept b s l t (told a) buffer = SearchKept b s l t (toldByStatus (a .status) (a .plan) buffer)
+PlanKept b s l t (refused number) buffer = Unit {0}

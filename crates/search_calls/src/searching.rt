@@ -63,8 +63,8 @@ pub fn find_plan(
 ) -> Search
     ensures { λ r. ⌜ outcome (searchOf r) (now (plan .exit)) ≡
         findPlan (now (block .entry)) (now (start .entry)) limits (now (table .entry)) (now (plan .entry)) ⌝ }
-    ensures { λ r. ⌜
-        PlanKept (now (block .entry)) (now (start .entry)) limits (now (table .entry)) r (now (plan .exit)) ⌝ }
+    ensures { λ r. ⌜ PlanKept (now (block .entry)) (now (start .entry)) limits (now (table .entry))
+        (searchOf r) (now (plan .exit)) ⌝ }
 {
     let checked = check_search(block, start, limits, table, plan.len());
     if let Verdict::Refused(refusal) = checked {

@@ -35,6 +35,8 @@ use Rattle.filling.proofs.LeastEntries.{least-entry}
 use Rattle.rounds.specs.Systems.{lower}
 use Rattle.rounds.specs.Rounds.{andThen, behind, takeUp, conclude, capped, begin, arrive, offer, extend, visit}
 use Rattle.rounds.specs.Rounds.{visits, round, rounds, roundsFrom, search}
+use Rattle.rounds.specs.Logs.{logThen, logBehind, logTake, logArrive, logExtend, logVisit, roundLog}
+use Rattle.rounds.specs.Thresholds.{thresholdsFrom, thresholds}
 use Rattle.search.specs.Exercises.{searchFrom}
 use Rattle.backward.specs.Predecessors.{NextState, from-first, after, found, none-further, isFound, writtenOut}
 use Rattle.backward.specs.Predecessors.{stepBack}
@@ -71,7 +73,8 @@ computing = tt
 -- and those for a search
 searching : Unit {0}
 unfolding relabelState entry estimate lower andThen behind takeUp conclude capped begin arrive offer extend visit
-    round rounds roundsFrom search visits searchFrom queryConditions lentConditions searchConditions findPlan
+    round rounds roundsFrom search logThen logBehind logTake logArrive logExtend logVisit roundLog thresholdsFrom
+    thresholds visits searchFrom queryConditions lentConditions searchConditions findPlan
 searching = tt
 
 -- and those for what `par` prints
@@ -102,7 +105,7 @@ only u ok h = one-predecessor exampleBlock 0 example-form exampleImage u example
 
 example-found : stepBack exampleBlock 0 exampleImage from-first ≡ found exampleState
 example-found =
-    next-found exampleBlock (example-valid .sized .head) 0 exampleImage from-first exampleState
+    next-found exampleBlock (example-valid .sized .headed) 0 exampleImage from-first exampleState
     (record {
       state = example-state;
       leads-there = example-leads;
@@ -112,7 +115,7 @@ example-found =
 
 example-none : stepBack exampleBlock 0 exampleImage (after exampleState) ≡ none-further
 example-none =
-    none-found exampleBlock (example-valid .sized .head) 0 exampleImage (after exampleState) (λ v ok h a.
+    none-found exampleBlock (example-valid .sized .headed) 0 exampleImage (after exampleState) (λ v ok h a.
     let b = rw (only v ok h) at a in omega arith)
 
 -- the pair of rules
@@ -149,7 +152,7 @@ e-states = refl
 e-entry : (k : ℕ) → k < 8 → LeastCost (relabelBlock blockE) (unrank blockE k) (getD tableE k 0)
 unfolding entry
 e-entry k l =
-    let h = e-valid .sized .head in
+    let h = e-valid .sized .headed in
     rw (sym (ap (λ (i : ℕ). getD tableE i 0) (rank-unrank blockE h k (omega (arith, e-states)))))
     (least-entry blockE e-valid tableE e-least (unrank blockE k) (unrank-abstract blockE h k))
 
@@ -171,6 +174,8 @@ starred =
       zeros-pass = refl;
       zeros-always-pass = zeros-pass-test;
       search-found = refl;
+      search-thresholds = refl;
+      search-round-visits = refl;
       search-spent = refl;
       search-cost-limit = refl;
       search-step-limit = refl;

@@ -5,8 +5,9 @@ use Prim.Native.Nat.{ℕ, _<_}
 use Prim.Native.Char.{code}
 use Prim.Native.String.{String}
 use mathlib.Core.Bool.{true, false}
-use mathlib.Core.List.{List, [], _∷_, _++_}
+use mathlib.Core.List.{List, [], _∷_, _++_, map}
 use lib.ListN.{getD}
+use Rattle.basics.specs.Marks.{mark}
 use Rattle.refusals.specs.Answers.{told, outcome}
 use Rattle.blocks.specs.Layout.{abstractStates}
 use Rattle.blocks.specs.Validity.{Valid}
@@ -14,7 +15,6 @@ use Rattle.blocks.specs.States.{stateOk}
 use Rattle.psvn.specs.Rules.{applies, step}
 use Rattle.psvn.specs.Relabelling.{relabelBlock}
 use Rattle.psvn.specs.Ranks.{unrank}
-use Rattle.distances.specs.Graphs.{mark}
 use Rattle.tables.specs.Tables.{passesTest}
 use Rattle.filling.specs.FilledTables.{LeastCost}
 use Rattle.backward.specs.Predecessors.{from-first, after}
@@ -24,6 +24,7 @@ use Rattle.backward_calls.specs.Predecessors.{stepBackFrom}
 use Rattle.backward_calls.specs.Reversing.{testReversible}
 use Rattle.table_calls.specs.WholeTables.{fillTable, testTable}
 use Rattle.queries.specs.declared.Limits.{Limits}
+use Rattle.search.specs.Exercises.{thresholdsOf, roundVisitsOf}
 use Rattle.search_calls.specs.Searching.{searchAnswer, findPlan}
 use Rattle.par_outputs.specs.Output.{parOutput}
 
@@ -146,6 +147,10 @@ pub record Starred : Type 0 where
   pub search-found :
       findPlan blockE startE (limits 8 100 100) tableE roomE
       ≡ outcome (told (searchAnswer 0 3 5 10)) (2 ∷ 0 ∷ 5 ∷ 9 ∷ 9 ∷ 9 ∷ 9 ∷ 9 ∷ [])
+  -- its rounds are at the thresholds 0, 2, 4 and 5, with 1, 2, 3 and 4 visits
+  pub search-thresholds : thresholdsOf blockE startE (limits 8 100 100) tableE ≡ 0 ∷ 2 ∷ 4 ∷ 5 ∷ []
+  pub search-round-visits :
+      map (roundVisitsOf blockE startE (limits 8 100 100) tableE) (0 ∷ 2 ∷ 4 ∷ 5 ∷ []) ≡ 1 ∷ 2 ∷ 3 ∷ 4 ∷ []
   -- an allowance of 9 is spent
   pub search-spent :
       findPlan blockE startE (limits 8 100 9) tableE roomE ≡ outcome (told (searchAnswer 2 0 0 9)) roomE

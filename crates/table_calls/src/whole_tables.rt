@@ -2,7 +2,8 @@
 ghost use mathlib.Core.Path.{_≡_};
 ghost use Rattle.refusals.specs.Answers.{verdict, outcome};
 ghost use Rattle.refusals.specs.Refusals.{verdictOf};
-ghost use Rattle.table_calls.specs.WholeTables.{tableConditions, fillingOf, fillTable, tableTestOf, testTable};
+ghost use Rattle.table_calls.specs.WholeTables.{tableConditions, fillingOf, fillTable, FillingKept};
+ghost use Rattle.table_calls.specs.WholeTables.{tableTestOf, testTable, TableTestKept};
 use refusals::Refusal;
 use refusals::Verdict;
 
@@ -37,6 +38,7 @@ fn check_table(block: &[u8], room: usize) -> Verdict
 // Refused with 3 to 7, 12.
 pub fn fill_table(block: &[u8], table: &mut [u32]) -> Filling
     ensures { λ r. ⌜ outcome (fillingOf r) (now (table .exit)) ≡ fillTable (now (block .entry)) (now (table .entry)) ⌝ }
+    ensures { λ r. ⌜ FillingKept (now (block .entry)) (fillingOf r) (now (table .exit)) ⌝ }
 {
     let checked = check_table(block, table.len());
     if let Verdict::Refused(refusal) = checked {
@@ -49,6 +51,7 @@ pub fn fill_table(block: &[u8], table: &mut [u32]) -> Filling
 // Whether a table passes the lower-bound test; its further elements do not count. Refused with 3 to 7, 12.
 pub fn test_table(block: &[u8], table: &[u32]) -> TableTest
     ensures { λ r. ⌜ tableTestOf r ≡ testTable (now (block .entry)) (now (table .entry)) ⌝ }
+    ensures { λ r. ⌜ TableTestKept (now (block .entry)) (now (table .entry)) (tableTestOf r) ⌝ }
 {
     let checked = check_table(block, table.len());
     if let Verdict::Refused(refusal) = checked {

@@ -45,4 +45,4 @@ module _ (b s : List ℕ) where
         let g =
         value-grows (abstractCount b) u i (positions b) l
         (labelled-at (positions b) (abstractCount b) u (relabelled-state b v s ok)) in
-        omega (arith, whole-below, v .sized .head .few)
+        omega (arith, whole-below, v .sized .headed .few)

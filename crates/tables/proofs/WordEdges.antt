@@ -27,7 +27,7 @@ use Rattle.tables.proofs.OverRanks.{rank-in}
 
 module _ (a code weights : List ℕ) (ready : Ready a code weights) where
   pub headed : Headed a
-  headed = ready .relabelled .valid .sized .head
+  headed = ready .relabelled .valid .sized .headed
 
   -- costs are bytes
   pub cheap : Cheap (graphOf a)

@@ -6,10 +6,11 @@ use mathlib.Core.Logic.{_≢_}
 use mathlib.Core.List.{List}
 use Prim.Native.Nat.{ℕ, _+_, _≤_, _<_}
 use lib.ListN.{length, getD}
+use Rattle.basics.specs.Marks.{mark}
 use Rattle.blocks.specs.Layout.{abstractStates}
 use Rattle.psvn.specs.Rules.{goalMet}
 use Rattle.psvn.specs.Ranks.{unrank}
-use Rattle.distances.specs.Graphs.{Graph, mark}
+use Rattle.distances.specs.Graphs.{Graph}
 
 -- an entry f after a rule of cost c that is not the mark stands behind an entry e that is not, and is at most c plus f
 abbrev pub Bounded : ℕ → ℕ → ℕ → Type 0
@@ -17,16 +18,16 @@ Bounded e c f = f ≢ mark → (e ≢ mark) × (e ≤ c + f)
 
 -- the ranks of a list have entries
 abbrev pub InTable : List ℕ → (ℕ → ℕ) → ℕ → Type 0
-InTable t ranks count = (j : ℕ) → j < count → ranks j < length t
+InTable t ranks n = (j : ℕ) → j < n → ranks j < length t
 
 -- the entries at the ranks of two lists are so, in pairs
 abbrev pub EdgesPass : List ℕ → (ℕ → ℕ) → (ℕ → ℕ) → ℕ → ℕ → Type 0
-EdgesPass t sources targets count c =
-    (j : ℕ) → j < count → Bounded (getD t (sources j) 0) c (getD t (targets j) 0)
+EdgesPass t sources targets n c =
+    (j : ℕ) → j < n → Bounded (getD t (sources j) 0) c (getD t (targets j) 0)
 
 -- the entries at the ranks of a list are 0
 abbrev pub Zeros : List ℕ → (ℕ → ℕ) → ℕ → Type 0
-Zeros t sources count = (j : ℕ) → j < count → getD t (sources j) 0 ≡ 0
+Zeros t sources n = (j : ℕ) → j < n → getD t (sources j) 0 ≡ 0
 
 -- condition (ii) for rule r at every state
 abbrev pub RulePasses : Graph → List ℕ → ℕ → Type 0

@@ -3,6 +3,7 @@
 ghost use mathlib.Core.Path.{_≡_};
 ghost use Prim.Native.Nat.{_≤_, _<_};
 ghost use lib.ListN.{length};
+ghost use Rattle.basics.specs.Marks.{largest32};
 ghost use Rattle.blocks.specs.Layout.{rules, abstractStates};
 ghost use Rattle.words.specs.Ranking.{wordOf};
 ghost use Rattle.distances.specs.Filling.{via, Best};
@@ -23,7 +24,7 @@ pub const NO_COST: u64 = 8589934592;
 
 // An entry as a wide cost.
 pub fn wide_entry(entry: u32) -> u64
-    ensures { λ x. ⌜ (x ≡ entry) × (x ≤ 4294967295) ⌝ }
+    ensures { λ x. ⌜ (x ≡ entry) × (x ≤ largest32) ⌝ }
 {
     entry as u64
 }

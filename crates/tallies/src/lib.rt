@@ -1,6 +1,7 @@
 // What a round carries: the visits used and the least overshoot so far (document 01).
 ghost use mathlib.Core.Path.{_≡_};
 ghost use Prim.Native.Nat.{_+_, _<_, min};
+ghost use Rattle.basics.specs.Marks.{largest32};
 ghost use Rattle.tallies.specs.Tallies.{overshotBy, withVisit};
 
 // The visits used, and the least overshoot so far.
@@ -36,7 +37,7 @@ pub fn overshot(mut tally: Tally, figure: u64) -> Tally
 
 // Counts a visit in a tally that is lent.
 pub fn count_visit(tally: &mut Tally)
-    requires { ⌜ now tally .visits < 4294967295 ⌝ }
+    requires { ⌜ now tally .visits < largest32 ⌝ }
     ensures { λ _. ⌜ now (tally .exit) ≡ withVisit (now (tally .entry)) ⌝ }
 {
     tally.visits = tally.visits + 1;
@@ -44,7 +45,7 @@ pub fn count_visit(tally: &mut Tally)
 
 // The same of a tally by value.
 pub fn counted(mut tally: Tally) -> Tally
-    requires { ⌜ tally .visits < 4294967295 ⌝ }
+    requires { ⌜ tally .visits < largest32 ⌝ }
     ensures { λ r. ⌜ r ≡ withVisit tally ⌝ }
 {
     count_visit(&mut tally);

@@ -60,7 +60,7 @@ pub compiled-kept :
     {b old new weights : List ℕ} → Compiled b old weights → Outside setsPlace countsPlace old new
     → Compiled b new weights
 compiled-kept {b} {old} {new} c o =
-    let sizes = c .valid .sized .head .sizes in
+    let sizes = c .valid .sized .headed .sizes in
     record {
       valid = c .valid;
       counted =

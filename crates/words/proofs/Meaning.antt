@@ -120,7 +120,7 @@ module _ {b code weights : List ℕ} (c : Compiled b code weights) where
         let half : (positions b + 1) / 2 ≡ suc k = omega arith in
         ap (λ (j : ℕ). rankPairs weights j w) half
         ∙ ap₂ _+_ (pairs-sum k (omega arith))
-        (c .weighted .last k (digit w (2 * k)) (digit w (suc (2 * k))) e (digit-low (2 * k) (omega arith))
+        (c .weighted .final k (digit w (2 * k)) (digit w (suc (2 * k))) e (digit-low (2 * k) (omega arith))
         (digit-lt w (suc (2 * k)))
         ∙ weight-at (2 * k) (omega arith))
         ∙ ap (labelsRank b (unpack (positions b) w)) e

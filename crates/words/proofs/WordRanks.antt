@@ -106,6 +106,6 @@ weighted-front {b} h w same =
       pair = λ j x y l lx ly.
           same (256 * j + (y * 16 + x)) (omega (arith, label-count-low b h (2 * j), label-count-low b h (suc (2 * j))))
           ∙ w .pair j x y l lx ly;
-      last = λ j x y e lx ly.
-          same (256 * j + (y * 16 + x)) (omega (arith, label-count-low b h (2 * j))) ∙ w .last j x y e lx ly;
+      final = λ j x y e lx ly.
+          same (256 * j + (y * 16 + x)) (omega (arith, label-count-low b h (2 * j))) ∙ w .final j x y e lx ly;
     }

@@ -42,7 +42,7 @@ nextRank changes r k w = (k + addedTo changes r w (partCount changes r)) % 16384
 
 -- the changes are those of the block's rules, where they apply
 pub record Changed (b changes : List ℕ) : Type 0 where
-  pub some : (r : ℕ) → r < rules b → 0 < partCount changes r
+  pub some-part : (r : ℕ) → r < rules b → 0 < partCount changes r
   pub few : (r : ℕ) → r < rules b → partCount changes r ≤ 16
   pub next :
       (r w : ℕ) → r < rules b → stateOk b (unpack (positions b) w) ≡ true → applies b r (unpack (positions b) w) ≡ true

@@ -35,7 +35,7 @@ pub record Weighted (b weights : List ℕ) : Type 0 where
   pub pair :
       (j x y : ℕ) → suc (2 * j) < positions b → x < labelCount b (2 * j) → y < labelCount b (suc (2 * j))
       → getD weights (256 * j + (y * 16 + x)) 0 ≡ weightOf b (2 * j) x + weightOf b (suc (2 * j)) y
-  pub last :
+  pub final :
       (j x y : ℕ) → suc (2 * j) ≡ positions b → x < labelCount b (2 * j) → y < 16
       → getD weights (256 * j + (y * 16 + x)) 0 ≡ weightOf b (2 * j) x
 

@@ -113,12 +113,12 @@ loop-again c =
       omega (arith, l .inv .0),
       q .0 .few,
       q .1 .1,
-      q .0 .first ∙ l .inv .3,
-      q .1 .0 .first ∙ l .inv .4,
+      q .0 .front ∙ l .inv .3,
+      q .1 .0 .front ∙ l .inv .4,
       λ z.
           listed-more f g n (a .labels) (s .pre .1 .0) (s .pre .1 .1) (l .p - 1) (omega (arith, k, l .inv .0)) _ _ _ _
           (l .count) (c .add-labels .result) (l .inv .3) (l .inv .4) (q .0) (q .1 .0) z
-          (rw e at (l .inv .5 (q .0 .some z))),
+          (rw e at (l .inv .5 (q .0 .not-none z))),
     )
 
 loop-less-2 : tie.Need-loop-less-2 Inv-loop μ-loop

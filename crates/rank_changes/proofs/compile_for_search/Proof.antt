@@ -42,7 +42,7 @@ returns c =
         counted = compiled .counted;
         rule = compiled .rule;
         goal = compiled .goal;
-        weighted = weighted-front (compiled .valid .sized .head) (compiled .weighted) (changed .1 .0);
+        weighted = weighted-front (compiled .valid .sized .headed) (compiled .weighted) (changed .1 .0);
       },
       (
         (changed .0, changed .1 .1),

@@ -35,6 +35,7 @@ use denote.Triple.Entry.{onEntry}
 use denote.Triple.Spec.{Meets, tripleOf}
 use denote.Triple.Table.{entered}
 use denote.Triple.Walked.{says, needs, Stays, stay-ref, walkOf, goes-ref, Walks, ends-at, walked, walk-meets}
+use Rattle.basics.specs.Marks.{largest32}
 use Rattle.tallies.specs.declared.Tally.{Tally}
 use Rattle.tallies.proofs.Tally as T
 use Rattle.tallies.proofs.Tally.Laws as T′
@@ -50,7 +51,7 @@ stayed = (stay-ref (0 ∷ []) tt (plain (λ _. T.the-row)), tt)
 module _
     {M : Type 1} (𝓤 : URA M) (H : Heap 𝓤) (A : Atoms 𝓤) (W : Given 𝓤 H A) (at-mem : Memory → SProp 𝓤)
     (run : Routine → Fun 𝓤) (κ : Lft) (q : Share) (b o : ℕ) (γ : GName) (h : Tally)
-    (room : h .visits < 4294967295) where
+    (room : h .visits < largest32) where
   abbrev x : RefT Tally × Unit {0}
   x = (record { ptr = (b, o); name = γ; now = h }, tt)
 
@@ -123,7 +124,7 @@ module _
       walked 𝓤 H A f.ended stayed (f.clauses 𝓤 H A at-mem run) (WpFn 𝓤 H C Λ code.function) (λ κs. (ptr-vals, tt))
       (λ κs. (mut-tells (named 0) (κs .0) T.the-row, tt))
       (λ κs qs bounds a _ _.
-      needs 𝓤 (a .0 .now .visits < 4294967295) _
+      needs 𝓤 (a .0 .now .visits < largest32) _
       (λ room. walk 𝓤 H A W at-mem run (κs .0) (qs .0) (a .0 .ptr .0) (a .0 .ptr .1) (a .0 .name) (a .0 .now) room C Λ))
 
 count-visit-meets :

@@ -40,6 +40,7 @@ use denote.Triple.Clauses.{ensured, lasts}
 use denote.Triple.Table.{entered, cited}
 use denote.Triple.Walked.{says, needs, Stays, stay-none, walkOf, goes-none, Walks, ends-at, walked, walk-meets}
 use denote.Exit.{yes}
+use Rattle.basics.specs.Marks.{largest32}
 use Rattle.tallies.specs.Tallies.{withVisit}
 use Rattle.tallies.specs.declared.Tally.{Tally}
 use Rattle.tallies.proofs.Tally as T
@@ -64,7 +65,7 @@ Count 𝓤 H A at-mem run = tripleOf 𝓤 H A count.signature (count.spec 𝓤 H
 
 module _
     {M : Type 1} (𝓤 : URA M) (H : Heap 𝓤) (A : Atoms 𝓤) (W : Given 𝓤 H A) (at-mem : Memory → SProp 𝓤)
-    (run : Routine → Fun 𝓤) (h : Tally) (room : h .visits < 4294967295) where
+    (run : Routine → Fun 𝓤) (h : Tally) (room : h .visits < largest32) where
   abbrev at : List Val × Unit {0}
   at = (T′.lowered h ∷ [], tt)
 
@@ -171,7 +172,7 @@ module _
       walked 𝓤 H A f.ended stayed (f.clauses 𝓤 H A at-mem run) (WpFn 𝓤 H C Λ code.function) (λ κs. (vals, tt))
       (λ κs. (LL.tells T.the-type T′.the-laws, tt))
       (λ κs qs bounds a g are.
-      needs 𝓤 (a .0 .visits < 4294967295) _ (λ room.
+      needs 𝓤 (a .0 .visits < largest32) _ (λ room.
       walk 𝓤 H A W at-mem run (a .0) room C Λ fm known (are .0)
       (LL.lawful T.the-type T′.the-laws 𝓤 H A W .typed (a .0) _ (are .0) .0)))
 

@@ -58,7 +58,7 @@ pivot-requires c κs =
     let a = start-from-right-at c .args in
     let h = start-from-right-at c .pre in
     let e = long (start-from-right-at c) in (
-      h .0 .sized .head,
+      h .0 .sized .headed,
       long (start-from-right-at c),
       omega (arith, left-inside (now (a .block)) (h .0 .sized) (a .r) (h .1), c .before .left-at .ensures .0),
       omega (arith, right-inside (now (a .block)) (h .0 .sized) (a .r) (h .1), c .right-at .ensures .0),
@@ -97,7 +97,7 @@ raise-requires c κs =
     let b = now (a .block) in
     let l = last-holds _ (length (now (a .state))) (c .before .before .pivot .result - 1) (last-raisable c) .0 in
     let x =
-    label-below b (h .0 .sized .head) (now (a .earlier)) (h .3) (c .before .before .pivot .result - 1)
+    label-below b (h .0 .sized .headed) (now (a .earlier)) (h .3) (c .before .before .pivot .result - 1)
     (omega arith) in (
       omega (arith, left-inside b (h .0 .sized) (a .r) (h .1), left-at-from-raise-arg c .left-at .ensures .0),
       omega (arith, right-inside b (h .0 .sized) (a .r) (h .1), c .before .before .before .right-at .ensures .0),

@@ -22,7 +22,7 @@ long s = state-length (now (s .args .block)) (now (s .args .state)) (s .pre .2)
 
 -- which the array has room for
 fits : (s : tie.Start) → length (now (s .args .state)) ≤ 16
-fits s = omega (arith, long s, s .pre .0 .sized .head .sizes .n-high)
+fits s = omega (arith, long s, s .pre .0 .sized .headed .sizes .n-high)
 
 array-borrow-prefix-candidate : tie.Need-array-borrow-prefix-candidate
 array-borrow-prefix-candidate c = omega (arith, fits (start-from-slice-known c))

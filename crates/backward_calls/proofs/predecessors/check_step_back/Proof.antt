@@ -86,7 +86,7 @@ decided c earlier rule room p q o =
 headed : (c : tie.After-enum-told) → Headed (now (start-from-told c .args .block))
 headed c =
     let a = start-from-told c .args in
-    state-accepted (now (a .block)) (now (a .state)) (accepted c) .valid .sized .head
+    state-accepted (now (a .block)) (now (a .state)) (accepted c) .valid .sized .headed
 
 state-ok-requires : tie.Need-state-ok-requires
 state-ok-requires c κs = headed c

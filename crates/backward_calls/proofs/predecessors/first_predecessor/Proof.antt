@@ -1,5 +1,6 @@
 -- `backward_calls::predecessors::first_predecessor` meets its contract.
--- Refused with the buffer as it was, or what stepping back from 'first' gives.
+-- Refused with the buffer as it was, or what stepping back from 'first' gives; the promise
+-- follows from the outcome.
 use mathlib.Core.Path.{_≡_, sym, ap, ap₂, _∙_}
 use mathlib.Core.Bool.{Bool}
 use mathlib.Core.List.{List}
@@ -11,8 +12,9 @@ use Rattle.refusals.specs.Answers.{Answer, told, verdict, Outcome, outcome, gua
 use Rattle.refusals.specs.Refusals.{verdictOf}
 use Rattle.backward.specs.Predecessors.{from-first, NextState, isFound, writtenOut, Answered, stepBack}
 use Rattle.psvn_calls.specs.Applying.{applyConditions}
-use Rattle.backward_calls.specs.Predecessors.{stepBackConditions, stepBackFrom}
+use Rattle.backward_calls.specs.Predecessors.{stepBackConditions, stepBackFrom, PredecessorKept}
 use Rattle.backward_calls.proofs.Conditions.{first-conditions, step-back-accepted}
+use Rattle.backward_calls.proofs.Promises.{predecessor-kept}
 use Rattle.backward_calls.proofs.predecessors.first_predecessor.Statement.{statement}
 use Rattle.backward_calls.proofs.predecessors.first_predecessor.Tie as tie
 
@@ -54,6 +56,22 @@ as-applied s =
     let a = s .args in
     first-conditions (now (a .block)) (now (a .state)) (a .rule) (length (now (a .out)))
 
+-- an outcome that is that of the call keeps the promise
+abbrev Gives : tie.Start → Answer Bool → List ℕ → Type 0
+Gives s answer out′ =
+    let a = s .args in
+    outcome answer out′ ≡ stepBackFrom (now (a .block)) (a .rule) (now (a .state)) from-first (now (a .out))
+
+abbrev Promised : tie.Start → Answer Bool → List ℕ → Type 0
+Promised s answer out′ =
+    let a = s .args in
+    PredecessorKept (now (a .block)) (a .rule) (now (a .state)) from-first answer out′
+
+kept : (s : tie.Start) (answer : Answer Bool) (out′ : List ℕ) → Gives s answer out′ → Promised s answer out′
+kept s answer out′ e =
+    let a = s .args in
+    predecessor-kept (now (a .block)) (a .rule) (now (a .state)) from-first (now (a .out)) e
+
 check-application-requires : tie.Need-check-application-requires
 check-application-requires c κs = search needs
 
@@ -66,7 +84,8 @@ returns c =
     let s = start-from-known c in
     let checked = c .before .before .before .check-application .ensures in
     let against = as-applied s ∙ sym checked ∙ ap verdictOf (c .before .checked .given .1) in
-    sym (ap (outcome-by s) against)
+    let e = sym (ap (outcome-by s) against) in
+    (e, kept s _ _ e)
 
 enum-told : tie.Need-enum-told
 enum-told c = search needs
@@ -82,10 +101,13 @@ accepted c =
 told-by :
     (c : tie.After-enum-told) (answer : Bool) (out : List ℕ)
     → Answered (next (start-from-told c)) answer (now (start-from-told c .args .out)) out
-    → outcome (told answer) out ≡ outcome-by (start-from-told c) (verdict-of (start-from-told c))
+    → Gives (start-from-told c) (told answer) out × Promised (start-from-told c) (told answer) out
+unfolding stepBackFrom
 told-by c answer out h =
+    let e =
     ap₂ (λ (t : Bool) (l : List ℕ). outcome (told t) l) (h .0) (h .1)
-    ∙ sym (ap (outcome-by (start-from-told c)) (accepted c))
+    ∙ sym (ap (outcome-by (start-from-told c)) (accepted c)) in
+    (e, kept (start-from-told c) _ _ e)
 
 first-predecessor-requires : tie.Need-first-predecessor-requires
 first-predecessor-requires c κs =
@@ -99,7 +121,6 @@ same-length : tie.Need-same-length
 same-length c = search needs
 
 returns-2 : tie.Need-returns-2
-unfolding stepBackFrom
 returns-2 c =
     let e = c .before .before .before .first-predecessor .ensures in
     told-by (told-from-then1 c) _ _ (sym (c .if1 .taken) ∙ e .0, e .1)
@@ -108,7 +129,6 @@ same-length-2 : tie.Need-same-length-2
 same-length-2 c = search needs
 
 returns-3 : tie.Need-returns-3
-unfolding stepBackFrom
 returns-3 c =
     let e = c .before .before .before .first-predecessor .ensures in
     told-by (told-from-else1 c) _ _ (sym (c .if1 .left) ∙ e .0, e .1)

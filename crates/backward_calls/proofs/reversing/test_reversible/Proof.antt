@@ -1,5 +1,5 @@
 -- `backward_calls::reversing::test_reversible` meets its contract.
--- Refused by the block or by the rule number, or whether the rule has the form.
+-- Refused by the block or by the rule number, or whether the rule has the form; the promise follows from the answer.
 use mathlib.Core.Path.{_≡_, sym, ap, ap₂, _∙_}
 use mathlib.Core.Bool.{Bool}
 use mathlib.Core.List.{[], _∷_}
@@ -15,7 +15,8 @@ use Rattle.blocks.specs.Layout.{rules}
 use Rattle.blocks.specs.Validity.{blockConditions, Valid}
 use Rattle.blocks.proofs.Accepted.{accepted-valid}
 use Rattle.backward.specs.Reversible.{reversible}
-use Rattle.backward_calls.specs.Reversing.{reversibleConditions, testReversible}
+use Rattle.backward_calls.specs.Reversing.{reversibleConditions, testReversible, ReversibilityKept}
+use Rattle.backward_calls.proofs.Promises.{reversibility-kept}
 use Rattle.backward_calls.proofs.reversing.test_reversible.Statement.{statement}
 use Rattle.backward_calls.proofs.reversing.test_reversible.Tie as tie
 
@@ -33,6 +34,15 @@ verdict-of s = verdict (reversibleConditions (now (s .args .block)) (s .args .ru
 abbrev settled : tie.Start → Answer (Unit {0}) → Answer Bool
 settled s verdict = answered verdict (reversible (now (s .args .block)) (s .args .rule))
 
+-- an answer that is that of the call keeps the promise
+abbrev Gives : tie.Start → Answer Bool → Type 0
+Gives s answer = answer ≡ testReversible (now (s .args .block)) (s .args .rule)
+
+kept :
+    (s : tie.Start) (answer : Answer Bool) → Gives s answer
+    → ReversibilityKept (now (s .args .block)) (s .args .rule) answer
+kept s answer e = reversibility-kept (now (s .args .block)) (s .args .rule) e
+
 check-requires : tie.Need-check-requires
 check-requires c κs = search needs
 
@@ -44,7 +54,8 @@ unfolding testReversible reversibleConditions
 returns c =
     let s = start-from-known c in
     let against = sym (c .before .before .before .check .ensures) ∙ ap verdictOf (c .before .checked .given .1) in
-    sym (ap (settled s) (verdict-before (blockConditions (now (s .args .block))) _ _ against))
+    let e = sym (ap (settled s) (verdict-before (blockConditions (now (s .args .block))) _ _ against)) in
+    (e, kept s _ e)
 
 enum-told : tie.Need-enum-told
 enum-told c = search needs
@@ -66,14 +77,16 @@ decided c rule p =
     ∙ ap (λ (t : Bool). verdict (9 unless t ∷ [])) p
 
 rules-requires : tie.Need-rules-requires
-rules-requires c κs = valid c .sized .head .long
+rules-requires c κs = valid c .sized .headed .long
 
 returns-2 : tie.Need-returns-2
 unfolding testReversible
 returns-2 c =
     let d = c .before .before in
     let s = start-from-told d in
-    sym (ap (settled s) (decided d _ (le-ltb (s .args .rule) (rules (now (s .args .block))) (omega arith))))
+    let high = le-ltb (s .args .rule) (rules (now (s .args .block))) (omega arith) in
+    let e = sym (ap (settled s) (decided d _ high)) in
+    (e, kept s _ e)
 
 -- the rule number is right, so the call is accepted
 call-accepted : (c : tie.Else1) → verdict-of (start-from-told (c .before .before)) ≡ told tt
@@ -85,17 +98,21 @@ call-accepted c =
 reversible-requires : tie.Need-reversible-requires
 reversible-requires c κs = (valid (c .before .before) .sized, omega arith)
 
-returns-3 : tie.Need-returns-3
+-- what is told then
+told-by :
+    (c : tie.Else1) (t : Bool)
+    → (let s = start-from-told (c .before .before) in reversible (now (s .args .block)) (s .args .rule) ≡ t
+    → Gives s (told t) × ReversibilityKept (now (s .args .block)) (s .args .rule) (told t))
 unfolding testReversible
-returns-3 c =
-    let told-so = sym (c .before .reversible .ensures) ∙ c .if2 .taken in
-    sym (ap₂ (answered {A = Bool}) (call-accepted (c .before .before)) told-so)
+told-by c t form =
+    let e = sym (ap₂ (answered {A = Bool}) (call-accepted c) form) in
+    (e, kept (start-from-told (c .before .before)) _ e)
+
+returns-3 : tie.Need-returns-3
+returns-3 c = told-by (c .before .before) _ (sym (c .before .reversible .ensures) ∙ c .if2 .taken)
 
 returns-4 : tie.Need-returns-4
-unfolding testReversible
-returns-4 c =
-    let told-so = sym (c .before .reversible .ensures) ∙ c .if2 .left in
-    sym (ap₂ (answered {A = Bool}) (call-accepted (c .before .before)) told-so)
+returns-4 c = told-by (c .before .before) _ (sym (c .before .reversible .ensures) ∙ c .if2 .left)
 
 pub test-reversible-spec : {M : Type 1} → statement M
 test-reversible-spec =

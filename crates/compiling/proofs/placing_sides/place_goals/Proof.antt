@@ -48,7 +48,7 @@ loop-holds c =
     )
 
 goal-at-requires : tie.Need-goal-at-requires Inv-loop μ-loop
-goal-at-requires c κs = (start-from-in-loop c .pre .0 .head, omega arith)
+goal-at-requires c κs = (start-from-in-loop c .pre .0 .headed, omega arith)
 
 add-place-side : tie.Need-add-place-side Inv-loop μ-loop
 add-place-side c = search needs
@@ -59,10 +59,10 @@ place-side-requires c κs =
     let h = start-from-in-loop (c .before .before) .pre in
     let inv = c .before .before .before .loop .inv in
     let g = c .before .before .before .loop .g in
-    let few = h .0 .head .sizes .g-high in
+    let few = h .0 .headed .sizes .g-high in
     let e = c .before .goal-at .ensures .0 in
     let l = goal-inside b (h .0) g (omega arith) in
-    (omega arith, omega arith, omega (arith, h .0 .head .sizes .n-high), omega arith, inv .3 .len ∙ h .1)
+    (omega arith, omega arith, omega (arith, h .0 .headed .sizes .n-high), omega arith, inv .3 .len ∙ h .1)
 
 add-g : tie.Need-add-g Inv-loop μ-loop
 add-g c = search needs
@@ -74,7 +74,7 @@ loop-again : tie.Need-loop-again Inv-loop μ-loop
 loop-again c =
     let b = now (start-from-in-loop (c .before .before .before) .args .block) in
     let h = start-from-in-loop (c .before .before .before) .pre in
-    let few = h .0 .head .sizes .g-high in
+    let few = h .0 .headed .sizes .g-high in
     let inv = loop-from-place-side c .loop .inv in
     let g = loop-from-place-side c .loop .g in
     let at = c .before .before .goal-at .ensures .0 in

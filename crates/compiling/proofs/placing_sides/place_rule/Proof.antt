@@ -42,7 +42,7 @@ place-sides-requires c κs =
     let f = c .before .right-at .ensures .0 in
     let l = left-inside b (h .0) (s .args .r) (h .1) in
     let k = right-inside b (h .0) (s .args .r) (h .1) in
-    (omega arith, omega arith, omega (arith, h .0 .head .sizes .n-high), omega (arith, h .0 .head .sizes .r-high), h .2)
+    (omega arith, omega arith, omega (arith, h .0 .headed .sizes .n-high), omega (arith, h .0 .headed .sizes .r-high), h .2)
 
 cost-requires : tie.Need-cost-requires
 cost-requires c κs = search needs
@@ -66,7 +66,7 @@ returns c =
     let n = positions-from-wide c .positions .ensures .0 in
     let left = left-at-from-wide c .left-at .ensures .0 in
     let right = right-at-from-wide c .right-at .ensures .0 in
-    let few : s .args .r < 64 = omega (arith, s .pre .1, s .pre .0 .head .sizes .r-high) in
+    let few : s .args .r < 64 = omega (arith, s .pre .1, s .pre .0 .headed .sizes .r-high) in
     rule-placed b (s .args .r) (c .wide .result) few (omega (arith, s .pre .2))
     (sides-as b n left right (c .before .before .place-sides .ensures))
     (c .wide .ensures .0 ∙ c .before .cost .ensures) (c .wide .ensures .1)

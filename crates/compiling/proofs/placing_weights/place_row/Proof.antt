@@ -53,7 +53,7 @@ high c =
     omega (arith, h .2, mul-le-mul-right (a .p) le)
 
 label-count-requires : tie.Need-label-count-requires Inv-loop μ-loop
-label-count-requires c κs = (c .before .pre .0 .sized .head, c .before .pre .1)
+label-count-requires c κs = (c .before .pre .0 .sized .headed, c .before .pre .1)
 
 loop-holds : tie.Need-loop-holds Inv-loop μ-loop
 loop-holds c =

@@ -62,7 +62,7 @@ few :
     placeValue (abstractCount b) i (positions b - i) ≤ 16384
 few c =
     let b = now (start-from-in-loop c .args .block) in
-    let h = start-from-in-loop c .pre .0 .sized .head in
+    let h = start-from-in-loop c .pre .0 .sized .headed in
     let below =
     place-below (abstractCount b) (some-abstract b h) (positions b) (c .before .loop .i - 1) (omega arith) in
     omega (arith, states-span b, h .few)
@@ -104,7 +104,7 @@ place-row-requires c κs = (
 )
 
 abstract-count-requires : tie.Need-abstract-count-requires Inv-loop μ-loop
-abstract-count-requires c κs = (start-from-in-loop (c .before .before) .pre .0 .sized .head, omega arith)
+abstract-count-requires c κs = (start-from-in-loop (c .before .before) .pre .0 .sized .headed, omega arith)
 
 mul-p : tie.Need-mul-p Inv-loop μ-loop
 mul-p c = omega (arith, product c, few (c .before .before .before))

@@ -26,7 +26,7 @@ returns : tie.Need-returns
 returns c =
     let s = start-from-place-pairs c in
     let pairs = rw (c .before .before .positions .ensures .0) at (c .place-pairs .ensures) in
-    pairs-weighted (s .pre .0 .sized .head) (place-singles-from-place-pairs c .place-singles .ensures) pairs
+    pairs-weighted (s .pre .0 .sized .headed) (place-singles-from-place-pairs c .place-singles .ensures) pairs
 
 pub place-weights-spec : {M : Type 1} → statement M
 place-weights-spec =

@@ -1,10 +1,13 @@
 -- `fill_order::fills::order_of` meets its contract.
--- The fill is called with an accepted block, and a table that is long enough.
+-- The fast pass and the test are called with an accepted block, and a table that is long enough.
 use mathlib.Core.Path.{sym, ap, _∙_}
+use Prim.Native.Nat.{_≤_}
 use native.Mathlib.Omega.{arith}
+use lib.ListN.{length}
 use denote.Ref.{now}
 use borrow.Author.Needs.{needs}
 use Rattle.refusals.specs.Refusals.{verdictOf}
+use Rattle.blocks.specs.Layout.{abstractStates}
 use Rattle.blocks.specs.Validity.{Valid}
 use Rattle.blocks.proofs.Accepted.{accepted-valid}
 use Rattle.fill_order.proofs.fills.order_of.Statement.{statement}
@@ -33,13 +36,25 @@ valid c =
     (sym (c .before .before .check .ensures) ∙ ap verdictOf (c .enum-told2 .given .1))
 
 abstract-states-requires : tie.Need-abstract-states-requires
-abstract-states-requires c κs = valid c .sized .head
+abstract-states-requires c κs = valid c .sized .headed
 
 returns-2 : tie.Need-returns-2
 returns-2 c = search needs
 
-fill-requires : tie.Need-fill-requires
-fill-requires c κs = (valid (c .before .before .before), omega (arith, c .before .before .abstract-states .ensures .0))
+-- the table is long enough
+room :
+    (c : tie.After-fast-pass-arg)
+    → abstractStates (now (start-from-told (c .before .before .before) .args .block))
+    ≤ length (now (start-from-told (c .before .before .before) .args .table))
+room c = omega (arith, c .before .before .abstract-states .ensures .0)
+
+fast-pass-requires : tie.Need-fast-pass-requires
+fast-pass-requires c κs = (valid (c .before .before .before), room c)
+
+passes-requires : tie.Need-passes-requires
+passes-requires c κs =
+    let f = c .before .before .before in
+    (valid (f .before .before .before .before), omega (arith, room (f .before), f .fast-pass .kept .1 .0))
 
 same-length : tie.Need-same-length
 same-length c = search needs
@@ -63,7 +78,8 @@ order-of-spec =
     enum-told-2
     abstract-states-requires
     returns-2
-    fill-requires
+    fast-pass-requires
+    passes-requires
     same-length
     returns-3
     same-length-2

@@ -7,13 +7,13 @@ use native.Mathlib.Omega.{arith}
 use denote.Ref.{now}
 use lib.ListN.{length, getD, length-set}
 use borrow.Author.Needs.{needs}
+use Rattle.basics.specs.Marks.{mark}
 use Rattle.basics.proofs.Lists.{set-more}
 use Rattle.blocks.specs.Layout.{goals, abstractStates}
 use Rattle.psvn.specs.Rules.{meets}
 use Rattle.psvn.specs.Ranks.{unrank}
 use Rattle.words.specs.Sides.{meetsWord}
 use Rattle.words.specs.Ranking.{wordOf}
-use Rattle.distances.specs.Graphs.{mark}
 use Rattle.distances.proofs.Writing.{Cleared, good-clear}
 use Rattle.tables.specs.Abstraction.{graphOf}
 use Rattle.tables.proofs.WordEdges.{few, word-goal}
@@ -68,7 +68,7 @@ word-at-requires : tie.Need-word-at-requires Inv-loop μ-loop
 word-at-requires c κs =
     let s = start-from-in-loop c in
     let l = c .before .loop in
-    (s .pre .0 .relabelled .valid .sized .head, omega (arith, l .inv .3, c .loop-test .taken), l .inv .6)
+    (s .pre .0 .relabelled .valid .sized .headed, omega (arith, l .inv .3, c .loop-test .taken), l .inv .6)
 
 mul-ranked : tie.Need-mul-ranked Inv-loop μ-loop
 mul-ranked c = search needs

@@ -5,9 +5,9 @@ use mathlib.Core.Bool.{Bool, cond}
 use Prim.Native.Nat.{ℕ}
 use denote.Ref.{now}
 use borrow.Author.Needs.{needs}
+use Rattle.basics.specs.Marks.{mark}
 use Rattle.blocks.specs.Layout.{goals}
 use Rattle.words.specs.Sides.{meetsWord}
-use Rattle.distances.specs.Graphs.{mark}
 use Rattle.filling.proofs.filling.cleared_entry.Statement.{statement}
 use Rattle.filling.proofs.filling.cleared_entry.Tie as tie
 

@@ -1,8 +1,9 @@
 -- `filling::filling::fill_relabelled` meets its contract.
 -- The arrays are ready once the block is compiled, and every
--- step keeps the table good; the last leaves the least costs.
+-- step keeps the table good; sweeps leave the least costs.
 use denote.Ref.{now}
 use borrow.Author.Needs.{needs}
+use Rattle.basics.proofs.Truth.{true-false}
 use Rattle.distances.proofs.LeastCostLaws.{least-costs-only}
 use Rattle.tables.specs.Abstraction.{graphOf, Ready}
 use Rattle.tables.proofs.WordEdges.{cheap, few}
@@ -17,7 +18,7 @@ abbrev compile-from-clear : tie.After-clear → tie.After-compile
 compile-from-clear c = c .before .before .before .before .before
 
 abbrev spread-from-links2 : tie.After-links2 → tie.After-spread
-spread-from-links2 c = c .before .before .before .before .before .before .before
+spread-from-links2 c = c .before .before .before .before .before .before .before .before
 
 abbrev clear-from-spread : tie.After-spread → tie.After-clear
 clear-from-spread c = c .before .before .before .before .before .before .before .before
@@ -57,11 +58,29 @@ returns c =
     let e = compile-from-spread k in
     let a = now (start-from-compile e .args .block) in
     let code = e .compile .last .1 .0 in
-    let weights = e .compile .last .1 .1 .0 in
-    least-costs-only (graphOf a) (cheap a code weights (ready e)) (few a code weights (ready e))
-    (d .settle .last .1 .1 .1 .1 .0) (d .settle .ensures)
+    let weights = e .compile .last .1 .1 .0 in (
+      d .settle .ensures .0,
+      λ _.
+          least-costs-only (graphOf a) (cheap a code weights (ready e)) (few a code weights (ready e))
+          (d .settle .last .1 .1 .1 .1 .0) (d .settle .ensures .1),
+    )
+
+-- without sweeps
+same-length-2 : tie.Need-same-length-2
+same-length-2 c = search needs
+
+returns-2 : tie.Need-returns-2
+returns-2 c = (c .before .before .before .spread .ensures .0, λ wanted. absurd (true-false wanted (c .if1 .left)))
 
 pub fill-relabelled-spec : {M : Type 1} → statement M
 fill-relabelled-spec =
     tie.close
-    (tie.spec compile-requires clear-requires spread-requires settle-requires same-length returns)
+    (tie.spec
+    compile-requires
+    clear-requires
+    spread-requires
+    settle-requires
+    same-length
+    returns
+    same-length-2
+    returns-2)

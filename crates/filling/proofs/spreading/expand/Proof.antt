@@ -42,7 +42,7 @@ element-copy-out-agreeing-with c = search needs
 
 agreeing-with-requires : tie.Need-agreeing-with-requires Inv-loop μ-loop
 agreeing-with-requires c κs =
-    let z = start-from-agreeing-with-arg c .pre .0 .0 .relabelled .valid .sized .head .sizes in
+    let z = start-from-agreeing-with-arg c .pre .0 .0 .relabelled .valid .sized .headed .sizes in
     omega (arith, c .before .positions .ensures .0, z .n-high)
 
 loop-holds : tie.Need-loop-holds Inv-loop μ-loop

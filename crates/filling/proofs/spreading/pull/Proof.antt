@@ -71,12 +71,12 @@ returns-2 c = c .before .before .before .try-candidate .ensures
 abstracts-requires : tie.Need-abstracts-requires Inv-loop μ-loop
 abstracts-requires c κs =
     let d = loop-from-else2 c in
-    start-from-step-word (d .before) .pre .0 .0 .relabelled .valid .sized .head .long
+    start-from-step-word (d .before) .pre .0 .0 .relabelled .valid .sized .headed .long
 
 next-candidate-requires : tie.Need-next-candidate-requires Inv-loop μ-loop
 next-candidate-requires c κs =
     let d = loop-from-else2 (c .before) in
-    let s = start-from-step-word (d .before) .pre .0 .0 .relabelled .valid .sized .head .sizes in
+    let s = start-from-step-word (d .before) .pre .0 .0 .relabelled .valid .sized .headed .sizes in
     (omega (arith, s .k-high, s .l-high, c .abstracts .ensures .0), omega (arith, s .r-high))
 
 same-length-2 : tie.Need-same-length-2 Inv-loop μ-loop

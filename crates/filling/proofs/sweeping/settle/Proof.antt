@@ -6,7 +6,8 @@ use native.Mathlib.Omega.{arith}
 use lib.ListN.{length}
 use denote.Ref.{now}
 use borrow.Author.Tests.{not-true, not-false}
-use Rattle.distances.specs.Filling.{total, Good}
+use Rattle.basics.specs.Lists.{total}
+use Rattle.distances.specs.Filling.{Good}
 use Rattle.distances.proofs.Exactness.{exact}
 use Rattle.tables.specs.Abstraction.{graphOf}
 use borrow.Author.Needs.{needs}
@@ -14,11 +15,11 @@ use Rattle.filling.proofs.sweeping.settle.Statement.{statement}
 use Rattle.filling.proofs.sweeping.settle.Tie as tie
 
 abbrev Inv-loop : tie.InvT-loop
-Inv-loop block code weights ranked table₀ lists lowered₀ table lowered =
+Inv-loop block code weights ranked table₀ lists table =
     (length table ≡ length table₀) × Good (graphOf block) table
 
 abbrev μ-loop : tie.MeasureT-loop
-μ-loop block code weights ranked table₀ lists lowered₀ table lowered = total table
+μ-loop block code weights ranked table₀ lists table = total table
 
 -- the places that the facts below go back to
 abbrev start-from-passes-by-sides-arg2 : tie.After-passes-by-sides-arg2 Inv-loop μ-loop → tie.Start Inv-loop μ-loop
@@ -41,9 +42,11 @@ same-length c = refl
 returns : tie.Need-returns Inv-loop μ-loop
 returns c =
     let k = slice-known-from-then1 c in
-    let s = k .before .before in
-    exact (graphOf (now (s .args .block))) (now (s .args .table)) (s .pre .0 .2)
-    (c .before .passes-by-sides .ensures .0 (c .if1 .taken)) (λ u. omega (arith, k .slice-known .given u))
+    let s = k .before .before in (
+      s .pre .0 .2,
+      exact (graphOf (now (s .args .block))) (now (s .args .table)) (s .pre .0 .2)
+          (c .before .passes-by-sides .ensures .0 (c .if1 .taken)) (λ u. omega (arith, k .slice-known .given u)),
+    )
 
 loop-holds : tie.Need-loop-holds Inv-loop μ-loop
 loop-holds c = (refl, start-from-passes-by-sides-arg2 (c .before .before) .pre .0 .2)
@@ -60,9 +63,11 @@ returns-2 : tie.Need-returns-2 Inv-loop μ-loop
 returns-2 c =
     let d = c .before .before .before in
     let b = now (start-from-sweep d .args .block) in
-    let s = d .sweep .ensures in
-    exact (graphOf b) (d .sweep .last .1 .1 .1 .1 .0) (s .good) (s .passes (not-true _ (c .if2 .taken)))
-    (λ u. omega (arith, c .before .slice-known2 .given u))
+    let s = d .sweep .ensures in (
+      s .good,
+      exact (graphOf b) (d .sweep .last .1 .1 .1 .1 .0) (s .good) (s .passes (not-true _ (c .if2 .taken)))
+          (λ u. omega (arith, c .before .slice-known2 .given u)),
+    )
 
 loop-less : tie.Need-loop-less Inv-loop μ-loop
 loop-less c = c .before .before .before .sweep .ensures .falls (not-false _ (c .if2 .left))

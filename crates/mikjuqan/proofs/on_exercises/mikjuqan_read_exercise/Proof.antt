@@ -1,8 +1,9 @@
 -- `mikjuqan::on_exercises::mikjuqan_read_exercise` meets its contract.
--- The answer and the buffer are those of the call of `engine`.
+-- The answer and the buffer are those of the call of `engine`, and so is the promise.
 use borrow.Author.Needs.{needs}
-use Rattle.c_answers.specs.Numbers.{lengthOf}
-use Rattle.mikjuqan.proofs.Carried.{carried}
+use Rattle.c_answers.specs.Numbers.{lengthOf, lengthTold}
+use Rattle.c_answers.proofs.ReadBack.{reading-told}
+use Rattle.mikjuqan.proofs.Carried.{carried, tells}
 use Rattle.mikjuqan.proofs.on_exercises.mikjuqan_read_exercise.Statement.{statement}
 use Rattle.mikjuqan.proofs.on_exercises.mikjuqan_read_exercise.Tie as tie
 
@@ -16,7 +17,11 @@ same-length : tie.Need-same-length
 same-length c = search needs
 
 returns : tie.Need-returns
-returns c = carried lengthOf (c .before .before .before .read-exercise .ensures) (c .read .ensures)
+returns c =
+    let call = c .before .before .before .read-exercise in (
+      carried lengthOf (call .ensures .0) (c .read .ensures),
+      rw (tells lengthTold (c .read .ensures) (reading-told (call .result))) (call .ensures .1),
+    )
 
 pub mikjuqan-read-exercise-spec : {M : Type 1} → statement M
 mikjuqan-read-exercise-spec =

@@ -1,8 +1,9 @@
 -- `mikjuqan::on_states::mikjuqan_next_predecessor` meets its contract.
--- The answer and the buffer are those of the call of `engine`.
+-- The answer and the buffer are those of the call of `engine`, and so is the promise.
 use borrow.Author.Needs.{needs}
-use Rattle.c_answers.specs.Numbers.{decisionOf}
-use Rattle.mikjuqan.proofs.Carried.{carried}
+use Rattle.c_answers.specs.Numbers.{decisionOf, decisionTold}
+use Rattle.c_answers.proofs.ReadBack.{predecessor-told}
+use Rattle.mikjuqan.proofs.Carried.{carried, tells}
 use Rattle.mikjuqan.proofs.on_states.mikjuqan_next_predecessor.Statement.{statement}
 use Rattle.mikjuqan.proofs.on_states.mikjuqan_next_predecessor.Tie as tie
 
@@ -16,7 +17,11 @@ same-length : tie.Need-same-length
 same-length c = search needs
 
 returns : tie.Need-returns
-returns c = carried decisionOf (c .before .before .before .next-predecessor .ensures) (c .stepped-back .ensures)
+returns c =
+    let call = c .before .before .before .next-predecessor in (
+      carried decisionOf (call .ensures .0) (c .stepped-back .ensures),
+      rw (tells decisionTold (c .stepped-back .ensures) (predecessor-told (call .result))) (call .ensures .1),
+    )
 
 pub mikjuqan-next-predecessor-spec : {M : Type 1} → statement M
 mikjuqan-next-predecessor-spec =

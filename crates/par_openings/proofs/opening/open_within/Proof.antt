@@ -176,7 +176,7 @@ fill-whole-requires c κs =
     let e = ap readingOf (k .before .reading2 .given .1) in
     let same = part d _ e in
     let good = valid d _ e in
-    (subst Valid (sym same) good, omega (arith, ap abstractStates same, good .sized .head .few, start d .pre .1))
+    (subst Valid (sym same) good, omega (arith, ap abstractStates same, good .sized .headed .few, start d .pre .1))
 
 same-length : tie.Need-same-length
 same-length c = search needs

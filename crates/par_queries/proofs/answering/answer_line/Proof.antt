@@ -29,8 +29,11 @@ use Rattle.par_queries.proofs.answering.answer_line.Statement.{statemen
 use Rattle.par_queries.proofs.answering.answer_line.Tie as tie
 
 -- the places that the facts below go back to
+abbrev block-from-found : tie.After-read-line → tie.After-shared-slice-known
+block-from-found c = c .before .before .before .before
+
 abbrev start-from-found : tie.After-read-line → tie.Start
-start-from-found c = c .before .before .before .before
+start-from-found c = block-from-found c .before
 
 abbrev found-from-measured : tie.Else2 → tie.After-read-line
 found-from-measured c = c .before .before .before .before .before
@@ -41,8 +44,8 @@ read-from-refused c = c .before .before .before .before
 abbrev measured-from-refused : tie.After-refuse2 → tie.After-query-length
 measured-from-refused c = c .before .before .before .before
 
-abbrev decoded-from-bytes : tie.After-bytes → tie.After-decode-line
-decoded-from-bytes c = c .before .before .before
+abbrev decoded-from-answer : tie.After-answer → tie.After-decode-line
+decoded-from-answer c = c .before .before .before
 
 abbrev answer-from-line : tie.After-encode-line → tie.After-answer-query
 answer-from-line c = c .before .before .before .before
@@ -58,7 +61,7 @@ line s = lineFrom (now (s .args .input)) (s .args .at)
 gives :
     (s : tie.Start) (shown : List ℕ) (n next : ℕ) (new : List ℕ) → answerLine (block s) (line s) ≡ shown
     → next ≡ s .args .at + length (line s) → Written shown (now (s .args .line)) n new
-    → (let r : Answered = record { length = n; next = next } in
+    → (let r : Answered = record { bytes = n; next = next } in
     AnsweredAt (block s) (now (s .args .input)) (s .args .at) (now (s .args .line)) r new)
 gives s shown n next new e o w =
     record { written = subst (λ (l : List ℕ). Written l (now (s .args .line)) n new) (sym e) w; onward = o }
@@ -83,13 +86,17 @@ module _ (c : tie.After-read-line) where
 refuse-requires : tie.Need-refuse-requires
 refuse-requires c κs = search needs
 
+same-length : tie.Need-same-length
+same-length c = search needs
+
 returns : tie.Need-returns
 returns c =
-    let d = read-from-refused c in
+    let called = c .before .before in
+    let d = read-from-refused called in
     let s = start d in
-    let wrong = sym (right d) ∙ not-true (d .read-line .result .ok) (c .before .before .if1 .taken) in
+    let wrong = sym (right d) ∙ not-true (d .read-line .result .ok) (called .before .before .if1 .taken) in
     let against = line-refused (block s) (line s) _ (line-decided (block s) (line s) _ _ wrong refl) in
-    gives s _ _ _ _ against (onward d) (c .refuse .ensures)
+    gives s _ _ _ _ against (onward d) (called .refuse .ensures)
 
 query-length-requires : tie.Need-query-length-requires
 query-length-requires c κs = search needs
@@ -101,16 +108,20 @@ good c = sym (right (c .before .before)) ∙ not-false (c .before .before .read-
 refuse-requires-2 : tie.Need-refuse-requires-2
 refuse-requires-2 c κs = search needs
 
+same-length-2 : tie.Need-same-length-2
+same-length-2 c = search needs
+
 returns-2 : tie.Need-returns-2
 returns-2 c =
-    let m = measured-from-refused c in
+    let called = c .before .before in
+    let m = measured-from-refused called in
     let d = m .before .before .before in
     let s = start d in
     let other =
     ne-eqb (length (lineBytes (line s))) (queryLength (block s))
-    (λ e. c .before .before .if2 .taken (counted d ∙ e ∙ sym (m .query-length .ensures .0))) in
+    (λ e. called .before .before .if2 .taken (counted d ∙ e ∙ sym (m .query-length .ensures .0))) in
     let against = line-refused (block s) (line s) _ (line-decided (block s) (line s) _ _ (good (m .before)) other) in
-    gives s _ _ _ _ against (onward d) (c .refuse2 .ensures)
+    gives s _ _ _ _ against (onward d) (called .refuse2 .ensures)
 
 module _ (c : tie.Else2) where
   abbrev found : tie.After-read-line
@@ -136,7 +147,7 @@ module _ (c : tie.Else2) where
   long = sym (counted found) ∙ c .if2 .left ∙ c .before .before .query-length .ensures .0
 
   short : length (lineBytes (line call)) ≤ 25
-  short = omega (arith, long, call .pre .0 .sized .head .sizes .n-high)
+  short = omega (arith, long, call .pre .0 .sized .headed .sizes .n-high)
 
   -- the part that is decoded is the line
   part : lineBytes (take (found .read-line .result .next - at) (drop at text)) ≡ lineBytes (line call)
@@ -196,10 +207,10 @@ slice-aggregate-answer-query-2 c = search needs
 
 answer-query-requires : tie.Need-answer-query-requires
 answer-query-requires c κs =
-    let d = decoded-from-bytes c in
+    let d = decoded-from-answer c in
     let s = call (else d) in
     let valid = s .pre .0 in
-    let known = found (else d) .before .before .before .shared-slice-known .given in
+    let known = block-from-found (found (else d)) .shared-slice-known .given in
     let small = cost-bytes (block s) (λ i. omega (arith, known i)) in
     let entries : abstractStates (block s) ≤ length (now (s .args .table)) =
     omega (arith, ap length (s .pre .1), filled-length (block s) valid small) in (
@@ -210,7 +221,7 @@ answer-query-requires c κs =
 -- the record that answers the query
 module _ (c : tie.After-answer-query) where
   abbrev decoded : tie.After-decode-line
-  decoded = decoded-from-bytes (c .before)
+  decoded = decoded-from-answer (c .before)
 
   abbrev query-line : tie.Start
   query-line = call (else decoded)
@@ -233,8 +244,8 @@ module _ (c : tie.After-answer-query) where
   told-length =
       length-take-le (c .answer-query .result) (c .answer-query .last .1 .1 .1 .0) (written-fits (c .answer-query .ensures))
 
-array-share-prefix-bytes : tie.Need-array-share-prefix-bytes
-array-share-prefix-bytes c = omega (arith, fits (c .before), c .before .answer-query .kept .1 .1 .1 .0)
+array-share-prefix-answer : tie.Need-array-share-prefix-answer
+array-share-prefix-answer c = omega (arith, fits (c .before), c .before .answer-query .kept .1 .1 .1 .0)
 
 slice-aggregate-encode-line : tie.Need-slice-aggregate-encode-line
 slice-aggregate-encode-line c = sym (told-length (c .before .before))
@@ -242,13 +253,17 @@ slice-aggregate-encode-line c = sym (told-length (c .before .before))
 encode-line-requires : tie.Need-encode-line-requires
 encode-line-requires c κs =
     let d = c .before .before .before in
-    omega (arith, line-length (told-bytes d), told-length d, fits d, c .encode-line-arg .given .0 .1)
+    omega (arith, line-length (told-bytes d), told-length d, fits d, query-line d .pre .2)
+
+same-length-3 : tie.Need-same-length-3
+same-length-3 c = search needs
 
 returns-3 : tie.Need-returns-3
 returns-3 c =
-    let d = answer-from-line c in
+    let called = c .before .before in
+    let d = answer-from-line called in
     let e = else (decoded d) in
-    gives (query-line d) _ _ _ _ (settled e) (onward (found e)) (line-of (c .encode-line .ensures) (answered d))
+    gives (query-line d) _ _ _ _ (settled e) (onward (found e)) (line-of (called .encode-line .ensures) (answered d))
 
 pub answer-line-spec : {M : Type 1} → statement M
 answer-line-spec =
@@ -256,9 +271,11 @@ answer-line-spec =
     (tie.spec
     read-line-requires
     refuse-requires
+    same-length
     returns
     query-length-requires
     refuse-requires-2
+    same-length-2
     returns-2
     sub-decode-line
     part-decode-line-start
@@ -269,7 +286,8 @@ answer-line-spec =
     slice-aggregate-answer-query
     slice-aggregate-answer-query-2
     answer-query-requires
-    array-share-prefix-bytes
+    array-share-prefix-answer
     slice-aggregate-encode-line
     encode-line-requires
+    same-length-3
     returns-3)

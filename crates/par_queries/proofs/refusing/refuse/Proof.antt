@@ -13,7 +13,10 @@ use Rattle.par_queries.proofs.PrintedLines.{line-length, line-of}
 use Rattle.par_queries.proofs.refusing.refuse.Statement.{statement}
 use Rattle.par_queries.proofs.refusing.refuse.Tie as tie
 
--- the place that the facts below go back to
+-- the places that the facts below go back to
+abbrev start-from-put : tie.After-put-refusal → tie.Start
+start-from-put c = c .before .before .before
+
 abbrev put-from-line : tie.After-encode-line → tie.After-put-refusal
 put-from-line c = c .before .before .before .before
 
@@ -28,7 +31,7 @@ module _ (c : tie.After-put-refusal) where
   abbrev part : List ℕ
   part = take (c .put-refusal .result) (c .put-refusal .last .1 .0)
 
-  taken : part ≡ refusalBytes (refusalNumber (c .before .before .args .refusal))
+  taken : part ≡ refusalBytes (refusalNumber (start-from-put c .args .refusal))
   taken = written-taken (c .put-refusal .ensures)
 
 array-share-prefix-bytes : tie.Need-array-share-prefix-bytes
@@ -41,10 +44,13 @@ slice-aggregate-encode-line c =
 encode-line-requires : tie.Need-encode-line-requires
 encode-line-requires c κs =
     let p = c .before .before .before in
-    omega (arith, line-length (part p), ap length (taken p), c .encode-line-arg .given .0 .1)
+    omega (arith, line-length (part p), ap length (taken p), start-from-put p .pre)
+
+same-length : tie.Need-same-length
+same-length c = search needs
 
 returns : tie.Need-returns
-returns c = line-of (c .encode-line .ensures) (taken (put-from-line c))
+returns c = let e = c .before .before in line-of (e .encode-line .ensures) (taken (put-from-line e))
 
 pub refuse-spec : {M : Type 1} → statement M
 refuse-spec =
@@ -55,4 +61,5 @@ refuse-spec =
     array-share-prefix-bytes
     slice-aggregate-encode-line
     encode-line-requires
+    same-length
     returns)

@@ -36,7 +36,7 @@ parts b =
 
 relabel-head-requires : tie.Need-relabel-head-requires
 relabel-head-requires c κs = (
-  c .before .before .before .pre .0 .sized .head,
+  c .before .before .before .pre .0 .sized .headed,
   omega (arith, parts (now (c .before .before .before .args .block))),
 )
 

@@ -1,7 +1,9 @@
 -- `psvn_calls::applying::apply_rule` meets its contract.
--- Refused with the buffer as it was, or what the rule makes of the state.
+-- Refused with the buffer as it was, or what the rule makes of the state; the promise follows from the outcome.
 use mathlib.Core.Path.{_≡_, sym, ap, ap₂, _∙_}
 use mathlib.Core.Bool.{Bool, cond}
+use mathlib.Core.List.{List}
+use Prim.Native.Nat.{ℕ}
 use lib.ListN.{length}
 use denote.Ref.{now}
 use borrow.Author.Needs.{needs}
@@ -11,8 +13,9 @@ use Rattle.refusals.specs.Refusals.{verdictOf}
 use Rattle.blocks.specs.Layout.{positions}
 use Rattle.psvn.specs.Rules.{applies, step}
 use Rattle.blocks.proofs.StateLaws.{state-length}
-use Rattle.psvn_calls.specs.Applying.{Applied, done, does-not-apply, applyConditions, applyRule}
+use Rattle.psvn_calls.specs.Applying.{Applied, done, does-not-apply, applyConditions, applyRule, ApplicationKept}
 use Rattle.psvn_calls.proofs.Conditions.{ApplyAccepted, apply-accepted}
+use Rattle.psvn_calls.proofs.Promises.{application-kept}
 use Rattle.psvn_calls.proofs.applying.apply_rule.Statement.{statement}
 use Rattle.psvn_calls.proofs.applying.apply_rule.Tie as tie
 
@@ -40,6 +43,22 @@ settled s verdict applies =
     let new = step (now (a .block)) (a .rule) (now (a .state)) in
     guarded verdict out (cond applies (outcome (told done) (atFront new out)) (outcome (told does-not-apply) out))
 
+-- an outcome that is that of the call keeps the promise
+abbrev Gives : tie.Start → Answer Applied → List ℕ → Type 0
+Gives s answer out′ =
+    let a = s .args in
+    outcome answer out′ ≡ applyRule (now (a .block)) (a .rule) (now (a .state)) (now (a .out))
+
+abbrev Promised : tie.Start → Answer Applied → List ℕ → Type 0
+Promised s answer out′ =
+    let a = s .args in
+    ApplicationKept (now (a .block)) (a .rule) (now (a .state)) answer out′
+
+kept : (s : tie.Start) (answer : Answer Applied) (out′ : List ℕ) → Gives s answer out′ → Promised s answer out′
+kept s answer out′ e =
+    let a = s .args in
+    application-kept (now (a .block)) (now (a .state)) (a .rule) (now (a .out)) e
+
 check-application-requires : tie.Need-check-application-requires
 check-application-requires c κs = search needs
 
@@ -53,7 +72,8 @@ returns c =
     let checked = c .before .before .before .check-application .ensures in
     let against = sym checked ∙ ap verdictOf (c .before .checked .given .1) in
     let applied = applies (now (s .args .block)) (s .args .rule) (now (s .args .state)) in
-    sym (ap (λ (v : Answer (Unit {0})). settled s v applied) against)
+    let e = sym (ap (λ (v : Answer (Unit {0})). settled s v applied) against) in
+    (e, kept s _ _ e)
 
 enum-told : tie.Need-enum-told
 enum-told c = search needs
@@ -97,14 +117,18 @@ returns-2 c =
     let k = then-from-slice2 c in
     let d = k .before .before in
     let applies = sym (k .before .applies .ensures) ∙ k .if1 .taken in
+    let e =
     ap (outcome (told done)) (c .before .before .step .ensures)
-    ∙ sym (ap₂ (settled (start-from-told d)) (accepted d) applies)
+    ∙ sym (ap₂ (settled (start-from-told d)) (accepted d) applies) in
+    (e, kept (start-from-told d) _ _ e)
 
 returns-3 : tie.Need-returns-3
 unfolding applyRule
 returns-3 c =
     let d = c .before .before in
-    sym (ap₂ (settled (start-from-told d)) (accepted d) (sym (c .before .applies .ensures) ∙ c .if1 .left))
+    let applies = sym (c .before .applies .ensures) ∙ c .if1 .left in
+    let e = sym (ap₂ (settled (start-from-told d)) (accepted d) applies) in
+    (e, kept (start-from-told d) _ _ e)
 
 pub apply-rule-spec : {M : Type 1} → statement M
 apply-rule-spec =

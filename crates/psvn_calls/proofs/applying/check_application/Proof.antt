@@ -73,7 +73,7 @@ decided c rule room p q =
 headed : (c : tie.After-enum-told) → Headed (now (start-from-told c .args .block))
 headed c =
     let a = start-from-told c .args in
-    state-accepted (now (a .block)) (now (a .state)) (accepted c) .valid .sized .head
+    state-accepted (now (a .block)) (now (a .state)) (accepted c) .valid .sized .headed
 
 rules-requires : tie.Need-rules-requires
 rules-requires c κs = headed c .long

@@ -62,7 +62,7 @@ decided c =
     ∙ ap (λ (t : Bool). verdict (8 unless t ∷ [])) (sym (c .state-ok .ensures))
 
 state-ok-requires : tie.Need-state-ok-requires
-state-ok-requires c κs = accepted-valid (block-at-told c) (accepted c) .sized .head
+state-ok-requires c κs = accepted-valid (block-at-told c) (accepted c) .sized .headed
 
 returns-2 : tie.Need-returns-2
 returns-2 c = sym (decided (c .before) ∙ ap (λ (t : Bool). verdict (8 unless t ∷ [])) (c .if1 .taken))

@@ -1,5 +1,5 @@
 -- `psvn_calls::goals::test_goals` meets its contract.
--- Refused, or whether the state meets a goal.
+-- Refused, or whether the state meets a goal; the promise follows from the answer.
 use mathlib.Core.Path.{_≡_, sym, ap, ap₂, _∙_}
 use mathlib.Core.Bool.{Bool}
 use denote.Ref.{now}
@@ -9,8 +9,9 @@ use Rattle.refusals.specs.Refusals.{verdictOf}
 use Rattle.psvn.specs.Rules.{meets}
 use Rattle.blocks.proofs.StateLaws.{state-length}
 use Rattle.psvn_calls.specs.Checking.{stateConditions}
-use Rattle.psvn_calls.specs.Goals.{testGoals}
+use Rattle.psvn_calls.specs.Goals.{testGoals, GoalTestKept}
 use Rattle.psvn_calls.proofs.Conditions.{state-accepted}
+use Rattle.psvn_calls.proofs.Promises.{goal-test-kept}
 use Rattle.psvn_calls.proofs.goals.test_goals.Statement.{statement}
 use Rattle.psvn_calls.proofs.goals.test_goals.Tie as tie
 
@@ -28,6 +29,15 @@ verdict-of s = verdict (stateConditions (now (s .args .block)) (now (s .args .st
 abbrev settled : tie.Start → Answer (Unit {0}) → Answer Bool
 settled s verdict = answered verdict (meets (now (s .args .block)) (now (s .args .state)))
 
+-- an answer that is that of the call keeps the promise
+abbrev Gives : tie.Start → Answer Bool → Type 0
+Gives s answer = answer ≡ testGoals (now (s .args .block)) (now (s .args .state))
+
+kept :
+    (s : tie.Start) (answer : Answer Bool) → Gives s answer
+    → GoalTestKept (now (s .args .block)) (now (s .args .state)) answer
+kept s answer e = goal-test-kept (now (s .args .block)) (now (s .args .state)) e
+
 check-state-requires : tie.Need-check-state-requires
 check-state-requires c κs = search needs
 
@@ -38,7 +48,8 @@ returns : tie.Need-returns
 unfolding testGoals
 returns c =
     let against = sym (c .before .before .before .check-state .ensures) ∙ ap verdictOf (c .before .checked .given .1) in
-    sym (ap (settled (start-from-known c)) against)
+    let e = sym (ap (settled (start-from-known c)) against) in
+    (e, kept (start-from-known c) _ e)
 
 enum-told : tie.Need-enum-told
 enum-told c = search needs
@@ -56,12 +67,16 @@ meets-requires c κs =
 returns-2 : tie.Need-returns-2
 unfolding testGoals
 returns-2 c =
-    sym (ap₂ (answered {A = Bool}) (accepted (c .before .before)) (sym (c .before .meets .ensures) ∙ c .if1 .taken))
+    let met = sym (c .before .meets .ensures) ∙ c .if1 .taken in
+    let e = sym (ap₂ (answered {A = Bool}) (accepted (c .before .before)) met) in
+    (e, kept (start-from-told (c .before .before)) _ e)
 
 returns-3 : tie.Need-returns-3
 unfolding testGoals
 returns-3 c =
-    sym (ap₂ (answered {A = Bool}) (accepted (c .before .before)) (sym (c .before .meets .ensures) ∙ c .if1 .left))
+    let not-met = sym (c .before .meets .ensures) ∙ c .if1 .left in
+    let e = sym (ap₂ (answered {A = Bool}) (accepted (c .before .before)) not-met) in
+    (e, kept (start-from-told (c .before .before)) _ e)
 
 pub test-goals-spec : {M : Type 1} → statement M
 test-goals-spec =

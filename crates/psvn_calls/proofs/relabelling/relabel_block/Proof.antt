@@ -1,5 +1,5 @@
 -- `psvn_calls::relabelling::relabel_block` meets its contract.
--- Refused with the buffer as it was, or the relabelled block at its front.
+-- Refused with the buffer as it was, or the relabelled block at its front; the promise follows from the outcome.
 use mathlib.Core.Path.{_≡_, sym, ap, ap₂, _∙_}
 use mathlib.Core.Bool.{Bool}
 use mathlib.Core.List.{List, [], _∷_}
@@ -18,7 +18,8 @@ use Rattle.blocks.specs.Validity.{blockConditions, Valid}
 use Rattle.psvn.specs.Relabelling.{relabelBlock}
 use Rattle.blocks.proofs.Accepted.{accepted-valid}
 use Rattle.psvn.proofs.Relabelled.{relabelled-length}
-use Rattle.psvn_calls.specs.Relabelling.{relabelConditions, relabelExercise}
+use Rattle.psvn_calls.specs.Relabelling.{relabelConditions, relabelExercise, RelabellingKept}
+use Rattle.psvn_calls.proofs.Promises.{relabelling-kept}
 use Rattle.psvn_calls.proofs.relabelling.relabel_block.Statement.{statement}
 use Rattle.psvn_calls.proofs.relabelling.relabel_block.Tie as tie
 
@@ -46,6 +47,13 @@ settled s verdict =
     let out = now (s .args .out) in
     guarded verdict out (outcome (told (length new)) (atFront new out))
 
+-- an outcome that is that of the call keeps the promise
+abbrev Gives : tie.Start → Answer ℕ → List ℕ → Type 0
+Gives s answer out′ = outcome answer out′ ≡ relabelExercise (block s) (now (s .args .out))
+
+kept : (s : tie.Start) (answer : Answer ℕ) (out′ : List ℕ) → Gives s answer out′ → RelabellingKept answer out′
+kept s answer out′ e = relabelling-kept (block s) (now (s .args .out)) e
+
 check-requires : tie.Need-check-requires
 check-requires c κs = search needs
 
@@ -57,7 +65,8 @@ unfolding relabelExercise relabelConditions
 returns c =
     let against = sym (c .before .before .before .check .ensures) ∙ ap verdictOf (c .before .checked .given .1) in
     let s = start-from-known c in
-    sym (ap (settled s) (verdict-before (blockConditions (block s)) _ _ against))
+    let e = sym (ap (settled s) (verdict-before (blockConditions (block s)) _ _ against)) in
+    (e, kept s _ _ e)
 
 enum-told : tie.Need-enum-told
 enum-told c = search needs
@@ -86,7 +95,7 @@ measured :
 measured c = c .relabelled-length .ensures .0 ∙ sym (relabelled-length (block (start-from-told (c .before))))
 
 relabelled-length-requires : tie.Need-relabelled-length-requires
-relabelled-length-requires c κs = valid c .sized .head
+relabelled-length-requires c κs = valid c .sized .headed
 
 returns-2 : tie.Need-returns-2
 unfolding relabelExercise
@@ -94,7 +103,8 @@ returns-2 c =
     let d = c .before .before in
     let s = start-from-told d in
     let short = lt-leb (length (relabelBlock (block s))) (room s) (omega (arith, measured (c .before))) in
-    sym (ap (settled s) (decided d _ short))
+    let e = sym (ap (settled s) (decided d _ short)) in
+    (e, kept s _ _ e)
 
 relabel-block-requires : tie.Need-relabel-block-requires
 relabel-block-requires c κs = (valid (c .before .before .before), omega (arith, measured (c .before .before)))
@@ -108,8 +118,10 @@ returns-3 c =
     let k = length-from-slice2 c in
     let s = start-from-told (k .before) in
     let long = le-leb (length (relabelBlock (block s))) (room s) (omega (arith, measured k)) in
+    let e =
     ap₂ (λ (n : ℕ). outcome (told n)) (measured k) (c .before .before .relabel-block .ensures)
-    ∙ sym (ap (settled s) (decided (k .before) _ long))
+    ∙ sym (ap (settled s) (decided (k .before) _ long)) in
+    (e, kept s _ _ e)
 
 pub relabel-block-spec : {M : Type 1} → statement M
 relabel-block-spec =

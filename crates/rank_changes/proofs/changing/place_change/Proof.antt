@@ -67,7 +67,7 @@ add-terms-requires c κs =
     let right = c .before .right-at .ensures .0 in
     let l = left-inside b (h .0 .sized) (s .args .r) (h .1) in
     let k = right-inside b (h .0 .sized) (s .args .r) (h .1) in (
-      (omega arith, omega arith, omega (arith, h .0 .sized .head .sizes .n-high), h .2 .low, refl),
+      (omega arith, omega arith, omega (arith, h .0 .sized .headed .sizes .n-high), h .2 .low, refl),
       named Bound b (sym n) (sym left) (sym right) (record { at = right-bound b (h .0) (s .args .r) (h .1) }),
     )
 
@@ -79,7 +79,7 @@ fold-terms-requires c κs =
     let left = left-at-from-rows2 c .left-at .ensures .0 in
     let l = left-inside (now (s .args .block)) (h .0 .sized) (s .args .r) (h .1) in
     let made = c .before .add-terms .ensures in
-    (omega arith, omega (arith, h .0 .sized .head .sizes .n-high), made .low, made .constant-low)
+    (omega arith, omega (arith, h .0 .sized .headed .sizes .n-high), made .low, made .constant-low)
 
 first-part-requires : tie.Need-first-part-requires
 first-part-requires c κs = search needs
@@ -95,7 +95,7 @@ cast-changes c = search needs
 
 -- the rule is one of 64
 few-rules : (c : tie.After-place-parts) → start-from-place-parts c .args .r < 64
-few-rules c = omega (arith, start-from-place-parts c .pre .0 .sized .head .sizes .r-high)
+few-rules c = omega (arith, start-from-place-parts c .pre .0 .sized .headed .sizes .r-high)
 
 mul-changes : tie.Need-mul-changes
 mul-changes c = omega (arith, few-rules c)

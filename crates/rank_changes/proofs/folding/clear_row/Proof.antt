@@ -59,7 +59,7 @@ loop-again c =
 returns : tie.Need-returns Inv-loop μ-loop
 returns c =
     let inv = c .before .loop .inv in
-    record { none = λ x l. inv .3 x (omega arith); rows = inv .1; low = inv .2 }
+    record { zeros = λ x l. inv .3 x (omega arith); rows = inv .1; low = inv .2 }
 
 pub clear-row-spec : {M : Type 1} → statement M
 clear-row-spec =

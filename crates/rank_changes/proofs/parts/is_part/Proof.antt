@@ -12,7 +12,7 @@ use Rattle.rank_changes.proofs.parts.is_part.Tie as tie
 returns : tie.Need-returns
 returns c =
     let a = c .before .args in
-    sym (ap (λ (t : Bool). t || not (plainRow (now (a .rows)) (a .p))) (eq-eqb (a .p) (a .first) (c .if1 .taken)))
+    sym (ap (λ (t : Bool). t || not (plainRow (now (a .rows)) (a .p))) (eq-eqb (a .p) (a .lead) (c .if1 .taken)))
 
 is-plain-requires : tie.Need-is-plain-requires
 is-plain-requires c κs = search needs
@@ -22,7 +22,7 @@ returns-2 c =
     let a = c .before .before .args in
     ap not (c .is-plain .ensures)
     ∙ sym (ap (λ (t : Bool). t || not (plainRow (now (a .rows)) (a .p)))
-    (ne-eqb (a .p) (a .first) (c .before .if1 .left)))
+    (ne-eqb (a .p) (a .lead) (c .before .if1 .left)))
 
 pub is-part-spec : {M : Type 1} → statement M
 is-part-spec = tie.close (tie.spec returns is-plain-requires returns-2)

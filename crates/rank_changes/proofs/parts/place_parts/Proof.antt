@@ -12,11 +12,11 @@ use Rattle.rank_changes.proofs.parts.place_parts.Statement.{statement}
 use Rattle.rank_changes.proofs.parts.place_parts.Tie as tie
 
 abbrev Inv-loop : tie.InvT-loop
-Inv-loop rows n first changes₀ r at count₀ p₀ changes count p =
-    (p ≤ n) × PartsPlaced rows first r p count changes₀ changes
+Inv-loop rows n lead changes₀ r at count₀ p₀ changes count p =
+    (p ≤ n) × PartsPlaced rows lead r p count changes₀ changes
 
 abbrev μ-loop : tie.MeasureT-loop
-μ-loop rows n first changes₀ r at count₀ p₀ changes count p = n - p
+μ-loop rows n lead changes₀ r at count₀ p₀ changes count p = n - p
 
 -- the places that the facts below go back to
 abbrev loop-from-place-part-arg : tie.After-place-part-arg Inv-loop μ-loop → tie.At-loop Inv-loop μ-loop

@@ -60,7 +60,7 @@ accepted c = sym (c .before .before .check-state .ensures) ∙ ap verdictOf (c .
 headed : (c : tie.After-enum-told) → headLength ≤ length (now (start-from-told c .args .block))
 headed c =
     let a = start-from-told c .args in
-    state-accepted (now (a .block)) (now (a .start)) (accepted c) .valid .sized .head .long
+    state-accepted (now (a .block)) (now (a .start)) (accepted c) .valid .sized .headed .long
 
 -- then the numbers, the length of the list and the room decide
 decided :

@@ -1,5 +1,5 @@
 -- `run_calls::replaying::replay_run` meets its contract.
--- Refused with the buffer as it was, or how the replay ends and the state there.
+-- Refused with the buffer as it was, or how the replay ends and the state there; the promise follows from the outcome.
 use mathlib.Core.Path.{_≡_, sym, ap, ap₂, _∙_}
 use mathlib.Core.List.{List}
 use Prim.Native.Nat.{ℕ}
@@ -13,8 +13,9 @@ use Rattle.blocks.proofs.StateLaws.{state-length}
 use Rattle.runs.specs.Replay.{replayEnding, replayState}
 use Rattle.runs.specs.declared.replay.Replayed.{Replayed}
 use Rattle.runs.proofs.ReplayLaws.{rule-numbers}
-use Rattle.run_calls.specs.Replaying.{replayConditions, replayRun}
+use Rattle.run_calls.specs.Replaying.{replayConditions, replayRun, ReplayKept}
 use Rattle.run_calls.proofs.Conditions.{replay-accepted}
+use Rattle.run_calls.proofs.Promises.{replay-kept}
 use Rattle.run_calls.proofs.replaying.replay_run.Statement.{statement}
 use Rattle.run_calls.proofs.replaying.replay_run.Tie as tie
 
@@ -49,6 +50,22 @@ out-of s =
 abbrev outcome-by : tie.Start → Answer (Unit {0}) → Outcome Replayed
 outcome-by s verdict = guarded verdict (now (s .args .out)) (outcome (told (ending-of s)) (out-of s))
 
+-- an outcome that is that of the call keeps the promise
+abbrev Gives : tie.Start → Answer Replayed → List ℕ → Type 0
+Gives s answer out′ =
+    let a = s .args in
+    outcome answer out′ ≡ replayRun (now (a .block)) (now (a .start)) (now (a .list)) (now (a .out))
+
+abbrev Promised : tie.Start → Answer Replayed → List ℕ → Type 0
+Promised s answer out′ =
+    let a = s .args in
+    ReplayKept (now (a .block)) (now (a .start)) (now (a .list)) answer out′
+
+kept : (s : tie.Start) (answer : Answer Replayed) (out′ : List ℕ) → Gives s answer out′ → Promised s answer out′
+kept s answer out′ e =
+    let a = s .args in
+    replay-kept (now (a .block)) (now (a .start)) (now (a .list)) (now (a .out)) e
+
 check-replay-requires : tie.Need-check-replay-requires
 check-replay-requires c κs = search needs
 
@@ -59,7 +76,9 @@ returns : tie.Need-returns
 unfolding replayRun
 returns c =
     let against = sym (c .before .before .before .check-replay .ensures) ∙ ap verdictOf (c .before .checked .given .1) in
-    sym (ap (outcome-by (start-from-checked (c .before))) against)
+    let s = start-from-checked (c .before) in
+    let e = sym (ap (outcome-by s) against) in
+    (e, kept s _ _ e)
 
 enum-told : tie.Need-enum-told
 enum-told c = search needs
@@ -72,10 +91,13 @@ accepted c = sym (c .before .before .check-replay .ensures) ∙ ap verdictOf (c 
 told-by :
     (c : tie.After-enum-told) (ending : Replayed) (out : List ℕ) → ending ≡ ending-of (start-from-told c)
     → out ≡ out-of (start-from-told c)
-    → outcome (told ending) out ≡ outcome-by (start-from-told c) (verdict-of (start-from-told c))
+    → Gives (start-from-told c) (told ending) out × Promised (start-from-told c) (told ending) out
+unfolding replayRun
 told-by c ending out p q =
+    let e =
     ap₂ (λ (t : Replayed) (l : List ℕ). outcome (told t) l) p q
-    ∙ sym (ap (outcome-by (start-from-told c)) (accepted c))
+    ∙ sym (ap (outcome-by (start-from-told c)) (accepted c)) in
+    (e, kept (start-from-told c) _ _ e)
 
 replay-requires : tie.Need-replay-requires
 replay-requires c κs =
@@ -99,7 +121,6 @@ same-length : tie.Need-same-length
 same-length c = search needs
 
 returns-2 : tie.Need-returns-2
-unfolding replayRun
 returns-2 c =
     let d = replay-from-replayed (c .before) in
     let e = d .replay .ensures in
@@ -109,7 +130,6 @@ same-length-2 : tie.Need-same-length-2
 same-length-2 c = search needs
 
 returns-3 : tie.Need-returns-3
-unfolding replayRun
 returns-3 c =
     let d = replay-from-replayed2 (c .before) in
     let e = d .replay .ensures in

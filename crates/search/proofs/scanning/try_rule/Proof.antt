@@ -16,7 +16,7 @@ use Rattle.search.specs.Run.{stateAt, costAt}
 use Rattle.search.specs.OnWords.{onPath}
 use Rattle.search.proofs.RunStateLaws.{carried-same}
 use Rattle.search.proofs.Scans.{rules-low, depth-below, parts-some, rank-low, rank-led}
-use Rattle.search.proofs.Scans.{Applied, pass-idle, pass-seen, pass-over, pass-on, found-due}
+use Rattle.search.proofs.Scans.{Applied, pass-idle, pass-seen, pass-overshoot, pass-on, found-due}
 use borrow.Author.Needs.{needs}
 use Rattle.search.proofs.scanning.try_rule.Statement.{statement}
 use Rattle.search.proofs.scanning.try_rule.Tie as tie
@@ -106,7 +106,7 @@ applies-in-requires c κs =
     let k = s .pre .0 .0 in (
       omega (arith, rules-low k, s .pre .1 .0),
       s .pre .1 .1,
-      k .given .ready .sets .plain .makes _ _ (k .good .small) (s .pre .1 .1),
+      k .given .ready .rule-sets .plain .makes _ _ (k .good .small) (s .pre .1 .1),
     )
 
 returns : tie.Need-returns
@@ -163,7 +163,7 @@ returns-2 c =
     let f = figure-from-note c in
     let k = start-from-figure f .pre .0 .0 in
     pass-on (depth-below k)
-    (pass-over _ _ _ _ _ (applied f) (omega (arith, c .before .before .if2 .taken)) _ _ refl) (c .note .ensures)
+    (pass-overshoot _ _ _ _ _ (applied f) (omega (arith, c .before .before .if2 .taken)) _ _ refl) (c .note .ensures)
 
 step-word-requires : tie.Need-step-word-requires
 step-word-requires c κs = search needs

@@ -41,7 +41,7 @@ valid : (c : tie.After-enum-told) → verdict (blockConditions (now (start-from-
 valid c = sym (c .before .before .check .ensures) ∙ ap verdictOf (c .enum-told .given .1)
 
 check-query-requires : tie.Need-check-query-requires
-check-query-requires c κs = accepted-valid (now (start-from-told c .args .block)) (valid c) .sized .head
+check-query-requires c κs = accepted-valid (now (start-from-told c .args .block)) (valid c) .sized .headed
 
 enum-known-asked : tie.Need-enum-known-asked
 enum-known-asked c = search needs

@@ -67,7 +67,7 @@ Ended s out x =
 abbrev Promised : tie.Start → Search → List ℕ → Type 0
 Promised s r out =
     let a = s .args in
-    PlanKept (now (a .block)) (now (a .start)) (a .limits) (now (a .table)) r out
+    PlanKept (now (a .block)) (now (a .start)) (a .limits) (now (a .table)) (searchOf r) out
 
 check-search-requires : tie.Need-check-search-requires
 check-search-requires c κs = search needs

@@ -1,5 +1,5 @@
 -- `table_calls::estimating::look_up_estimate` meets its contract.
--- Refused, or the entry of the relabelled state.
+-- Refused, or the entry of the relabelled state; the promise follows from the answer.
 use mathlib.Core.Path.{_≡_, sym, ap, _∙_}
 use mathlib.Core.Bool.{Bool}
 use mathlib.Core.List.{List, [], _∷_}
@@ -16,9 +16,10 @@ use Rattle.refusals.proofs.Verdicts.{verdict-before}
 use Rattle.blocks.specs.Layout.{abstractStates}
 use Rattle.tables.specs.Tables.{estimate}
 use Rattle.psvn_calls.specs.Checking.{stateConditions}
-use Rattle.table_calls.specs.Estimating.{lookUpConditions, lookUpEstimate}
+use Rattle.table_calls.specs.Estimating.{lookUpConditions, lookUpEstimate, EstimateKept}
 use Rattle.psvn_calls.proofs.Conditions.{StateAccepted, state-accepted}
 use Rattle.table_calls.proofs.Conditions.{table-decided}
+use Rattle.table_calls.proofs.Promises.{estimate-kept}
 use Rattle.table_calls.proofs.estimating.look_up_estimate.Statement.{statement}
 use Rattle.table_calls.proofs.estimating.look_up_estimate.Tie as tie
 
@@ -43,6 +44,13 @@ room s = length (now (s .args .table))
 abbrev settled : tie.Start → Answer (Unit {0}) → Answer ℕ
 settled s verdict = answered verdict (estimate (block s) (now (s .args .table)) (state s))
 
+-- the answer, with its promise
+abbrev Gives : tie.Start → Answer ℕ → Type 0
+Gives s a = a ≡ lookUpEstimate (block s) (state s) (now (s .args .table))
+
+promised : (s : tie.Start) {a : Answer ℕ} → Gives s a → Gives s a × EstimateKept (block s) (state s) (now (s .args .table)) a
+promised s e = (e, estimate-kept (block s) (state s) (now (s .args .table)) e)
+
 check-state-requires : tie.Need-check-state-requires
 check-state-requires c κs = search needs
 
@@ -54,7 +62,7 @@ unfolding lookUpEstimate lookUpConditions
 returns c =
     let s = start-from-known c in
     let against = sym (c .before .before .before .check-state .ensures) ∙ ap verdictOf (c .before .checked .given .1) in
-    sym (ap (settled s) (verdict-before (stateConditions (block s) (state s)) _ _ against))
+    promised s (sym (ap (settled s) (verdict-before (stateConditions (block s) (state s)) _ _ against)))
 
 enum-told : tie.Need-enum-told
 enum-told c = search needs
@@ -80,7 +88,7 @@ decided c long p =
     table-decided (block s) (room s) (stateConditions (block s) (state s)) (accepted c) long p
 
 abstract-states-requires : tie.Need-abstract-states-requires
-abstract-states-requires c κs = ready c .valid .sized .head
+abstract-states-requires c κs = ready c .valid .sized .headed
 
 returns-2 : tie.Need-returns-2
 unfolding lookUpEstimate
@@ -89,7 +97,7 @@ returns-2 c =
     let s = start-from-told d in
     let counted = c .before .abstract-states .ensures .0 in
     let short = lt-leb (abstractStates (block s)) (room s) (omega (arith, counted)) in
-    sym (ap (settled s) (decided d _ short))
+    promised s (sym (ap (settled s) (decided d _ short)))
 
 estimate-requires : tie.Need-estimate-requires
 estimate-requires c κs =
@@ -103,7 +111,7 @@ returns-3 c =
     let s = start-from-told d in
     let counted = c .before .before .abstract-states .ensures .0 in
     let long = le-leb (abstractStates (block s)) (room s) (omega (arith, counted)) in
-    ap told (c .estimate .ensures) ∙ sym (ap (settled s) (decided d _ long))
+    promised s (ap told (c .estimate .ensures) ∙ sym (ap (settled s) (decided d _ long)))
 
 pub look-up-estimate-spec : {M : Type 1} → statement M
 look-up-estimate-spec =

@@ -57,7 +57,7 @@ decided c long p =
     table-decided (now (a .block)) (a .room) (blockConditions (now (a .block))) (accepted c) long p
 
 abstract-states-requires : tie.Need-abstract-states-requires
-abstract-states-requires c κs = accepted-valid (now (start-from-told c .args .block)) (accepted c) .sized .head
+abstract-states-requires c κs = accepted-valid (now (start-from-told c .args .block)) (accepted c) .sized .headed
 
 returns-2 : tie.Need-returns-2
 returns-2 c =

@@ -1,6 +1,9 @@
 -- `table_calls::whole_tables::fill_table` meets its contract.
--- Refused with the table as it was, or the filled table at its front.
+-- Refused with the table as it was, or the filled table at its front; the promise follows from the outcome.
 use mathlib.Core.Path.{_≡_, sym, ap, _∙_}
+use mathlib.Core.List.{List}
+use Prim.Native.Nat.{ℕ}
+use native.Mathlib.Omega.{arith}
 use lib.ListN.{length}
 use denote.Ref.{now}
 use borrow.Author.Needs.{needs}
@@ -8,17 +11,21 @@ use Rattle.basics.specs.Lists.{atFront}
 use Rattle.refusals.specs.Answers.{Answer, told, verdict, Outcome, outcome, guarded}
 use Rattle.refusals.specs.Refusals.{verdictOf}
 use Rattle.filling.specs.FilledTables.{filled}
-use Rattle.table_calls.specs.WholeTables.{tableConditions, fillTable}
+use Rattle.table_calls.specs.WholeTables.{tableConditions, fillTable, FillingKept}
 use Rattle.table_calls.proofs.Conditions.{table-accepted}
+use Rattle.table_calls.proofs.Promises.{filling-kept}
 use Rattle.table_calls.proofs.whole_tables.fill_table.Statement.{statement}
 use Rattle.table_calls.proofs.whole_tables.fill_table.Tie as tie
 
 -- the places that the facts below go back to
-abbrev start-from-told : tie.After-enum-told → tie.Start
-start-from-told c = c .before .before .before .before .before
+abbrev lent-from-told : tie.After-enum-told → tie.After-shared-slice-known
+lent-from-told c = c .before .before .before .before
 
-abbrev start-from-known : tie.After-known-told → tie.Start
-start-from-known c = c .before .before .before .before .before .before
+abbrev start-from-told : tie.After-enum-told → tie.Start
+start-from-told c = lent-from-told c .before
+
+abbrev lent-from-known : tie.After-known-told → tie.After-shared-slice-known
+lent-from-known c = c .before .before .before .before .before
 
 abbrev told-from-slice2 : tie.After-slice-known2 → tie.After-enum-told
 told-from-slice2 c = c .before .before .before .before
@@ -32,6 +39,18 @@ settled s verdict =
     let table = now (s .args .table) in
     guarded verdict table (outcome (told tt) (atFront (filled (now (s .args .block))) table))
 
+-- an outcome that is that of the call keeps the promise, since the block that is lent has bytes
+abbrev Gives : tie.Start → Answer (Unit {0}) → List ℕ → Type 0
+Gives s answer table′ = outcome answer table′ ≡ fillTable (now (s .args .block)) (now (s .args .table))
+
+kept :
+    (c : tie.After-shared-slice-known) (answer : Answer (Unit {0})) (table′ : List ℕ) → Gives (c .before) answer table′
+    → FillingKept (now (c .before .args .block)) answer table′
+kept c answer table′ e =
+    let a = c .before .args in
+    let small = c .shared-slice-known .given in
+    filling-kept (now (a .block)) (λ i. omega (arith, small i)) (now (a .table)) e
+
 check-table-requires : tie.Need-check-table-requires
 check-table-requires c κs = search needs
 
@@ -42,7 +61,9 @@ returns : tie.Need-returns
 unfolding fillTable
 returns c =
     let against = sym (c .before .before .before .check-table .ensures) ∙ ap verdictOf (c .before .checked .given .1) in
-    sym (ap (settled (start-from-known c)) against)
+    let lent = lent-from-known c in
+    let e = sym (ap (settled (lent .before)) against) in
+    (e, kept lent _ _ e)
 
 enum-told : tie.Need-enum-told
 enum-told c = search needs
@@ -64,7 +85,9 @@ returns-2 : tie.Need-returns-2
 unfolding fillTable
 returns-2 c =
     let d = told-from-slice2 c in
-    ap (outcome (told tt)) (c .before .before .fill .ensures) ∙ sym (ap (settled (start-from-told d)) (accepted d))
+    let e =
+    ap (outcome (told tt)) (c .before .before .fill .ensures) ∙ sym (ap (settled (start-from-told d)) (accepted d)) in
+    (e, kept (lent-from-told d) _ _ e)
 
 pub fill-table-spec : {M : Type 1} → statement M
 fill-table-spec =

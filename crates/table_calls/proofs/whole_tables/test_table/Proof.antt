@@ -1,5 +1,5 @@
 -- `table_calls::whole_tables::test_table` meets its contract.
--- Refused, or whether the table passes the lower-bound test.
+-- Refused, or whether the table passes the lower-bound test; the promise follows from the answer.
 use mathlib.Core.Path.{_≡_, sym, ap, ap₂, _∙_}
 use mathlib.Core.Bool.{Bool}
 use lib.ListN.{length}
@@ -8,8 +8,9 @@ use borrow.Author.Needs.{needs}
 use Rattle.refusals.specs.Answers.{Answer, told, verdict, answered}
 use Rattle.refusals.specs.Refusals.{verdictOf}
 use Rattle.tables.specs.Tables.{passesTest}
-use Rattle.table_calls.specs.WholeTables.{tableConditions, testTable}
+use Rattle.table_calls.specs.WholeTables.{tableConditions, testTable, TableTestKept}
 use Rattle.table_calls.proofs.Conditions.{table-accepted}
+use Rattle.table_calls.proofs.Promises.{test-kept}
 use Rattle.table_calls.proofs.whole_tables.test_table.Statement.{statement}
 use Rattle.table_calls.proofs.whole_tables.test_table.Tie as tie
 
@@ -27,6 +28,13 @@ verdict-of s = verdict (tableConditions (now (s .args .block)) (length (now (s .
 abbrev settled : tie.Start → Answer (Unit {0}) → Answer Bool
 settled s verdict = answered verdict (passesTest (now (s .args .block)) (now (s .args .table)))
 
+-- the answer, with its promise
+promised :
+    (s : tie.Start) {a : Answer Bool} → a ≡ testTable (now (s .args .block)) (now (s .args .table))
+    → (a ≡ testTable (now (s .args .block)) (now (s .args .table)))
+    × TableTestKept (now (s .args .block)) (now (s .args .table)) a
+promised s e = (e, test-kept (now (s .args .block)) (now (s .args .table)) e)
+
 check-table-requires : tie.Need-check-table-requires
 check-table-requires c κs = search needs
 
@@ -37,7 +45,7 @@ returns : tie.Need-returns
 unfolding testTable
 returns c =
     let against = sym (c .before .before .before .check-table .ensures) ∙ ap verdictOf (c .before .checked .given .1) in
-    sym (ap (settled (start-from-known c)) against)
+    promised (start-from-known c) (sym (ap (settled (start-from-known c)) against))
 
 enum-told : tie.Need-enum-told
 enum-told c = search needs
@@ -55,12 +63,14 @@ passes-requires c κs =
 returns-2 : tie.Need-returns-2
 unfolding testTable
 returns-2 c =
-    sym (ap₂ (answered {A = Bool}) (accepted (c .before .before)) (sym (c .before .passes .ensures) ∙ c .if1 .taken))
+    promised (start-from-told (c .before .before))
+    (sym (ap₂ (answered {A = Bool}) (accepted (c .before .before)) (sym (c .before .passes .ensures) ∙ c .if1 .taken)))
 
 returns-3 : tie.Need-returns-3
 unfolding testTable
 returns-3 c =
-    sym (ap₂ (answered {A = Bool}) (accepted (c .before .before)) (sym (c .before .passes .ensures) ∙ c .if1 .left))
+    promised (start-from-told (c .before .before))
+    (sym (ap₂ (answered {A = Bool}) (accepted (c .before .before)) (sym (c .before .passes .ensures) ∙ c .if1 .left)))
 
 pub test-table-spec : {M : Type 1} → statement M
 test-table-spec =

@@ -27,7 +27,7 @@ find-edges-requires c κs =
     let s = start-from-find-edges-arg c in
     let a = s .args in
     let ready = s .pre .0 in
-    let z = ready .relabelled .valid .sized .head .sizes in
+    let z = ready .relabelled .valid .sized .headed .sizes in
     let n = ready .compiled .counted .positions-told in
     let k = c .before .labels .ensures .0 in (
       (

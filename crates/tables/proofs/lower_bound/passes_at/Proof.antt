@@ -8,11 +8,11 @@ use lib.Dec.{leb}
 use lib.ListN.{getD}
 use denote.Ref.{now}
 use borrow.Author.Needs.{needs}
+use Rattle.basics.specs.Marks.{mark}
 use Rattle.basics.proofs.Truth.{true-false}
 use Rattle.psvn.specs.Rules.{meets}
 use Rattle.psvn.specs.Ranks.{unrank}
 use Rattle.words.specs.Sides.{meetsWord}
-use Rattle.distances.specs.Graphs.{mark}
 use Rattle.distances.specs.Filling.{Cheap}
 use Rattle.distances.proofs.Passing.{ZeroAtGoal}
 use Rattle.distances.proofs.TestAt.{test-goal, test-none, test-leb, test-marked}

@@ -1,0 +1,20 @@
+-- What matching and applying mean, in the document's words: a state matches a side (`Matched`), and a state is what a
+-- rule makes of another (`Successor`). That `matches` and `step` are just these is shown in proofs/Matching.antt and
+-- proofs/Successors.antt; the demands are stated with these.
+use mathlib.Core.Path.{_≡_}
+use mathlib.Core.List.{List}
+use Prim.Native.Nat.{ℕ, _≤_, _<_}
+use lib.ListN.{getD}
+
+-- "its label equals each constant and positions with the same variable hold equal labels; a dash tests nothing"
+pub record Matched (n : ℕ) (side : ℕ → ℕ) (s : List ℕ) : Type 0 where
+  pub constant : (i : ℕ) → i < n → side i < 16 → getD s i 0 ≡ side i
+  pub same : (i j : ℕ) → i < n → j < n → 16 ≤ side i → side i < 32 → side j ≡ side i → getD s i 0 ≡ getD s j 0
+
+-- "On the right a constant is written, a variable gives its bound label, a dash keeps the old label. All new labels
+-- come from the old state": t is the new state, s the old one
+pub record Successor (n : ℕ) (left right : ℕ → ℕ) (s t : List ℕ) : Type 0 where
+  pub constant : (i : ℕ) → i < n → right i < 16 → getD t i 0 ≡ right i
+  pub variable :
+      (i j : ℕ) → i < n → j < n → 16 ≤ right i → right i < 32 → left j ≡ right i → getD t i 0 ≡ getD s j 0
+  pub dash : (i : ℕ) → i < n → right i ≡ 255 → getD t i 0 ≡ getD s i 0

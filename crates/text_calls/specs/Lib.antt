@@ -1,0 +1,3 @@
+-- What the call that reads an exercise promises.
+-- Its contract names this.
+pub mod Reading
