@@ -104,6 +104,7 @@ static const char *difference(const struct outcome *a, const struct outcome *b) 
   if (a->answer.steps != b->answer.steps) return "steps";
   if (a->answer.cost != b->answer.cost) return "cost";
   if (a->answer.visits != b->answer.visits) return "visits";
+  if (a->answer.goal != b->answer.goal) return "goal";
   if (memcmp(a->bytes, b->bytes, sizeof a->bytes) != 0) return "bytes written";
   if (memcmp(a->table, b->table, sizeof a->table) != 0) return "table";
   return NULL;

@@ -25,6 +25,8 @@ enum {
 
 enum { FOUND = 0, NO_PLAN = 1, SPENT = 2 };
 
+enum { NO_GOAL = 255 };
+
 /* Where a search starts, and its limits on steps, cost and visits. */
 struct query {
   uint8_t start[16];
@@ -33,12 +35,13 @@ struct query {
   uint32_t visits;
 };
 
-/* What a search answers; steps and cost are 0 without a plan. */
+/* What a search answers; without a plan steps and cost are 0, and the goal is NO_GOAL. */
 struct answer {
   uint32_t status;
   uint32_t steps;
   uint32_t cost;
   uint32_t visits;
+  uint32_t goal;
 };
 
 struct engine {

@@ -305,8 +305,10 @@ def start_functions(exercise):
     word = ' | '.join(f'(uint64_t)start[{i}] << {4 * i}' for i in positions)
     rank = ' + '.join(f'map[start[{i}]] * {weight_of(exercise, i)}u' for i in positions)
     table = f'static const uint8_t map[] = {{{", ".join(map(str, exercise.map))}}};'
-    goal = ' || '.join(goal_test(terms) for terms in exercise.goals)
-    return (function('inline bool meets_goal(uint64_t word)', [f'return {goal};'])
+    goals = [goal_test(terms) for terms in exercise.goals]
+    numbers = [f'if ({goal}) return {number};' for number, goal in enumerate(goals)] + ['return NO_GOAL;']
+    return (function('inline bool meets_goal(uint64_t word)', [f'return {" || ".join(goals)};'])
+            + function('uint32_t met_goal(uint64_t word)', numbers)
             + function('uint64_t word_of(const uint8_t *start)', [f'return {word};'])
             + function('uint32_t rank_of(const uint8_t *start)', [table, f'return {rank};']))
 

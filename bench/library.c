@@ -39,7 +39,7 @@ static struct answer find(const uint8_t *block, size_t length, const struct quer
   mikjuqan_search told = mikjuqan_find_plan(block, length, query->start, e.positions, limits, table, count_entries(&e),
                                             plan, query->steps);
   must_accept("search", told.refusal);
-  return (struct answer){told.status, (uint32_t)told.plan.steps, told.plan.cost, told.plan.visits};
+  return (struct answer){told.status, (uint32_t)told.plan.steps, told.plan.cost, told.plan.visits, told.plan.goal};
 }
 
 const struct engine library_engine = {"ours", read_text, mikjuqan_check_block, fill, test, find};

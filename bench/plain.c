@@ -170,13 +170,16 @@ static bool apply(const struct exercise *e, unsigned r, const uint8_t *state, ui
   return true;
 }
 
-static bool meets_goal(const struct exercise *e, const uint8_t *state) {
+/* The lowest number of a goal that a state meets, or NO_GOAL. */
+static unsigned met_goal(const struct exercise *e, const uint8_t *state) {
   struct binding bound;
   for (unsigned g = 0; g < e->goals; g++) {
-    if (matches(goal_at(e, g), state, e->positions, &bound)) return true;
+    if (matches(goal_at(e, g), state, e->positions, &bound)) return g;
   }
-  return false;
+  return NO_GOAL;
 }
+
+static bool meets_goal(const struct exercise *e, const uint8_t *state) { return met_goal(e, state) != NO_GOAL; }
 
 /* The rank of a state's relabelled state. */
 static uint32_t rank_of(const struct exercise *e, const uint8_t *state) {
@@ -407,11 +410,12 @@ static struct answer find(const uint8_t *block, size_t length, const struct quer
   (void)length;
   memcpy(s.states[0], query->start, s.e.positions);
   uint32_t status = run_rounds(&s, query->cost);
-  struct answer answer = {.status = status, .visits = s.visits};
+  struct answer answer = {.status = status, .visits = s.visits, .goal = NO_GOAL};
   if (status != FOUND) return answer;
   for (uint32_t k = 0; k < s.steps; k++) plan[k] = (uint8_t)(s.next_rule[k] - 1);
   answer.steps = s.steps;
   answer.cost = s.costs[s.steps];
+  answer.goal = met_goal(&s.e, s.states[s.steps]);
   return answer;
 }
 

@@ -37,6 +37,9 @@ static uint32_t rank_of(const uint8_t *start);
 
 static bool meets_goal(uint64_t word);
 
+/* The lowest number of a goal that a state meets, or NO_GOAL. */
+static uint32_t met_goal(uint64_t word);
+
 /* Puts the state of a visited list on the path, at `path`, and visits those of its extensions that are due, in rising
  * rule number. `same_hash` counts the states of the path that have its hash. Gives what `visit` gives. */
 static __attribute__((noinline)) uint64_t extend(uint64_t word, uint64_t rank, uint64_t cost, uint64_t least,
@@ -63,8 +66,13 @@ static inline bool on_path(uint64_t word, const uint64_t *last) {
   return true;
 }
 
-static uint64_t end_search(uint32_t status, uint32_t steps, uint32_t cost) {
-  search.answer = (struct answer){.status = status, .steps = steps, .cost = cost};
+static uint64_t end_without_plan(uint32_t status) {
+  search.answer = (struct answer){.status = status, .goal = NO_GOAL};
+  return ENDED;
+}
+
+static uint64_t end_with_plan(uint64_t word, uint32_t steps, uint32_t cost) {
+  search.answer = (struct answer){.status = FOUND, .steps = steps, .cost = cost, .goal = met_goal(word)};
   return ENDED;
 }
 
@@ -77,9 +85,9 @@ static __attribute__((noinline)) uint64_t visit(uint64_t word, uint64_t rank, ui
   if (*same_hash > 0 && on_path(word, path - 1)) return least;
   uint64_t figure = cost + search.table[rank];
   if (figure > search.threshold) return figure;
-  if (search.visits_left == 0) return end_search(SPENT, 0, 0);
+  if (search.visits_left == 0) return end_without_plan(SPENT);
   search.visits_left--;
-  if (meets_goal(word)) return end_search(FOUND, (uint32_t)(path - search.path), (uint32_t)cost);
+  if (meets_goal(word)) return end_with_plan(word, (uint32_t)(path - search.path), (uint32_t)cost);
   if (path == search.end) return least;
   return extend(word, rank, cost, least, path, same_hash);
 }
@@ -94,7 +102,7 @@ static inline uint64_t end_after(const uint64_t *path, uint8_t rule) {
  * behind the limit stands for none. */
 static void run_rounds(uint64_t word, uint32_t rank, uint32_t cost_limit) {
   const uint64_t none = (uint64_t)cost_limit + 1;
-  end_search(NO_PLAN, 0, 0);
+  end_without_plan(NO_PLAN);
   if (search.table[rank] == NO_PATH) return;
   search.threshold = search.table[rank];
   while (search.threshold < none) {

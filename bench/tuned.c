@@ -479,6 +479,13 @@ static inline bool meets_goal(uint64_t word) {
   return false;
 }
 
+/* The lowest number of a goal that a state meets, which meets one. */
+static uint32_t met_goal(uint64_t word) {
+  uint32_t g = 0;
+  while (!matches(&search.goal[g], word)) g++;
+  return g;
+}
+
 /* Repeats are mostly recent. */
 static inline bool on_path(uint32_t depth, uint64_t word) {
   for (uint32_t i = depth + 1; i-- > 0;) {
@@ -562,8 +569,9 @@ static struct answer find(const uint8_t *block, size_t length, const struct quer
   (void)length;
   search.table = table;
   uint32_t status = run_rounds(query->cost, begin_search(&e, query));
+  uint32_t goal = status == FOUND ? met_goal(search.path[search.plan_steps]) : NO_GOAL;
   memcpy(plan, search.plan, search.plan_steps);
-  return (struct answer){status, search.plan_steps, search.plan_cost, search.visits};
+  return (struct answer){status, search.plan_steps, search.plan_cost, search.visits, goal};
 }
 
 const struct engine tuned_engine = {"tuned", read_text, check, fill, test, find};

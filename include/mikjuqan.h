@@ -4,8 +4,8 @@
  * nothing between calls, calls nothing of the C library but memcpy and memset, and may be called from several threads.
  *
  * Every call takes whatever it is handed and refuses what is wrong with a number (MIKJUQAN_REFUSED_.. below). A
- * refused call writes nowhere, and every other member of its answer is 0. An accepted call writes at the front of its
- * buffer; what stands behind that keeps its contents.
+ * refused call writes nowhere, and every other member of its answer is 0, a goal MIKJUQAN_NO_GOAL. An accepted call
+ * writes at the front of its buffer; what stands behind that keeps its contents.
  *
  * A buffer is a pointer and the number of its elements: bytes, or 32-bit entries for a table. The pointer may be NULL
  * where the length is 0, in every call. A buffer that is written overlaps no other buffer of the same call.
@@ -33,6 +33,9 @@ extern "C" {
 
 /* The entry 'no path' of a table. */
 #define MIKJUQAN_NO_PATH UINT32_C(4294967295)
+
+/* No goal. Goals have numbers from 0 on, in the order in which they stand in the block. */
+#define MIKJUQAN_NO_GOAL 255
 
 /* ---- refusals ----
  * The lowest number wins, except in mikjuqan_read_exercise, whose order is 1, 2 (head line), 3, 2 (others), 11, 5, 6,
@@ -78,7 +81,7 @@ static inline const char *mikjuqan_refusal_text(uint32_t refusal) {
   }
 }
 
-/* ---- answers: `refusal` is 0, or the number of the refusal; all else is then 0 ---- */
+/* ---- answers: `refusal` is 0, or the number of the refusal; all else is then 0, a goal MIKJUQAN_NO_GOAL ---- */
 
 /* Yes (1) or no (0). */
 typedef struct {
@@ -98,11 +101,20 @@ typedef struct {
   uint32_t entry;
 } mikjuqan_entry;
 
-/* Where a replay ends: how many rules were applied, and what they cost. Where it is stuck, `steps` is the index of the
- * rule that does not apply. */
+/* The goal that a state meets, the one with the lowest number where it meets several; MIKJUQAN_NO_GOAL where it meets
+ * none. */
+typedef struct {
+  uint32_t refusal;
+  uint8_t goal;
+} mikjuqan_goal;
+
+/* Where a replay ends: how many rules were applied, what they cost, and the goal that the state there meets, told as
+ * in mikjuqan_goal. Where it is stuck, `steps` is the index of the rule that does not apply, and `goal` is
+ * MIKJUQAN_NO_GOAL, even if the state meets one. */
 typedef struct {
   size_t steps;
   uint32_t cost;
+  uint8_t goal;
 } mikjuqan_run_end;
 
 /* How a replay ends: done (`stuck` is 0, and `end.steps` the length of the list), or stuck (1). */
@@ -112,16 +124,19 @@ typedef struct {
   mikjuqan_run_end end;
 } mikjuqan_replay;
 
-/* A plan that was found: how many rules it has, what they cost, and the visits that were made to find it. */
+/* A plan that was found: how many rules it has, what they cost, the visits that were made to find it, and the goal
+ * that its last state meets, told as in mikjuqan_goal. */
 typedef struct {
   size_t steps;
   uint32_t cost;
   uint32_t visits;
+  uint8_t goal;
 } mikjuqan_plan;
 
 enum { MIKJUQAN_FOUND = 0, MIKJUQAN_NO_PLAN = 1, MIKJUQAN_SPENT = 2 };
 
-/* What a search answers. Without a plan its steps and cost are 0; its visits are told in each case. */
+/* What a search answers. Without a plan its steps and cost are 0 and its goal is MIKJUQAN_NO_GOAL; its visits are told
+ * in each case. */
 typedef struct {
   uint32_t refusal;
   uint32_t status;
@@ -151,9 +166,9 @@ mikjuqan_length mikjuqan_relabel_block(const uint8_t *block, size_t block_length
 mikjuqan_decision mikjuqan_apply_rule(const uint8_t *block, size_t block_length, size_t rule, const uint8_t *state,
                                       size_t state_length, uint8_t *out, size_t out_length);
 
-/* Yes where the state meets a goal. Refused with 3 to 7, 8. */
-mikjuqan_decision mikjuqan_test_goals(const uint8_t *block, size_t block_length, const uint8_t *state,
-                                      size_t state_length);
+/* The goal that the state meets. Refused with 3 to 7, 8. */
+mikjuqan_goal mikjuqan_test_goals(const uint8_t *block, size_t block_length, const uint8_t *state,
+                                  size_t state_length);
 
 /* Yes where some state is taken to `state` by the rule, and the first one in rank order is written. Refused with 3 to
  * 7, 8, 9, 11. */

@@ -12,6 +12,9 @@ import math
 # The mark 'no path'.
 MARK = 2**32 - 1
 
+# What stands for a goal's number where no goal is met.
+NO_GOAL = 0xFF
+
 
 class Refused(Exception):
     def __init__(self, number):
@@ -156,8 +159,13 @@ class Exercise:
             new[0] == 'dash' or old[0] == 'label' or (old[0] == 'variable' and old in kept) for old, new in sides
         )
 
+    def goal_met(self, state):
+        """The lowest number of a goal that the state meets, or NO_GOAL."""
+        met = (number for number, goal in enumerate(self.goals) if self.match(goal, state) is not None)
+        return min(met, default=NO_GOAL)
+
     def meets(self, state):
-        return any(self.match(goal, state) is not None for goal in self.goals)
+        return self.goal_met(state) != NO_GOAL
 
     def successors(self, state):
         """The rules that apply to a state, in rising order: (number, cost, new state). States are tuples here."""
@@ -243,12 +251,13 @@ class Rounds:
         self.visits, self.threshold, self.overshoot = 0, None, None
 
     def visit(self, rules, path, cost):
-        """Visits a list and then its extensions; the plan and its cost, or None."""
+        """Visits a list and then its extensions; the plan, its cost and its goal, or None."""
         if self.visits == self.allowance:
             raise Spent
         self.visits += 1
-        if self.exercise.meets(path[-1]):
-            return rules, cost
+        goal = self.exercise.goal_met(path[-1])
+        if goal != NO_GOAL:
+            return rules, cost, goal
         for rule, price, state in self.exercise.successors(path[-1]) if len(rules) < self.steps else []:
             if state in path or self.estimate(state) == MARK:
                 continue
@@ -262,7 +271,7 @@ class Rounds:
         return None
 
     def run(self, limit):
-        """The status, and the plan with its cost where one is found."""
+        """The status, and the plan with its cost and goal where one is found."""
         first = self.estimate(self.start)
         self.overshoot = None if first == MARK else first
         while self.overshoot is not None and self.overshoot <= limit:
@@ -366,9 +375,10 @@ def apply_rule(block, rule, state, out):
 
 
 def test_goals(block, state):
+    """The answer, ('goal', its number or NO_GOAL) or a number."""
     try:
         exercise = Exercise(block)
-        return exercise.meets(exercise.state(state))
+        return 'goal', exercise.goal_met(exercise.state(state))
     except Refused as r:
         return r.number
 
@@ -408,7 +418,8 @@ def reversible(block, rule):
 
 
 def replay(block, start, numbers, out):
-    """The answer, ('done', cost), ('stuck', index, cost) or a number, and the contents of the buffer afterwards."""
+    """The answer, ('done', cost, goal or NO_GOAL), ('stuck', index, cost) or a number, and the contents of the buffer
+    afterwards."""
     try:
         exercise = Exercise(block)
         state = exercise.state(start)
@@ -425,7 +436,7 @@ def replay(block, start, numbers, out):
                 return ('stuck', index, cost), written(state, out)
             state = new
             cost += exercise.rules[number][0]
-        return ('done', cost), written(state, out)
+        return ('done', cost, exercise.goal_met(state)), written(state, out)
     except Refused as r:
         return r.number, list(out)
 
@@ -446,7 +457,8 @@ def test_table(block, table):
 
 
 def find_plan(block, start, steps, limit, allowance, table, plan):
-    """The answer, (status, steps, cost, visits) or a number, and the contents of the buffer afterwards."""
+    """The answer, (status, steps, cost, visits), with the goal behind that where a plan is found, or a number, and the
+    contents of the buffer afterwards."""
     try:
         exercise = exercise_of(tuple(block))
         first = tuple(exercise.state(start))
@@ -459,8 +471,8 @@ def find_plan(block, start, steps, limit, allowance, table, plan):
             raise Refused(13)
         rounds = Rounds(exercise, first, steps, allowance, functools.cache(lambda state: ranks.estimate(state, table)))
         status, found = rounds.run(limit)
-        rules, cost = found or ([], 0)
-        return (status, len(rules), cost, rounds.visits), written(rules, plan)
+        rules, cost, *goal = found or ([], 0)
+        return (status, len(rules), cost, rounds.visits, *goal), written(rules, plan)
     except Refused as r:
         return r.number, list(plan)
 
@@ -529,9 +541,9 @@ def answer_query(block, table, line):
         found, plan = find_plan(block, query[:n], query[n], limit, allowance, table, [0] * 64)
         if not isinstance(found, tuple):
             raise Refused(found)
-        status, steps, cost, visits = found
+        status, steps, cost, visits, *goal = found
         number = ['found', 'no plan', 'spent'].index(status)
-        return bytes([number, steps, *cost.to_bytes(4, 'big'), *visits.to_bytes(4, 'big'), *plan[:steps]])
+        return bytes([number, *goal, steps, *cost.to_bytes(4, 'big'), *visits.to_bytes(4, 'big'), *plan[:steps]])
     except Refused as r:
         return bytes([255, r.number])
 

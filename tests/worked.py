@@ -468,10 +468,10 @@ def listing(block, start, steps):
 
 def find_plan(block, start, steps, limit, allowance, table, plan):
     """The search by its rounds, told, and compared with the listing of all open lists, which has no rounds, and whose
-    plan has no table."""
+    plan has no table. A plan that is replayed has the same cost and goal."""
     value, out = reference.find_plan(block, start, steps, limit, allowance, table, plan)
     if isinstance(value, tuple):
-        status, _, cost, visits = value
+        status, length, cost, visits, *goal = value
         every = listing(tuple(block), tuple(start), steps)
         ranks = reference.abstraction(tuple(block))
         unbounded = every.visits(lambda state: ranks.estimate(state, table), limit)
@@ -482,6 +482,8 @@ def find_plan(block, start, steps, limit, allowance, table, plan):
             assert unbounded == visits <= allowance
             assert (status == 'found') == (every.plan is not None and every.plan[1] <= limit)
             assert (out, cost) == (cheapest[0] + plan[len(cheapest[0]) :], cheapest[1])
+        if status == 'found':
+            assert reference.replay(block, start, out[:length], start)[0] == ('done', cost, *goal)
     query = [packed_bytes(block), packed_bytes(start), steps, limit, allowance]
     line('find_plan', [*query, packed_entries(table), packed_bytes(plan)], value, packed_bytes(out))
 
@@ -525,23 +527,24 @@ def searches_of_e():
             search(E, start, 8, limit, allowance, contents)
 
 
-def search_twice(block, start):
-    """On the filled table, and on zeros."""
-    for contents in (reference.fill_table(block, [UNWRITTEN] * 6)[1], [0] * 6):
-        search(block, [start], 6, 100, 100, contents)
+def search_twice(block, start, steps=6, limit=100):
+    """On the filled table, and on zeros; both have at least six elements."""
+    length = max(6, block[2] ** block[0])
+    for contents in (reference.fill_table(block, [UNWRITTEN] * length)[1], [0] * length):
+        search(block, start, steps, limit, 100, contents)
 
 
 def searches_of_one_position():
     title('a short way to the goal that costs more, on a filled table and on zeros')
-    search_twice(block_of(1, 3, [(5, '0', '2'), (1, '0', '1'), (1, '1', '2')], ['2'], [0, 1, 2]), 0)
+    search_twice(block_of(1, 3, [(5, '0', '2'), (1, '0', '1'), (1, '1', '2')], ['2'], [0, 1, 2]), [0])
     title('two rules to one state, and no way to the goal')
-    search_twice(block_of(1, 4, [(1, '0', '1'), (1, '0', '1'), (1, '1', '2')], ['3'], list(range(4))), 0)
+    search_twice(block_of(1, 4, [(1, '0', '1'), (1, '0', '1'), (1, '1', '2')], ['3'], list(range(4))), [0])
     title('three steps and one at the same cost')
     edges = [(0, '0', '1'), (0, '1', '2'), (2, '2', '3'), (2, '0', '3')]
-    search_twice(block_of(1, 4, edges, ['3'], list(range(4))), 0)
+    search_twice(block_of(1, 4, edges, ['3'], list(range(4))), [0])
     title('cycles at no cost, with and without a way to the goal')
     for start in (0, 1, 4):
-        search_twice(cycles(), start)
+        search_twice(cycles(), [start])
 
 
 def search_with_large_figures(first):
@@ -937,6 +940,120 @@ def sessions():
     long_sessions()
 
 
+# Goal k is <k,1>: it is a step away from <k,0>, and cannot be reached from any other state.
+EIGHT_GOALS = block_of(2, 8, [(2, 'A0', 'A1'), (1, 'A1', 'A2')], [f'{k}1' for k in range(8)], list(range(8)))
+
+# Goals of which many a state meets several, and some states none: with constants, variables and dashes.
+MIXED_GOALS = ['-1-', '10-', '20A', 'B0B', 'AA-', '0-A', 'A2A', '-AA']
+
+# Each of these is the cheapest from some states by the rules of input E, and some steps away.
+FAR_GOALS = ['22-', '002', '021', 'AA-']
+
+
+def with_goals(block, goals):
+    """A block of three positions with other goals."""
+    without = block[: len(block) - 3 * block[4]]
+    return without[:4] + [len(goals)] + without[5:] + block_of(3, 3, [], goals)[8:]
+
+
+def all_states(n, labels):
+    return [list(state) for state in itertools.product(range(labels), repeat=n)]
+
+
+def goals_of_states():
+    title('goal k is <k,1>, for k from 0 to 7: <0,0>, .., <7,2>')
+    for k, last in itertools.product(range(8), range(3)):
+        test_goals(EIGHT_GOALS, [k, last])
+    for goals in (MIXED_GOALS, MIXED_GOALS[::-1]):
+        title('goals ' + ', '.join(f'<{",".join(goal)}>' for goal in goals) + ': <0,0,0>, .., <2,2,2>')
+        for state in all_states(3, 3):
+            test_goals(block_of(3, 3, [], goals), state)
+    title('<1,0> twice; <-,-> before <1,0>, behind it: on <0,0>, .., <1,1>')
+    for goals in (['10', '10'], ['--', '10'], ['10', '--']):
+        for state in all_states(2, 2):
+            test_goals(block_of(2, 2, [], goals), state)
+    title('sixteen positions, eight goals that ask for 8 to 15 at the last: on each label there')
+    last_labels = block_of(16, 16, [], ['-' * 15 + label for label in '89abcdef'])
+    for label in range(16):
+        test_goals(last_labels, [7] * 15 + [label])
+
+
+def goals_of_replays():
+    def replay_all(block, start, *lists):
+        for rules in lists:
+            replay(block, start, rules, [170] * 4)
+
+    title('goal k is <k,1>: from <k,0> the empty list; 0, to the goal; 0 1, past it; 0 0, stuck there; 1, stuck')
+    for k in range(8):
+        replay_all(EIGHT_GOALS, [k, 0], [], [0], [0, 1], [0, 0], [1])
+    title('from the goal: the empty list; 1, away from it; 0, stuck there')
+    for k in range(8):
+        replay_all(EIGHT_GOALS, [k, 1], [], [1], [0])
+    title('goals <2>, <0>, <3>, <0>, and <0> to <1> to <2> to <3> to <4>: from <0> no step to four, then stuck in each')
+    chain = block_of(1, 5, [(2**k, f'{k}', f'{k + 1}') for k in range(4)], ['2', '0', '3', '0'])
+    replay_all(chain, [0], *(list(range(length)) for length in range(5)))
+    replay_all(chain, [0], [1], [0, 0], [0, 1, 1], [0, 1, 2, 2], [0, 1, 2, 3, 0])
+    title('<0> to <1> and back, goals <1>, <0>: from <0> no step to five')
+    turns = block_of(1, 2, [(1, '0', '1'), (1, '1', '0')], ['1', '0'])
+    replay_all(turns, [0], *(([0, 1] * 3)[:length] for length in range(6)))
+    title("input E's rules with eight goals, from <1,2,0>: every list of at most two rules")
+    lists = itertools.chain.from_iterable(itertools.product(range(6), repeat=length) for length in range(3))
+    replay_all(with_goals(E, MIXED_GOALS), [1, 2, 0], *map(list, lists))
+
+
+def race(costs):
+    """From <0> rule k leads to goal 7 - k, at its cost."""
+    rules = [(cost, '0', f'{8 - k}') for k, cost in enumerate(costs)]
+    return block_of(1, 9, rules, [f'{label}' for label in range(1, 9)], list(range(9)))
+
+
+def goals_of_searches():
+    title('goal k is <k,1>: from <k,0>, <k,1> and <k,2>; then from <7,0> with D = 0, B = 1, V = 1')
+    table = reference.fill_table(EIGHT_GOALS, [UNWRITTEN] * 64)[1]
+    for k, last in itertools.product(range(8), range(3)):
+        search(EIGHT_GOALS, [k, last], 4, 100, 100, table)
+    for limits in [(0, 100, 100), (4, 1, 100), (4, 100, 1)]:
+        search(EIGHT_GOALS, [7, 0], *limits, table)
+    title('<0> to goal 7 - k by rule k, for k from 0 to 7: rule k is the cheapest; then all cost the same')
+    for k in range(8):
+        search_twice(race([2 if rule == k else 3 for rule in range(8)]), [0])
+    search_twice(race([3] * 8), [0])
+    title('goal 0 by one rule of cost 5, goal 1 by two of cost 2: D = 2; D = 1; B = 4; B = 3')
+    ways = block_of(1, 4, [(5, '0', '3'), (2, '0', '1'), (2, '1', '2')], ['3', '2'], list(range(4)))
+    for limits in [(2, 100), (1, 100), (2, 4), (2, 3)]:
+        search_twice(ways, [0], *limits)
+    title('one abstract label: goal 0 is <3>, goal 1 is <2>, and <0> to <1> to <2> to <3>; from <0>, .., <3>')
+    chain = block_of(1, 4, [(1, f'{k}', f'{k + 1}') for k in range(3)], ['3', '2'])
+    for start in range(4):
+        search(chain, [start], 4, 100, 100, [0])
+    title('the last state meets goals 1 and 2; all three')
+    for first in ('02', '11'):
+        search_twice(block_of(2, 3, [(1, 'A0', 'A1')], [first, '-1', 'AA'], [0, 1, 2]), [1, 0])
+    title("input E's rules with four goals: from <0,0,0>, .., <2,2,2>")
+    for start in all_states(3, 3):
+        search_twice(with_goals(E, FAR_GOALS), start, 4)
+
+
+def goals_of_sessions():
+    title('goal k is <k,1>: from <k,0>, <k,1> and <k,2>; then from <7,0> with D = 0, B = 1, V = 1, D = 65')
+    states = [[k, last] for k, last in itertools.product(range(8), range(3))]
+    limits = [(0, 100, 100), (4, 1, 100), (4, 100, 1), (65, 100, 100)]
+    session(EIGHT_GOALS, *((state, 4, 100, 100) for state in states), *(([7, 0], *limit) for limit in limits))
+    title("input E's rules with eight goals, with four: from <0,0,0>, .., <2,2,2>")
+    for goals in (MIXED_GOALS, FAR_GOALS):
+        session(with_goals(E, goals), *((start, 4, 100, 100) for start in all_states(3, 3)))
+    title('64 steps of cost 255, to goal 7')
+    ends = ['1000001', '1111111'] * 3 + ['1111110', '1000000']
+    session(DEEP[:4] + [8] + DEEP[5:-7] + [int(label) for end in ends for label in end], ([0] * 7, 64, 16320, 65))
+
+
+def goals():
+    goals_of_states()
+    goals_of_replays()
+    goals_of_searches()
+    goals_of_sessions()
+
+
 def rings():
     """A ring turns where the next one to the end is 1 and all behind that are 0; the last turns always."""
     rules = []
@@ -1003,6 +1120,7 @@ def fill_order():
 
 
 if __name__ == '__main__':
-    parts = [blocks, rules, predecessors, replays, tables, searches, texts, sessions, fill_order, fill_order_input]
+    parts = [blocks, rules, predecessors, replays, tables, searches, texts, sessions, goals]
+    parts += [fill_order, fill_order_input]
     by_name = {part.__name__: part for part in parts}
     by_name[usage.named('tests/worked.py NAME', by_name)[0]]()

@@ -1,8 +1,9 @@
 //! What a search is asked, what calls answer, and how that is told from the answers of the library.
 //!
-//! The structs have the layout of the header's, as they are handed to the library and back as they are.
+//! [`Limits`] and [`Plan`] have the layout of the header's structs, as they are handed to the library and back as they
+//! are.
 
-use crate::ffi;
+use crate::ffi::{self, NO_GOAL};
 use crate::refusal::accepted;
 use crate::{Refusal, NO_PATH};
 
@@ -29,6 +30,8 @@ pub struct Plan {
     pub cost: u32,
     /// The visits made, that of the plan included.
     pub visits: u32,
+    /// The goal that its last state meets, the lowest number where it meets several.
+    pub goal: u8,
 }
 
 /// What a search answers.
@@ -52,12 +55,14 @@ pub enum Search {
 /// Where a replay ends.
 #[derive(Clone, Copy, Debug, PartialEq, Eq)]
 #[non_exhaustive]
-#[repr(C)]
 pub struct RunEnd {
     /// How many rules were applied. Where the replay is stuck, this is the index of the rule that does not apply.
     pub steps: usize,
     /// What they cost together.
     pub cost: u32,
+    /// The goal that the state there meets, the lowest number where it meets several. `None` where it meets none, and
+    /// always where the replay is stuck.
+    pub goal: Option<u8>,
 }
 
 /// How a replay ends.
@@ -70,8 +75,8 @@ pub enum Replay {
     Stuck(RunEnd),
 }
 
-// The header says of every answer that its other members are 0 where the call is refused. They are dropped then, and
-// builds with debug assertions look whether that holds.
+// The header says of every answer that its other members are 0 where the call is refused, and a goal is none. They are
+// dropped then, and builds with debug assertions look whether that holds.
 
 pub(crate) fn decision(answer: ffi::Decision) -> Result<bool, Refusal> {
     let ffi::Decision { refusal, yes } = answer;
@@ -98,10 +103,19 @@ pub(crate) fn estimate(answer: ffi::Entry) -> Result<Option<u32>, Refusal> {
     Ok((entry != NO_PATH).then_some(entry))
 }
 
-pub(crate) fn replay(answer: ffi::Replay) -> Result<Replay, Refusal> {
-    let ffi::Replay { refusal, stuck, end } = answer;
-    debug_assert!(refusal == 0 || (stuck, end) == (0, RunEnd { steps: 0, cost: 0 }));
+pub(crate) fn goal(answer: ffi::Goal) -> Result<Option<u8>, Refusal> {
+    let ffi::Goal { refusal, goal } = answer;
+    debug_assert!(refusal == 0 || goal == NO_GOAL);
     accepted(refusal)?;
+    Ok(met(goal))
+}
+
+pub(crate) fn replay(answer: ffi::Replay) -> Result<Replay, Refusal> {
+    let ffi::Replay { refusal, stuck, end: ffi::RunEnd { steps, cost, goal } } = answer;
+    debug_assert!(refusal == 0 || (stuck, steps, cost) == (0, 0, 0));
+    debug_assert!((refusal, stuck) == (0, 0) || goal == NO_GOAL);
+    accepted(refusal)?;
+    let end = RunEnd { steps, cost, goal: met(goal) };
     match stuck {
         0 => Ok(Replay::Done(end)),
         1 => Ok(Replay::Stuck(end)),
@@ -112,7 +126,7 @@ pub(crate) fn replay(answer: ffi::Replay) -> Result<Replay, Refusal> {
 pub(crate) fn search(answer: ffi::Search) -> Result<Search, Refusal> {
     let ffi::Search { refusal, status, plan } = answer;
     debug_assert!(refusal == 0 || (status, plan.visits) == (0, 0));
-    debug_assert!((refusal, status) == (0, 0) || (plan.steps, plan.cost) == (0, 0));
+    debug_assert!((refusal, status) == (0, 0) || (plan.steps, plan.cost, plan.goal) == (0, 0, NO_GOAL));
     accepted(refusal)?;
     match status {
         0 => Ok(Search::Found(plan)),
@@ -120,4 +134,9 @@ pub(crate) fn search(answer: ffi::Search) -> Result<Search, Refusal> {
         2 => Ok(Search::Spent { visits: plan.visits }),
         _ => unreachable!("the library has no status {status}"),
     }
+}
+
+/// The goal with this number, if there is one.
+fn met(number: u8) -> Option<u8> {
+    (number != NO_GOAL).then_some(number)
 }

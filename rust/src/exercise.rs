@@ -21,7 +21,7 @@ use crate::{Limits, Refusal, Replay, Search};
 ///     1, 1, // the goal
 /// ];
 /// let exercise = Exercise::new(&block);
-/// assert_eq!(exercise.test_goals(&[1, 1]), Ok(true));
+/// assert_eq!(exercise.test_goals(&[1, 1]), Ok(Some(0)));
 /// assert_eq!(Exercise::new(&block[..18]).test_goals(&[1, 1]), Err(Refusal::Length));
 /// ```
 #[derive(Clone, Copy, Debug)]
@@ -104,22 +104,24 @@ impl<'a> Exercise<'a> {
         answers::decision(ffi::test_reversible(self.block, rule))
     }
 
-    /// Tells whether a state meets a goal.
+    /// The goal that a state meets, the lowest number where it meets several; `None` where it meets none. Goals have
+    /// numbers from 0 on, in the order in which they stand in the block.
     ///
     /// Refused with 3 to 7, 8.
     ///
     /// ```
     /// use mikjuqan::{Exercise, Refusal};
     ///
-    /// // Two positions, three labels, no rule; the goal asks for the same label twice.
-    /// let block = [2, 3, 1, 0, 1, 0, 0, 0, 0x10, 0x10];
+    /// // Two positions, three labels, no rule; goal 0 asks for the same label twice, goal 1 for a 2 at position 0.
+    /// let block = [2, 3, 1, 0, 2, 0, 0, 0, 0x10, 0x10, 2, 0xFF];
     /// let exercise = Exercise::new(&block);
-    /// assert_eq!(exercise.test_goals(&[2, 2]), Ok(true));
-    /// assert_eq!(exercise.test_goals(&[2, 1]), Ok(false));
+    /// assert_eq!(exercise.test_goals(&[2, 1]), Ok(Some(1)));
+    /// assert_eq!(exercise.test_goals(&[2, 2]), Ok(Some(0)));
+    /// assert_eq!(exercise.test_goals(&[1, 2]), Ok(None));
     /// assert_eq!(exercise.test_goals(&[2]), Err(Refusal::State));
     /// ```
-    pub fn test_goals(self, state: &[u8]) -> Result<bool, Refusal> {
-        answers::decision(ffi::test_goals(self.block, state))
+    pub fn test_goals(self, state: &[u8]) -> Result<Option<u8>, Refusal> {
+        answers::goal(ffi::test_goals(self.block, state))
     }
 
     /// Tells whether a rule applies in a state, and writes the new state if so.
@@ -189,14 +191,15 @@ impl<'a> Exercise<'a> {
     /// ```
     /// use mikjuqan::{Exercise, Replay};
     ///
-    /// // Two positions, two labels. Rule 0 exchanges them at cost 3, rule 1 makes <0, -> to <1, -> at cost 1.
+    /// // Two positions, two labels. Rule 0 exchanges them at cost 3, rule 1 makes <0, -> to <1, -> at cost 1; goal
+    /// // <1, 1>.
     /// let block = [2, 2, 1, 2, 1, 0, 0, 3, 0x10, 0x11, 0x11, 0x10, 1, 0, 0xFF, 1, 0xFF, 1, 1];
     /// let exercise = Exercise::new(&block);
     /// let mut out = [9; 2];
     /// let Replay::Done(end) = exercise.replay_run(&[0, 0], &[1, 0, 1], &mut out)? else {
     ///     panic!("every rule applies");
     /// };
-    /// assert_eq!((end.steps, end.cost, out), (3, 5, [1, 1]));
+    /// assert_eq!((end.steps, end.cost, end.goal, out), (3, 5, Some(0), [1, 1]));
     ///
     /// // Rule 1 does not apply in <1, 0>.
     /// let Replay::Stuck(end) = exercise.replay_run(&[0, 0], &[1, 1, 0], &mut out)? else {
@@ -280,7 +283,7 @@ impl<'a> Exercise<'a> {
     /// let Search::Found(found) = exercise.find_plan(&[0], limits, &[0], &mut plan)? else {
     ///     panic!("there is a plan");
     /// };
-    /// assert_eq!((found.steps, found.cost, plan), (2, 6, [0, 1, 9]));
+    /// assert_eq!((found.steps, found.cost, found.goal, plan), (2, 6, 0, [0, 1, 9]));
     ///
     /// // With one rule alone the cheapest plan is another.
     /// let limits = Limits { steps: 1, ..limits };

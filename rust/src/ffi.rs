@@ -4,7 +4,10 @@
 //! its length is right, the library reads and writes nothing outside of the buffers that it is lent, a slice that is
 //! written is borrowed alone, and nothing is kept when the call ends.
 
-use crate::{Limits, Plan, RunEnd};
+use crate::{Limits, Plan};
+
+/// What stands for a goal where there is none.
+pub const NO_GOAL: u8 = 255;
 
 #[repr(C)]
 pub struct Decision {
@@ -25,6 +28,19 @@ pub struct Entry {
 }
 
 #[repr(C)]
+pub struct Goal {
+    pub refusal: u32,
+    pub goal: u8,
+}
+
+#[repr(C)]
+pub struct RunEnd {
+    pub steps: usize,
+    pub cost: u32,
+    pub goal: u8,
+}
+
+#[repr(C)]
 pub struct Replay {
     pub refusal: u32,
     pub stuck: u32,
@@ -39,7 +55,7 @@ pub struct Search {
 }
 
 mod c {
-    use super::{Decision, Entry, Length, Limits, Replay, Search};
+    use super::{Decision, Entry, Goal, Length, Limits, Replay, Search};
 
     extern "C" {
         pub fn mikjuqan_read_exercise(text: *const u8, text_length: usize, out: *mut u8, out_length: usize) -> Length;
@@ -64,7 +80,7 @@ mod c {
             block_length: usize,
             state: *const u8,
             state_length: usize,
-        ) -> Decision;
+        ) -> Goal;
 
         pub fn mikjuqan_first_predecessor(
             block: *const u8,
@@ -159,7 +175,7 @@ pub fn apply_rule(block: &[u8], rule: usize, state: &[u8], out: &mut [u8]) -> De
     }
 }
 
-pub fn test_goals(block: &[u8], state: &[u8]) -> Decision {
+pub fn test_goals(block: &[u8], state: &[u8]) -> Goal {
     unsafe { c::mikjuqan_test_goals(block.as_ptr(), block.len(), state.as_ptr(), state.len()) }
 }
 

@@ -28,7 +28,7 @@
 //! let Search::Found(found) = exercise.find_plan(&[1, 2, 0], limits, &table, &mut plan)? else {
 //!     panic!("there is a plan");
 //! };
-//! assert_eq!((found.steps, found.cost, found.visits), (3, 5, 10));
+//! assert_eq!((found.steps, found.cost, found.visits, found.goal), (3, 5, 10, 0));
 //! assert_eq!(plan[..found.steps], [2, 0, 5]);
 //! # Ok::<(), mikjuqan::Refusal>(())
 //! ```

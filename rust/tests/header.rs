@@ -1,11 +1,17 @@
-//! The C header has the version, the sizes, the refusals and their texts once more: they must be those of this crate.
+//! The C header has the version, the sizes, the structs, the refusals and their texts once more: they must be those of
+//! this crate.
 
 use mikjuqan::Refusal;
 use std::fs;
 
+/// A file by its path from this package.
+fn file(path: &str) -> String {
+    let path = format!("{}/{path}", env!("CARGO_MANIFEST_DIR"));
+    fs::read_to_string(&path).unwrap_or_else(|error| panic!("{path}: {error}"))
+}
+
 fn header() -> String {
-    let path = concat!(env!("CARGO_MANIFEST_DIR"), "/../include/mikjuqan.h");
-    fs::read_to_string(path).unwrap_or_else(|error| panic!("{path}: {error}"))
+    file("../include/mikjuqan.h")
 }
 
 /// What the header defines a name as, without the comment behind it.
@@ -30,6 +36,40 @@ fn header_name(refusal: Refusal) -> String {
     name
 }
 
+/// The structs of the header: the name, and what stands between the braces.
+fn header_structs(header: &str) -> Vec<(&str, &str)> {
+    let mut structs = Vec::new();
+    for rest in header.split("typedef struct {\n").skip(1) {
+        let (members, rest) = rest.split_once("} ").expect("a struct ends");
+        let (name, _) = rest.split_once(';').expect("a struct has a name");
+        structs.push((name, members));
+    }
+    structs
+}
+
+/// The header's name of a type in Rust.
+fn rust_type(name: &str) -> String {
+    match name {
+        "uint8_t" => "u8".to_string(),
+        "uint32_t" => "u32".to_string(),
+        "size_t" => "usize".to_string(),
+        _ => {
+            let words = name.strip_prefix("mikjuqan_").expect("a type of our own").split('_');
+            words.map(|word| word[..1].to_ascii_uppercase() + &word[1..]).collect()
+        }
+    }
+}
+
+/// The struct that a struct of the header is in Rust, without comments.
+fn rust_struct(name: &str, members: &str) -> String {
+    let member = |line: &str| {
+        let (kind, name) = line.trim().trim_end_matches(';').split_once(' ').expect("a member has a type");
+        format!("    pub {name}: {},\n", rust_type(kind))
+    };
+    let members: String = members.lines().map(member).collect();
+    format!("#[repr(C)]\npub struct {} {{\n{members}}}\n", rust_type(name))
+}
+
 #[test]
 fn version() {
     assert_eq!(defined("MIKJUQAN_VERSION"), format!("\"{}\"", env!("CARGO_PKG_VERSION")));
@@ -48,6 +88,23 @@ fn sizes() {
         assert_eq!(defined(name), size.to_string(), "{name}");
     }
     assert_eq!(defined("MIKJUQAN_NO_PATH"), format!("UINT32_C({})", mikjuqan::NO_PATH));
+}
+
+/// The structs that are handed to the library and back, and the number in them that stands for no goal.
+#[test]
+fn structs() {
+    let sources = file("src/ffi.rs") + &file("src/answers.rs");
+    let code = |line: &&str| !line.trim().starts_with("//");
+    let sources: String = sources.lines().filter(code).map(|line| format!("{line}\n")).collect();
+    let header = header();
+    let structs = header_structs(&header);
+    assert_eq!(structs.len(), sources.matches("#[repr(C)]").count());
+    for (name, members) in structs {
+        let expected = rust_struct(name, members);
+        assert!(sources.contains(&expected), "there is no\n{expected}");
+    }
+    let no_goal = format!("pub const NO_GOAL: u8 = {};", defined("MIKJUQAN_NO_GOAL"));
+    assert!(sources.contains(&no_goal), "there is no {no_goal}");
 }
 
 /// Each refusal has its number, twice in its comment too: in decimal, and as the two digits that `par` prints.

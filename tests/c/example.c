@@ -1,5 +1,5 @@
-/* Every call of the library on one exercise, as a program that uses it would make them, and every buffer of every call
- * once as NULL.
+/* Every call of the library on one exercise, as a program that uses it would make them, those that tell a goal on a
+ * second one, and every buffer of every call once as NULL.
  *
  * Build it in the repository's directory, as C or as C++:
  *
@@ -7,7 +7,7 @@
  *   g++ -std=c++17 tests/c/example.c tests/c/texts.c target/staticlib/libmikjuqan.a
  *
  * Three slots hold the labels 0 (empty), 1 and 2. Rules 0 to 3 move a label to an empty neighbour at cost 1, rules 4
- * and 5 move one between the ends at cost 3. For the table labels 1 and 2 count as one. The goal is <2,1,0>.
+ * and 5 move one between the ends at cost 3. For the table labels 1 and 2 count as one. Goal 0 is <2,1,0>.
  */
 #include "../../include/mikjuqan.h"
 #include "findings.h"
@@ -83,6 +83,8 @@ static void relabel(const uint8_t *block, size_t block_length) {
 
 /* ---- states and rules ---- */
 
+static int meets(mikjuqan_goal met, uint8_t number) { return met.refusal == MIKJUQAN_ACCEPTED && met.goal == number; }
+
 static void apply_and_test(const uint8_t *block, size_t block_length) {
   uint8_t out[POSITIONS] = {9, 9, 9};
   mikjuqan_decision applied = mikjuqan_apply_rule(block, block_length, 0, start, POSITIONS, out, POSITIONS);
@@ -93,12 +95,11 @@ static void apply_and_test(const uint8_t *block, size_t block_length) {
   applied = mikjuqan_apply_rule(block, block_length, RULES, start, POSITIONS, out, POSITIONS);
   expect(applied.refusal == MIKJUQAN_REFUSED_RULE && !applied.yes && same(out, 1, 0, 2), "rule 6 is refused with 9");
 
-  mikjuqan_decision met = mikjuqan_test_goals(block, block_length, goal, POSITIONS);
-  expect(met.refusal == MIKJUQAN_ACCEPTED && met.yes, "<2,1,0> meets the goal");
-  met = mikjuqan_test_goals(block, block_length, start, POSITIONS);
-  expect(met.refusal == MIKJUQAN_ACCEPTED && !met.yes, "<1,2,0> does not");
-  met = mikjuqan_test_goals(block, block_length, goal, POSITIONS - 1);
-  expect(met.refusal == MIKJUQAN_REFUSED_STATE && !met.yes, "a state of two labels is refused with 8");
+  expect(meets(mikjuqan_test_goals(block, block_length, goal, POSITIONS), 0), "<2,1,0> meets goal 0");
+  expect(meets(mikjuqan_test_goals(block, block_length, start, POSITIONS), MIKJUQAN_NO_GOAL), "<1,2,0> meets none");
+  mikjuqan_goal met = mikjuqan_test_goals(block, block_length, goal, POSITIONS - 1);
+  expect(met.refusal == MIKJUQAN_REFUSED_STATE && met.goal == MIKJUQAN_NO_GOAL,
+         "a state of two labels is refused with 8");
 }
 
 static void step_back(const uint8_t *block, size_t block_length) {
@@ -123,22 +124,27 @@ static void step_back(const uint8_t *block, size_t block_length) {
   expect(reversible.refusal == MIKJUQAN_REFUSED_RULE && !reversible.yes, "rule 255 is refused with 9");
 }
 
-static int ends(mikjuqan_replay run, uint32_t stuck, size_t steps, uint32_t cost) {
-  return run.refusal == MIKJUQAN_ACCEPTED && run.stuck == stuck && run.end.steps == steps && run.end.cost == cost;
+static int ends(mikjuqan_replay run, uint32_t stuck, size_t steps, uint32_t cost, uint8_t reached) {
+  return run.refusal == MIKJUQAN_ACCEPTED && run.stuck == stuck && run.end.steps == steps && run.end.cost == cost &&
+         run.end.goal == reached;
 }
 
 static void replay(const uint8_t *block, size_t block_length) {
   uint8_t out[POSITIONS] = {9, 9, 9};
   mikjuqan_replay run = mikjuqan_replay_run(block, block_length, start, POSITIONS, list, 3, out, POSITIONS);
-  expect(ends(run, 0, 3, 5) && same(out, 2, 1, 0), "rules 2, 0, 5 lead to <2,1,0> in 3 steps at cost 5");
+  expect(ends(run, 0, 3, 5, 0) && same(out, 2, 1, 0), "rules 2, 0, 5 lead to goal 0, <2,1,0>, in 3 steps at cost 5");
+  run = mikjuqan_replay_run(block, block_length, start, POSITIONS, list, 2, out, POSITIONS);
+  expect(ends(run, 0, 2, 2, MIKJUQAN_NO_GOAL) && same(out, 0, 1, 2), "without rule 5 they lead to no goal");
   run = mikjuqan_replay_run(block, block_length, start, POSITIONS, list, 4, out, POSITIONS);
-  expect(ends(run, 1, 3, 5) && same(out, 2, 1, 0), "with rule 5 once more they are stuck there, at index 3");
+  expect(ends(run, 1, 3, 5, MIKJUQAN_NO_GOAL) && same(out, 2, 1, 0),
+         "with rule 5 once more they are stuck at <2,1,0>, at index 3, and no goal is told");
   run = mikjuqan_replay_run(block, block_length, start, POSITIONS, list + 1, 3, out, POSITIONS);
-  expect(ends(run, 1, 0, 0) && same(out, 1, 2, 0), "without rule 2 they are stuck at index 0");
+  expect(ends(run, 1, 0, 0, MIKJUQAN_NO_GOAL) && same(out, 1, 2, 0), "without rule 2 they are stuck at index 0");
 
   static const uint8_t zeros[MIKJUQAN_LIST_LENGTH + 1] = {0};
   run = mikjuqan_replay_run(block, block_length, start, POSITIONS, zeros, sizeof zeros, out, POSITIONS);
-  expect(run.refusal == MIKJUQAN_REFUSED_LIMIT && !run.stuck && run.end.steps == 0 && run.end.cost == 0,
+  expect(run.refusal == MIKJUQAN_REFUSED_LIMIT && !run.stuck && run.end.steps == 0 && run.end.cost == 0 &&
+             run.end.goal == MIKJUQAN_NO_GOAL,
          "a list of 4,097 rules is refused with 10");
 }
 
@@ -172,12 +178,18 @@ static void fill_and_look_up(const uint8_t *block, size_t block_length, uint32_t
 /* Whether a search is refused with a number, and tells nothing else. */
 static int is_refused(mikjuqan_search told, uint32_t refusal) {
   return told.refusal == refusal && told.status == 0 && told.plan.steps == 0 && told.plan.cost == 0 &&
-         told.plan.visits == 0;
+         told.plan.visits == 0 && told.plan.goal == MIKJUQAN_NO_GOAL;
 }
 
-static int answers(mikjuqan_search told, uint32_t status, size_t steps, uint32_t cost, uint32_t visits) {
-  return told.refusal == MIKJUQAN_ACCEPTED && told.status == status && told.plan.steps == steps &&
-         told.plan.cost == cost && told.plan.visits == visits;
+static int finds(mikjuqan_search told, size_t steps, uint32_t cost, uint32_t visits, uint8_t reached) {
+  return told.refusal == MIKJUQAN_ACCEPTED && told.status == MIKJUQAN_FOUND && told.plan.steps == steps &&
+         told.plan.cost == cost && told.plan.visits == visits && told.plan.goal == reached;
+}
+
+/* Whether a search ends without a plan. */
+static int lacks(mikjuqan_search told, uint32_t status, uint32_t visits) {
+  return told.refusal == MIKJUQAN_ACCEPTED && told.status == status && told.plan.steps == 0 && told.plan.cost == 0 &&
+         told.plan.visits == visits && told.plan.goal == MIKJUQAN_NO_GOAL;
 }
 
 static void search(const uint8_t *block, size_t block_length, uint32_t *table) {
@@ -185,15 +197,15 @@ static void search(const uint8_t *block, size_t block_length, uint32_t *table) {
   mikjuqan_limits limits = within(STEPS, 100, 100);
   mikjuqan_search told =
       mikjuqan_find_plan(block, block_length, start, POSITIONS, limits, table, ENTRIES, plan, STEPS);
-  expect(answers(told, MIKJUQAN_FOUND, 3, 5, 10), "there is a plan of 3 steps at cost 5, found with 10 visits");
+  expect(finds(told, 3, 5, 10, 0), "there is a plan of 3 steps at cost 5 to goal 0, found with 10 visits");
   expect(same(plan, 2, 0, 5) && plan[3] == 255, "its rules are 2, 0, 5, and nothing is written behind them");
 
   mikjuqan_limits lower_cost = within(STEPS, 4, 100);
   told = mikjuqan_find_plan(block, block_length, start, POSITIONS, lower_cost, table, ENTRIES, plan, STEPS);
-  expect(answers(told, MIKJUQAN_NO_PLAN, 0, 0, 6), "there is none at cost 4, which takes 6 visits to know");
+  expect(lacks(told, MIKJUQAN_NO_PLAN, 6), "there is none at cost 4, which takes 6 visits to know");
   mikjuqan_limits fewer_visits = within(STEPS, 100, 9);
   told = mikjuqan_find_plan(block, block_length, start, POSITIONS, fewer_visits, table, ENTRIES, plan, STEPS);
-  expect(answers(told, MIKJUQAN_SPENT, 0, 0, 9), "with 9 visits the search is spent");
+  expect(lacks(told, MIKJUQAN_SPENT, 9), "with 9 visits the search is spent");
   mikjuqan_limits more_steps = within(MIKJUQAN_PLAN_LENGTH + 1, 100, 100);
   told = mikjuqan_find_plan(block, block_length, start, POSITIONS, more_steps, table, ENTRIES, plan, STEPS);
   expect(is_refused(told, MIKJUQAN_REFUSED_LIMIT), "a step limit of 65 is refused with 10");
@@ -202,6 +214,42 @@ static void search(const uint8_t *block, size_t block_length, uint32_t *table) {
   told = mikjuqan_find_plan(block, block_length, start, POSITIONS, limits, table, ENTRIES, plan, STEPS);
   expect(is_refused(told, MIKJUQAN_REFUSED_TABLE_FAILS), "a table with 1 for the goal is refused with 13");
   table[6] = 0;
+}
+
+/* ---- several goals ---- */
+
+/* One position and five labels, which count as one for the table. Rule k leads from <k> to <k+1>, at cost 1. Goals 0 to
+ * 3 are <3>, <1>, <-> and <1>: <1> meets three of them, and every state goal 2. With its last two goals left out it is
+ * another exercise, in which <0>, <2> and <4> meet none. */
+static void several_goals(void) {
+  uint8_t block[] = {1, 5, 1, 4, 4, 0, 0, 0, 0, 0, 1, 0, 1, 1, 1, 2, 1, 2, 3, 1, 3, 4, 3, 1, 0xFF, 1};
+  static const uint8_t labels[] = {0, 1, 2, 3, 4}, rules[] = {0, 1, 2, 3};
+  static const uint32_t zero[] = {0};
+  uint8_t out[STEPS];
+  size_t length = sizeof block;
+  expect(meets(mikjuqan_test_goals(block, length, labels + 3, 1), 0), "four goals: <3> meets goal 0");
+  expect(meets(mikjuqan_test_goals(block, length, labels + 1, 1), 1), "<1> meets goals 1, 2 and 3: the lowest counts");
+  expect(meets(mikjuqan_test_goals(block, length, labels, 1), 2), "<0> meets goal 2");
+  mikjuqan_search told = mikjuqan_find_plan(block, length, labels, 1, within(STEPS, 100, 100), zero, 1, out, STEPS);
+  expect(finds(told, 0, 0, 1, 2), "so the plan from <0> has no rules");
+
+  block[4] = 2;
+  length -= 2;
+  told = mikjuqan_find_plan(block, length, labels, 1, within(STEPS, 100, 100), zero, 1, out, STEPS);
+  expect(finds(told, 1, 1, 3, 1) && out[0] == 0, "two goals: the plan from <0> is rule 0, to goal 1");
+  told = mikjuqan_find_plan(block, length, labels + 2, 1, within(STEPS, 100, 100), zero, 1, out, STEPS);
+  expect(finds(told, 1, 1, 3, 0) && out[0] == 2, "that from <2> is rule 2, to goal 0");
+  told = mikjuqan_find_plan(block, length, labels + 4, 1, within(STEPS, 100, 100), zero, 1, out, STEPS);
+  expect(lacks(told, MIKJUQAN_NO_PLAN, 1), "there is none from <4>");
+
+  expect(ends(mikjuqan_replay_run(block, length, labels, 1, rules, 3, out, STEPS), 0, 3, 3, 0),
+         "a replay past goal 1 to goal 0");
+  expect(ends(mikjuqan_replay_run(block, length, labels + 1, 1, rules + 1, 1, out, STEPS), 0, 1, 1, MIKJUQAN_NO_GOAL),
+         "one that leaves goal 1 for no goal");
+  expect(ends(mikjuqan_replay_run(block, length, labels + 1, 1, rules, 0, out, STEPS), 0, 0, 0, 1),
+         "one of no rules at goal 1");
+  expect(ends(mikjuqan_replay_run(block, length, labels + 1, 1, rules, 1, out, STEPS), 1, 0, 0, MIKJUQAN_NO_GOAL),
+         "and one that is stuck there");
 }
 
 /* ---- NULL, with length 0 ---- */
@@ -288,13 +336,13 @@ static void null_out(const uint8_t *block, size_t length, const uint32_t *table)
 static void null_accepted(const uint8_t *block, size_t length, const uint32_t *table) {
   uint8_t out[POSITIONS] = {9, 9, 9};
   mikjuqan_replay run = mikjuqan_replay_run(block, length, start, POSITIONS, NULL, 0, out, POSITIONS);
-  expect(ends(run, 0, 0, 0) && same(out, 1, 2, 0), "NULL as list: the replay is done at the start");
+  expect(ends(run, 0, 0, 0, MIKJUQAN_NO_GOAL) && same(out, 1, 2, 0), "NULL as list: the replay is done at the start");
 
   mikjuqan_limits no_steps = within(0, 100, 100);
   mikjuqan_search told = mikjuqan_find_plan(block, length, goal, POSITIONS, no_steps, table, ENTRIES, NULL, 0);
-  expect(answers(told, MIKJUQAN_FOUND, 0, 0, 1), "NULL for a plan of no steps: it is found from <2,1,0>");
+  expect(finds(told, 0, 0, 1, 0), "NULL for a plan of no steps: it is found from <2,1,0>");
   told = mikjuqan_find_plan(block, length, start, POSITIONS, no_steps, table, ENTRIES, NULL, 0);
-  expect(answers(told, MIKJUQAN_NO_PLAN, 0, 0, 1), "and there is none from <1,2,0>");
+  expect(lacks(told, MIKJUQAN_NO_PLAN, 1), "and there is none from <1,2,0>");
 }
 
 int main(void) {
@@ -307,6 +355,7 @@ int main(void) {
   replay(block, length);
   fill_and_look_up(block, length, table);
   search(block, length, table);
+  several_goals();
   null_text();
   null_block(table);
   null_state(block, length, table);

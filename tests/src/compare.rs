@@ -61,7 +61,7 @@ pub fn apply_rule(
     (answer, expected_out)
 }
 
-pub fn test_goals(random: &mut Random, block: &[u8], state: &[u8]) -> Result<bool, Refusal> {
+pub fn test_goals(random: &mut Random, block: &[u8], state: &[u8]) -> Result<Option<u8>, Refusal> {
     let block = Lent::new("block", random, block);
     let state = Lent::new("state", random, state);
     let expected = calls::test_goals(&block, &state);

@@ -15,9 +15,16 @@ pub fn cases() -> u64 {
     }
 }
 
-/// Answers fall into a few kinds, which are counted.
+/// The numbers of goals as they are counted, for those lists of what is possible that have goals.
+pub const GOALS: &str = "goal 0, goal 1, goal 2, goal 3, goal 4, goal 5, goal 6, goal 7";
+
+/// Answers fall into a few kinds, which are counted; the goals that they tell are counted beside these.
 pub trait Kind {
     fn kind(&self) -> &'static str;
+
+    fn goal(&self) -> Option<u8> {
+        None
+    }
 }
 
 impl Kind for () {
@@ -51,11 +58,32 @@ impl Kind for Option<u32> {
     }
 }
 
+impl Kind for Option<u8> {
+    fn kind(&self) -> &'static str {
+        match self {
+            Some(_) => "met",
+            None => "not met",
+        }
+    }
+
+    fn goal(&self) -> Option<u8> {
+        *self
+    }
+}
+
 impl Kind for Replay {
     fn kind(&self) -> &'static str {
         match self {
-            Replay::Done { .. } => "done",
+            Replay::Done { goal: Some(_), .. } => "done at a goal",
+            Replay::Done { goal: None, .. } => "done elsewhere",
             Replay::Stuck { .. } => "stuck",
+        }
+    }
+
+    fn goal(&self) -> Option<u8> {
+        match *self {
+            Replay::Done { goal, .. } => goal,
+            Replay::Stuck { .. } => None,
         }
     }
 }
@@ -70,6 +98,13 @@ impl Kind for Search {
             Search::Spent { .. } => "spent",
         }
     }
+
+    fn goal(&self) -> Option<u8> {
+        match *self {
+            Search::Found { goal, .. } => Some(goal),
+            Search::NoPlan { .. } | Search::Spent { .. } => None,
+        }
+    }
 }
 
 impl<T: Kind> Kind for Result<T, Refusal> {
@@ -80,10 +115,15 @@ impl<T: Kind> Kind for Result<T, Refusal> {
             Err(refusal) => REFUSED[refusal.number() as usize - 1],
         }
     }
+
+    fn goal(&self) -> Option<u8> {
+        self.as_ref().ok().and_then(T::goal)
+    }
 }
 
-/// Runs a case so many times and counts the kinds of its answers. Those listed as possible, answers and numbers of
-/// refusals with commas between, must each have been met at least once in a thousand cases, and no others at all.
+/// Runs a case so many times and counts the kinds of its answers, and the goals. Those listed as possible, answers,
+/// goals and numbers of refusals with commas between, must each have been met at least once in a thousand cases, and
+/// no others at all.
 pub fn repeat<T: Kind>(name: &str, cases: u64, possible: &str, case: impl Fn(&mut Random) -> T) {
     let seed = name.bytes().fold(cases_seed(), |seed, byte| seed.wrapping_mul(257).wrapping_add(byte.into()));
     let mut met: BTreeMap<&str, u64> = BTreeMap::new();
@@ -94,6 +134,10 @@ pub fn repeat<T: Kind>(name: &str, cases: u64, possible: &str, case: impl Fn(&mu
             resume_unwind(fault)
         });
         *met.entry(answer.kind()).or_default() += 1;
+        if let Some(goal) = answer.goal() {
+            let name = GOALS.split(", ").nth(goal.into()).expect("there are at most eight goals");
+            *met.entry(name).or_default() += 1;
+        }
     }
     println!("{name}: {cases} cases, {met:?}");
     let mut possible: Vec<&str> = possible.split(", ").collect();

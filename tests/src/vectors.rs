@@ -95,7 +95,7 @@ fn run(name: &str, a: &Arguments, expected: &str) -> String {
     }
 }
 
-/// How a replay ends. A line says of one that is done no more than its cost: its steps must be the whole list.
+/// How a replay ends. A line does not tell the steps of one that is done: they must be the whole list.
 fn replay(exercise: Exercise, start: &[u8], list: &[u8], out: &mut [u8]) -> Result<Replay, Refusal> {
     let end = exercise.replay_run(start, list, out).map(Replay::from);
     if let Ok(Replay::Done { steps, .. }) = end {
@@ -156,10 +156,19 @@ impl Words for Option<u32> {
     }
 }
 
+/// What stands in a line for a goal where none is met.
+const NO_GOAL: u8 = 0xFF;
+
+impl Words for Option<u8> {
+    fn words(&self) -> String {
+        format!("goal {}", self.unwrap_or(NO_GOAL))
+    }
+}
+
 impl Words for Replay {
     fn words(&self) -> String {
         match self {
-            Replay::Done { cost, .. } => format!("done {cost}"),
+            Replay::Done { cost, goal, .. } => format!("done {cost} {}", goal.unwrap_or(NO_GOAL)),
             Replay::Stuck { steps, cost } => format!("stuck {steps} {cost}"),
         }
     }
@@ -168,7 +177,7 @@ impl Words for Replay {
 impl Words for Search {
     fn words(&self) -> String {
         match self {
-            Search::Found { steps, cost, visits } => format!("found {steps} {cost} {visits}"),
+            Search::Found { steps, cost, visits, goal } => format!("found {steps} {cost} {visits} {goal}"),
             Search::NoPlan { visits } => format!("no-plan 0 0 {visits}"),
             Search::Spent { visits } => format!("spent 0 0 {visits}"),
         }

@@ -4,13 +4,13 @@
 
 use outside::compare;
 use outside::draw::arguments::{
-    damage_sometimes, draw_back, draw_list, draw_room, draw_rule_number, draw_state, draw_whole_state,
+    change_list, damage_sometimes, draw_back, draw_goal_state, draw_room, draw_rule_number, draw_state,
 };
 use outside::draw::limits::draw_limits;
 use outside::draw::tables::draw_table;
 use outside::draw::text::draw_text;
 use outside::draw::Drawn;
-use outside::repeat::{cases, repeat};
+use outside::repeat::{cases, repeat, GOALS};
 
 /// Calls that make no table take exercises with any number of abstract states.
 const ANY: usize = 16_384;
@@ -59,9 +59,10 @@ fn apply_rule() {
 
 #[test]
 fn test_goals() {
-    repeat("test_goals", cases(), "yes, no, 3, 4, 5, 6, 7, 8", |random| {
+    repeat("test_goals", cases(), &format!("met, not met, {GOALS}, 3, 4, 5, 6, 7, 8"), |random| {
         let drawn = Drawn::new(random, ANY);
-        let state = draw_state(random, &drawn.draft);
+        let draw = if random.one_in(2) { draw_state } else { draw_goal_state };
+        let state = draw(random, &drawn.draft);
         compare::test_goals(random, &drawn.block, &state)
     });
 }
@@ -99,10 +100,10 @@ fn test_reversible() {
 
 #[test]
 fn replay_run() {
-    repeat("replay_run", cases(), "done, stuck, 3, 4, 5, 6, 7, 8, 9, 10, 11", |random| {
-        let drawn = Drawn::new(random, ANY);
-        let start = draw_whole_state(random, &drawn.draft);
-        let list = draw_list(random, &drawn, &start);
+    let possible = format!("done at a goal, done elsewhere, stuck, {GOALS}, 3, 4, 5, 6, 7, 8, 9, 10, 11");
+    repeat("replay_run", cases(), &possible, |random| {
+        let (drawn, start, mut list) = Drawn::with_run(random, ANY);
+        change_list(random, drawn.draft.sizes.rules, &mut list);
         let start = damage_sometimes(random, &drawn.draft, start);
         let room = draw_room(random, drawn.draft.sizes.positions);
         compare::replay_run(random, &drawn.block, &start, &list, room).0
@@ -139,17 +140,13 @@ fn look_up_estimate() {
 
 #[test]
 fn find_plan() {
-    repeat(
-        "find_plan",
-        cases(),
-        "found at the start, found near, found far, no plan, spent, 3, 4, 5, 6, 7, 8, 10, 11, 12, 13",
-        |random| {
-            let (drawn, start) = Drawn::with_start(random, FEW);
-            let start = damage_sometimes(random, &drawn.draft, start);
-            let table = draw_table(random, &drawn);
-            let limits = draw_limits(random, &drawn.block, &start, &table);
-            let room = draw_room(random, limits.steps.min(70));
-            compare::find_plan(random, &drawn.block, &start, limits, &table, room).0
-        },
-    );
+    let answers = format!("found at the start, found near, found far, {GOALS}, no plan, spent");
+    repeat("find_plan", cases(), &format!("{answers}, 3, 4, 5, 6, 7, 8, 10, 11, 12, 13"), |random| {
+        let (drawn, start) = Drawn::with_start(random, FEW);
+        let start = damage_sometimes(random, &drawn.draft, start);
+        let table = draw_table(random, &drawn);
+        let limits = draw_limits(random, &drawn.block, &start, &table);
+        let room = draw_room(random, limits.steps.min(70));
+        compare::find_plan(random, &drawn.block, &start, limits, &table, room).0
+    });
 }

@@ -86,8 +86,11 @@ fn buffers() {
 fn list() {
     let mut out = [0xEE; 4];
     let end = with_e(|e, _| e.replay_run(&START, &[], &mut out));
-    assert_eq!(end.map(Replay::from), Ok(Replay::Done { steps: 0, cost: 0 }));
+    assert_eq!(end.map(Replay::from), Ok(Replay::Done { steps: 0, cost: 0, goal: None }));
     assert_eq!(out, [1, 2, 0, 0xEE]);
+    let end = with_e(|e, _| e.replay_run(&GOAL, &[], &mut out));
+    assert_eq!(end.map(Replay::from), Ok(Replay::Done { steps: 0, cost: 0, goal: Some(0) }));
+    assert_eq!(out, [2, 1, 0, 0xEE]);
 }
 
 /// With a step limit of 0 an empty buffer has room for every plan.
@@ -95,6 +98,6 @@ fn list() {
 fn plan_of_no_steps() {
     let limits = Limits { steps: 0, ..LIMITS };
     let find = |start: [u8; 3]| with_e(|e, _| e.find_plan(&start, limits, &TABLE, &mut [])).map(Search::from);
-    assert_eq!(find(GOAL), Ok(Search::Found { steps: 0, cost: 0, visits: 1 }));
+    assert_eq!(find(GOAL), Ok(Search::Found { steps: 0, cost: 0, visits: 1, goal: 0 }));
     assert_eq!(find(START), Ok(Search::NoPlan { visits: 1 }));
 }

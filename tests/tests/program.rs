@@ -5,11 +5,11 @@ use outside::model::session;
 use outside::model::text::split_lines;
 use outside::program::{run, run_in_pieces, writes};
 use outside::random::Random;
-use outside::repeat::{cases, repeat, Kind};
+use outside::repeat::{cases, repeat, Kind, GOALS};
 use outside::samples::{samples, E_TEXT};
 
 const QUERY: &[u8] = b"010200080000006400000064\n";
-const ANSWER: &[u8] = b"0003000000050000000A020005\n";
+const ANSWER: &[u8] = b"000003000000050000000A020005\n";
 
 /// Asserts that the program prints what the model does, and gives that back.
 fn assert_printed(input: &[u8]) -> Vec<u8> {
@@ -45,13 +45,21 @@ impl Kind for Printed {
             Some(_) => "something else",
         }
     }
+
+    /// The byte behind the status of a plan.
+    fn goal(&self) -> Option<u8> {
+        match split_lines(&self.0).last() {
+            Some([b'0', b'0', b'0', digit, ..]) => Some(digit - b'0'),
+            _ => None,
+        }
+    }
 }
 
 #[test]
 fn random_sessions() {
     let runs = cases().min(4000);
-    let possible = "nothing, found, no plan, spent, 1, 2, 3, 5, 6, 7, 8, 10";
-    repeat("random_sessions", runs, possible, |random| Printed(assert_printed(&draw_input(random))));
+    let possible = format!("nothing, found, {GOALS}, no plan, spent, 1, 2, 3, 5, 6, 7, 8, 10");
+    repeat("random_sessions", runs, &possible, |random| Printed(assert_printed(&draw_input(random))));
 }
 
 #[test]
@@ -143,7 +151,7 @@ fn lines_one_by_one() {
     let input = [exercise, quick.as_slice(), slow, quick].concat();
     let written = writes(&input, 3);
     let lines: Vec<String> = written.iter().map(|line| text(&line.bytes)).collect();
-    assert_eq!(lines, ["00000000000000000001\n", "020000000000017D7840\n", "00000000000000000001\n"]);
+    assert_eq!(lines, ["0000000000000000000001\n", "020000000000017D7840\n", "0000000000000000000001\n"]);
     let between = written[1].at - written[0].at;
     assert!(between.as_millis() >= 100, "the second line came {between:?} after the first");
 }

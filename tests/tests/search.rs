@@ -1,16 +1,17 @@
 //! What is promised of every plan, looked at without a table: by looking at all lists of rules within the step limit.
 
 use mikjuqan::Limits;
+use outside::compare;
 use outside::draw::tables::draw_passing;
 use outside::draw::Drawn;
 use outside::model;
-use outside::model::answers::Search;
+use outside::model::answers::{Replay, Search};
 use outside::model::block::check;
 use outside::model::exercise::Exercise;
 use outside::model::exhaustive::{first_cheapest, least_cost, Plan};
 use outside::model::table::Graph;
 use outside::random::Random;
-use outside::repeat::{cases, repeat};
+use outside::repeat::{cases, repeat, GOALS};
 
 /// The most open lists that are looked at.
 const MOST: usize = 5000;
@@ -49,10 +50,14 @@ fn draw_table(random: &mut Random, exercise: &Exercise) -> Vec<u32> {
     }
 }
 
+/// The answers that are possible where the allowance is enough.
+fn never_spent() -> String {
+    format!("found at the start, found near, found far, {GOALS}, no plan")
+}
+
 #[test]
 fn plan_is_the_first_cheapest_open_list() {
-    let possible = "found at the start, found near, found far, no plan";
-    repeat("plan_is_the_first_cheapest_open_list", cases() / 5, possible, |random| {
+    repeat("plan_is_the_first_cheapest_open_list", cases() / 5, &never_spent(), |random| {
         let (exercise, start, steps, plan) = draw_small(random);
         let table = draw_table(random, &exercise);
         let (answer, rules) = find(&exercise, &start, Limits { steps, cost: ANY, visits: ANY }, &table);
@@ -65,8 +70,24 @@ fn plan_is_the_first_cheapest_open_list() {
 }
 
 #[test]
+fn plan_that_is_replayed_ends_at_its_goal() {
+    repeat("plan_that_is_replayed", cases() / 5, &never_spent(), |random| {
+        let (exercise, start, steps, _) = draw_small(random);
+        let table = draw_table(random, &exercise);
+        let (answer, rules) = find(&exercise, &start, Limits { steps, cost: ANY, visits: ANY }, &table);
+        if let Search::Found { steps, cost, goal, .. } = answer {
+            let block = exercise.encode();
+            let (end, state) = compare::replay_run(random, &block, &start, &rules, start.len());
+            assert_eq!(end, Ok(Replay::Done { steps, cost, goal: Some(goal) }));
+            assert_eq!(compare::test_goals(random, &block, &state), Ok(Some(goal)));
+        }
+        answer
+    });
+}
+
+#[test]
 fn cost_limit_decides_whether_there_is_a_plan() {
-    repeat("cost_limit_decides", cases() / 5, "found at the start, found near, found far, no plan", |random| {
+    repeat("cost_limit_decides", cases() / 5, &never_spent(), |random| {
         let (exercise, start, steps, plan) = draw_small(random);
         let least = plan.as_ref().map_or(random.below(20) as u32, |plan| plan.cost);
         let cost = random.pick(&[least, least + 1, least.saturating_sub(1), 0]);
@@ -82,8 +103,7 @@ fn cost_limit_decides_whether_there_is_a_plan() {
 /// How many visits are made is told by the model's rounds.
 #[test]
 fn spent_exactly_where_more_visits_are_made() {
-    let possible = "found at the start, found near, found far, no plan, spent";
-    repeat("spent_exactly", cases() / 5, possible, |random| {
+    repeat("spent_exactly", cases() / 5, &format!("{}, spent", never_spent()), |random| {
         let (exercise, start, steps, _) = draw_small(random);
         let table = draw_table(random, &exercise);
         let limits = Limits { steps, cost: random.pick(&[ANY, 5]), visits: ANY };

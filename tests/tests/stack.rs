@@ -142,7 +142,7 @@ fn other_calls() {
         used_by(|| assert!(exercise.check_block().is_ok())),
         used_by(|| assert!(exercise.relabel_block(&mut long).is_ok())),
         used_by(|| assert_eq!(exercise.apply_rule(last, &state, &mut out), Ok(true))),
-        used_by(|| assert_eq!(exercise.test_goals(&state), Ok(false))),
+        used_by(|| assert_eq!(exercise.test_goals(&state), Ok(None))),
         used_by(|| assert_eq!(exercise.first_predecessor(last, &state, &mut out), Ok(true))),
         used_by(|| assert_eq!(exercise.next_predecessor(last, &state, &[0; 16], &mut out), Ok(true))),
         used_by(|| assert_eq!(exercise.test_reversible(last), Ok(true))),

@@ -51,6 +51,11 @@ fn sessions() {
     check_all("sessions", 200);
 }
 
+#[test]
+fn goals() {
+    check_all("goals", 340);
+}
+
 /// A line with another answer, or another buffer, is noticed.
 #[test]
 fn faults() {

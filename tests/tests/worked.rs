@@ -67,15 +67,15 @@ fn table_of_e() {
 
 #[test]
 fn plan_of_e() {
-    let found = Ok(Search::Found { steps: 3, cost: 5, visits: 10 });
+    let found = Ok(Search::Found { steps: 3, cost: 5, visits: 10, goal: 0 });
     assert_eq!(find_in_e(&E_START, E_LIMITS, &E_TABLE), (found, vec![2, 0, 5]));
     let later = compare::replay_run(&mut Random::new(5), &e_block(), &E_START, &[4, 1, 3], 3);
-    assert_eq!(later, (Ok(Replay::Done { steps: 3, cost: 5 }), E_GOAL.to_vec()));
+    assert_eq!(later, (Ok(Replay::Done { steps: 3, cost: 5, goal: Some(0) }), E_GOAL.to_vec()));
 }
 
 #[test]
 fn plan_of_e_by_the_zero_table() {
-    let found = Ok(Search::Found { steps: 3, cost: 5, visits: 19 });
+    let found = Ok(Search::Found { steps: 3, cost: 5, visits: 19, goal: 0 });
     assert_eq!(find_in_e(&E_START, E_LIMITS, &[0; 8]), (found, vec![2, 0, 5]));
 }
 
@@ -105,7 +105,7 @@ fn step_limit_65_is_refused() {
 
 #[test]
 fn start_at_the_goal_of_e() {
-    let found = Ok(Search::Found { steps: 0, cost: 0, visits: 1 });
+    let found = Ok(Search::Found { steps: 0, cost: 0, visits: 1, goal: 0 });
     assert_eq!(find_in_e(&E_GOAL, E_LIMITS, &E_TABLE), (found, vec![]));
 }
 
@@ -161,12 +161,12 @@ fn numbers_of_refusals() {
 #[test]
 fn lines_printed_for_e() {
     let lines = [
-        ("010200080000006400000064\n", "0003000000050000000A020005\n"),
+        ("010200080000006400000064\n", "000003000000050000000A020005\n"),
         ("010200080000006400000009\n", "02000000000000000009\n"),
         ("010200080000000400000064\n", "01000000000000000006\n"),
         ("010200020000006400000064\n", "0100000000000000000B\n"),
         ("010200410000006400000064\n", "FF0A\n"),
-        ("020100080000006400000064\n", "00000000000000000001\n"),
+        ("020100080000006400000064\n", "0000000000000000000001\n"),
     ];
     for (query, answer) in lines {
         let input = [E_TEXT, query.as_bytes()].concat();

@@ -1,14 +1,15 @@
--- Laws of `all`, `some`, `first` and `last`: what they say at each number below the bound, how to show them, and that
+-- Laws of `all`, `some`, `first`, `find` and `last`: what they say at each number below the bound, how to show them, and that
 -- they go by the test's values alone. The proofs of every scanning loop, of matching and of relabelling rest on these.
 use mathlib.Core.Path.{_≡_, refl, sym, ap, ap₂, _∙_}
 use mathlib.Core.Logic.{_⊎_, ⊎-elim}
 use mathlib.Core.Bool.{Bool, true, false, cond, _&&_, _||_, true≢false}
+use mathlib.Core.Option as option
 use Prim.Native.Nat.{ℕ, zero, suc, _+_, _≤_, _<_}
 use native.Mathlib.Nat.{eq-or-lt-of-le, le-of-suc-le-suc, not-suc-le-zero, add-zero, add-suc}
 use native.Mathlib.Omega.{arith}
 use lib.Dec.{ltb}
 use borrow.Author.Tests.{lt-ltb, le-ltb}
-use Rattle.basics.specs.Bounded.{all, some, first, last}
+use Rattle.basics.specs.Bounded.{all, some, first, find, last}
 use Rattle.basics.proofs.Truth.{true-false, and-true, and-intro, and-right-false, or-false}
 
 below : {i n : ℕ} → i < suc n → (i ≡ n) ⊎ (i < n)
@@ -125,6 +126,36 @@ module _ (f : ℕ → Bool) where
   pub first-passed : (n i : ℕ) → n ≤ i → ((k : ℕ) → k < i → f k ≡ false) → first n f ≡ n
   first-passed n i l h = first-none n (some-passed n i l h)
 
+  -- what is found, or none, after such a scan
+  pub find-at : (n i : ℕ) → i < n → f i ≡ true → ((k : ℕ) → k < i → f k ≡ false) → find n f ≡ option.some i
+  find-at n i l h low = rw (some-intro n i l h, first-at n i l h low) refl
+
+  pub find-passed : (n i : ℕ) → n ≤ i → ((k : ℕ) → k < i → f k ≡ false) → find n f ≡ option.none
+  find-passed n i l h = rw (some-passed n i l h) refl
+
+  -- where the test holds at some number below n, the first of them is found
+  pub find-some : (n : ℕ) → some n f ≡ true → find n f ≡ option.some (first n f)
+  find-some n h = rw h refl
+
+  -- at what is found the test holds, and at no number before it; with none it holds nowhere
+  pub find-holds :
+      (n i : ℕ) → find n f ≡ option.some i → (i < n) × (f i ≡ true) × ((k : ℕ) → k < i → f k ≡ false)
+  find-holds n i h = go (some n f) refl
+    where
+      go : (t : Bool) → some n f ≡ t → (i < n) × (f i ≡ true) × ((k : ℕ) → k < i → f k ≡ false)
+      go true e =
+          let q : first n f ≡ i = option.Option·some-injective (first n f) i (rw e at h) in
+          let m = first-holds n e in
+          (rw q at (m .0), rw q at (m .1), λ k l. first-least n k (omega arith))
+      go false e = absurd (option.Option·none-ne-some i (rw e at h))
+
+  pub find-fails : (n : ℕ) → find n f ≡ option.none → (i : ℕ) → i < n → f i ≡ false
+  find-fails n h = go (some n f) refl
+    where
+      go : (t : Bool) → some n f ≡ t → (i : ℕ) → i < n → f i ≡ false
+      go true e = absurd (option.Option·none-ne-some (first n f) (sym (rw e at h)))
+      go false e = some-false n e
+
   -- the last is not before a number at which the test holds, and the test holds at it
   pub last-above : (n k : ℕ) → k < n → f k ≡ true → k < last n f
   last-above zero k l h = absurd (not-suc-le-zero l)
@@ -169,3 +200,6 @@ module _ (f g : ℕ → Bool) where
       let b = first-ext n (λ i l. h i (omega arith)) in
       let c = h n (omega arith) in
       rw (a, b, c)
+
+  pub find-ext : (n : ℕ) → ((i : ℕ) → i < n → f i ≡ g i) → find n f ≡ find n g
+  find-ext n h = rw (some-ext n h, first-ext n h) refl

@@ -1,8 +1,13 @@
--- Read back, the numbers of an answer tell that answer, since no refusal has the number 0: a law for each enum of the
--- calls (`verdict-told`, `filling-told`, ..).
+-- Read back, the numbers of an answer tell that answer, since no refusal has the number 0 and no goal is FF: a law for
+-- each enum of the calls (`verdict-told`, `filling-told`, ..).
 -- What the calls of the C interface promise rests on these.
-use mathlib.Core.Path.{_≡_, refl}
-use Rattle.refusals.specs.Answers.{refused}
+use mathlib.Core.Path.{_≡_, refl, ap}
+use mathlib.Core.Bool.{Bool, cond}
+use mathlib.Core.Option.{none, some}
+use Prim.Native.Nat.{ℕ, _<_}
+use native.Mathlib.Omega.{arith}
+use borrow.Author.Tests.{ne-eqb}
+use Rattle.refusals.specs.Answers.{refused, told}
 use Rattle.refusals.specs.Refusals.{refusalNumber, verdictOf}
 use Rattle.refusals.specs.declared.Refusal.{Refusal}
 use Rattle.refusals.specs.declared.Refusal.the-variants as refusal
@@ -11,6 +16,7 @@ use Rattle.refusals.specs.declared.Verdict.the-variants as verdict
 use Rattle.frames.specs.Reading.{readingOf}
 use Rattle.frames.specs.declared.reading.Reading.{Reading}
 use Rattle.frames.specs.declared.reading.Reading.the-variants as reading
+use Rattle.psvn.specs.Rules.{noGoal}
 use Rattle.psvn_calls.specs.Applying.{applicationOf}
 use Rattle.psvn_calls.specs.Goals.{goalTestOf}
 use Rattle.psvn_calls.specs.Relabelling.{relabellingOf}
@@ -40,8 +46,8 @@ use Rattle.table_calls.specs.declared.estimating.Estimate.the-variants as estim
 use Rattle.search_calls.specs.Searching.{searchOf}
 use Rattle.search_calls.specs.declared.searching.Search.{Search}
 use Rattle.search_calls.specs.declared.searching.Search.the-variants as searched
-use Rattle.c_answers.specs.Numbers.{refusalOf, decisionOf, appliedOf, lengthOf, entryOf, replayNumbersOf, searchNumbersOf}
-use Rattle.c_answers.specs.Numbers.{toldBy, doneTold, decisionTold, appliedTold, lengthTold, entryTold, replayTold, searchTold}
+use Rattle.c_answers.specs.Numbers.{refusalOf, decisionOf, appliedOf, goalNumbersOf, lengthOf, entryOf, replayNumbersOf, searchNumbersOf}
+use Rattle.c_answers.specs.Numbers.{toldBy, doneTold, decisionTold, appliedTold, goalTold, lengthTold, entryTold, replayTold, searchTold}
 
 -- a refusal is read back as it is, whatever the other members say
 refused-told : {A : Type 0} (a : A) (x : Refusal) → toldBy (refusalNumber x) a ≡ refused (refusalNumber x)
@@ -74,11 +80,6 @@ application-told application.Done = refl
 application-told application.DoesNotApply = refl
 application-told (application.Refused x) = refused-told _ x
 
-pub goal-test-told : (x : GoalTest) → decisionTold (decisionOf (goalTestOf x)) ≡ goalTestOf x
-goal-test-told goal.Met = refl
-goal-test-told goal.NotMet = refl
-goal-test-told (goal.Refused x) = refused-told _ x
-
 pub predecessor-told : (x : Predecessor) → decisionTold (decisionOf (predecessorOf x)) ≡ predecessorOf x
 predecessor-told predecessor.Found = refl
 predecessor-told predecessor.NoneFurther = refl
@@ -88,6 +89,15 @@ pub reversibility-told : (x : Reversibility) → decisionTold (decisionOf (rever
 reversibility-told reversibility.Reversible = refl
 reversibility-told reversibility.NotReversible = refl
 reversibility-told (reversibility.Refused x) = refused-told _ x
+
+-- a goal, of which it is known that it is not FF
+pub goal-test-told :
+    (x : GoalTest) → ((g : ℕ) → goalTestOf x ≡ told (some g) → g < noGoal)
+    → goalTold (goalNumbersOf (goalTestOf x)) ≡ goalTestOf x
+goal-test-told (goal.Met g) low =
+    ap (λ (t : Bool). told (cond t none (some g))) (ne-eqb g noGoal (λ e. omega (arith, low g refl)))
+goal-test-told goal.NotMet low = refl
+goal-test-told (goal.Refused x) low = refused-told _ x
 
 -- lengths, where a replay ends, and the answer of a search
 pub reading-told : (x : Reading) → lengthTold (lengthOf (readingOf x)) ≡ readingOf x

@@ -3,14 +3,12 @@ ghost use mathlib.Core.Path.{_≡_};
 ghost use Rattle.refusals.specs.Answers.{refused};
 ghost use Rattle.refusals.specs.Refusals.{refusalNumber};
 ghost use Rattle.psvn_calls.specs.Applying.{applicationOf};
-ghost use Rattle.psvn_calls.specs.Goals.{goalTestOf};
 ghost use Rattle.backward_calls.specs.Predecessors.{predecessorOf};
 ghost use Rattle.backward_calls.specs.Reversing.{reversibilityOf};
 ghost use Rattle.table_calls.specs.WholeTables.{tableTestOf};
 ghost use Rattle.c_answers.specs.Numbers.{decisionOf, appliedOf};
 use super::verdicts::number_of;
 use engine::Application;
-use engine::GoalTest;
 use engine::Predecessor;
 use engine::Reversibility;
 use engine::TableTest;
@@ -41,17 +39,6 @@ pub fn applied(application: Application) -> Decision
         Application::Done => Decision { refusal: 0, yes: 1 },
         Application::DoesNotApply => Decision { refusal: 0, yes: 0 },
         Application::Refused(refusal) => not_decided(refusal),
-    }
-}
-
-// What the goal test answers.
-pub fn met(test: GoalTest) -> Decision
-    ensures { λ r. ⌜ r ≡ decisionOf (goalTestOf test) ⌝ }
-{
-    match test {
-        GoalTest::Met => Decision { refusal: 0, yes: 1 },
-        GoalTest::NotMet => Decision { refusal: 0, yes: 0 },
-        GoalTest::Refused(refusal) => not_decided(refusal),
     }
 }
 

@@ -6,8 +6,8 @@ use super::verdicts::number_of;
 use engine::Plan;
 use engine::Search;
 
-// What a search answers: found (0), 'no plan' (1) or 'spent' (2), and the plan, whose steps and cost are 0 where there
-// is none; its visits are told in each case.
+// What a search answers: found (0), 'no plan' (1) or 'spent' (2), and the plan, whose steps and cost are 0 and whose
+// goal is FF where there is none; its visits are told in each case.
 #[repr(C)]
 pub struct SearchNumbers {
     pub refusal: u32,

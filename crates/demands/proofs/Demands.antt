@@ -19,6 +19,7 @@ use Rattle.psvn.specs.Meaning.{Matched, Successor}
 use Rattle.psvn.proofs.Matching.{matched, matching}
 use Rattle.psvn.proofs.Successors.{made-successor, successor-only}
 use Rattle.psvn.proofs.Stepping.{step-length, step-state}
+use Rattle.psvn.proofs.GoalLaws.{lowest-met, none-met}
 use Rattle.psvn.proofs.Homomorphism.{applies-relabelled, step-relabelled, meets-relabelled}
 use Rattle.psvn.proofs.RelabelTwice.{relabel-twice}
 use Rattle.psvn.proofs.RelabelledValid.{relabelled-valid}
@@ -42,6 +43,7 @@ use Rattle.rounds.proofs.Thresholds as thresholds
 use Rattle.queries.specs.Queries.{queryConditions}
 use Rattle.search.specs.Exercises.{systemOf, estimateOf}
 use Rattle.search.proofs.Demand.{exercise-lawful, low-estimates, kept, visits-counted, thresholds-follow, same-found}
+use Rattle.search.proofs.Demand.{goal-kept}
 use Rattle.psvn_calls.specs.Checking.{checkBlock, stateConditions}
 use Rattle.psvn_calls.specs.Applying.{done, does-not-apply, applyConditions, applyRule}
 use Rattle.psvn_calls.specs.Goals.{testGoals}
@@ -129,6 +131,8 @@ module _ (b : List ℕ) (v : Valid b) where
       record {
         rule-matches = λ r s. (matched (positions b) (leftOf b r) s, matching (positions b) (leftOf b r) s);
         goal-matches = λ g s. (matched (positions b) (goalOf b g) s, matching (positions b) (goalOf b g) s);
+        goal-lowest = lowest-met b;
+        goal-none = none-met b;
         successor = successor;
         applied = λ r s h. leads-exactly b r s (step b r s) (step-length b r s) .1 (h, refl);
         applied-state = λ r s l ok. step-state b v r l s ok;
@@ -147,7 +151,7 @@ module _ (b : List ℕ) (v : Valid b) where
         filled-least = λ t. filled-front b bytes t v;
         zeros-pass = zeros-pass-test b v;
         passing-low = estimate-bound b v;
-        replay-done = done-in-turn b;
+        replay-done = λ s rs. done-in-turn b s rs v;
         replay-stuck = stuck-at b;
       }
 
@@ -177,6 +181,7 @@ module _ (b t : List ℕ) (v : Valid b) (passing : passesTest b t ≡ true) (sma
         plan = k .plan;
         first-cheapest = k .best;
         cheapest = k .cheapest;
+        goal = goal-kept k v;
         first-threshold = thresholds.first-threshold (systemOf b) (estimateOf b t) (l .steps) (l .cost) s;
         next-threshold = thresholds-follow v t s l;
         visited =

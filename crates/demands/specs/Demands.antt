@@ -6,6 +6,7 @@ use mathlib.Core.Path.{_≡_}
 use mathlib.Core.Logic.{_↔_}
 use mathlib.Core.Bool.{true, false}
 use mathlib.Core.List.{List, [], _∷_, _++_}
+use mathlib.Core.Option.{none, some}
 use Prim.Native.Nat.{ℕ, _≤_, _<_}
 use lib.ListN.{length, getD}
 use Rattle.basics.specs.Marks.{mark}
@@ -14,8 +15,8 @@ use Rattle.refusals.specs.Answers.{Answer, refused, told, Condition, _unless_, 
 use Rattle.blocks.specs.Layout.{positions, labels, rules, leftOf, rightOf, goalOf, abstractStates}
 use Rattle.blocks.specs.Validity.{blockConditions, Valid}
 use Rattle.blocks.specs.States.{stateOk}
-use Rattle.psvn.specs.Rules.{applies, step, leads, goalMet, meets}
-use Rattle.psvn.specs.Meaning.{Matched, Successor}
+use Rattle.psvn.specs.Rules.{applies, step, leads, goalMet, meets, metGoal}
+use Rattle.psvn.specs.Meaning.{Matched, Successor, LowestMet, NoneMet}
 use Rattle.psvn.specs.Runs.{reaches, totalCost}
 use Rattle.psvn.specs.Relabelling.{relabelBlock, relabelState}
 use Rattle.psvn.specs.Ranks.{stateCount}
@@ -36,8 +37,8 @@ use Rattle.rounds.specs.Systems.{at}
 use Rattle.rounds.specs.Promises.{BestPlan}
 use Rattle.rounds.specs.Logs.{listsOf, Member, Rising, roundLog, Logged}
 use Rattle.rounds.specs.Thresholds.{Consecutive, VisitsCounted}
-use Rattle.search.specs.Exercises.{systemOf, estimateOf, searchFrom, unlimited, thresholdsOf}
-use Rattle.search.specs.Promises.{WithinLimits}
+use Rattle.search.specs.Exercises.{systemOf, estimateOf, searchFrom, unlimited, thresholdsOf, planGoal}
+use Rattle.search.specs.Promises.{WithinLimits, GoalKept}
 use Rattle.psvn_calls.specs.Checking.{checkBlock, stateConditions}
 use Rattle.psvn_calls.specs.Applying.{applyConditions, applyRule}
 use Rattle.psvn_calls.specs.Goals.{testGoals}
@@ -130,6 +131,9 @@ pub record Demand2 (b : List ℕ) : Type 0 where
   -- hold equal labels; a dash tests nothing"; "A rule applies when its left side matches"
   pub rule-matches : (r : ℕ) (s : List ℕ) → (applies b r s ≡ true) ↔ Matched (positions b) (leftOf b r) s
   pub goal-matches : (g : ℕ) (s : List ℕ) → (goalMet b g s ≡ true) ↔ Matched (positions b) (goalOf b g) s
+  -- "the lowest number of a met goal" (document 02, F-1), or none, and then no goal is met
+  pub goal-lowest : (s : List ℕ) (g : ℕ) → metGoal b s ≡ some g → LowestMet b s g
+  pub goal-none : (s : List ℕ) → metGoal b s ≡ none → NoneMet b s
   -- each successor: a rule takes s to t exactly where its left side matches s and its right side makes t of s; what
   -- applying writes is that state
   pub successor :
@@ -175,7 +179,8 @@ pub record Demand2 (b : List ℕ) : Type 0 where
   -- "The all-zero table passes"; the estimates of a table that passes are lower bounds
   pub zeros-pass : (t : List ℕ) → ((k : ℕ) → k < abstractStates b → getD t k 0 ≡ 0) → passesTest b t ≡ true
   pub passing-low : (t : List ℕ) → passesTest b t ≡ true → NeverTooHigh b (estimate b t)
-  -- "'done', or 'stuck' at the first index whose rule does not apply; either way the cost so far, and the state there"
+  -- "'done', or 'stuck' at the first index whose rule does not apply; either way the cost so far, and the state there";
+  -- "Replay, when done, reports the final state's goal, or hexadecimal FF for none" (F-1)
   pub replay-done :
       (s rs : List ℕ) (end : RunEnd) → replayEnding b s rs ≡ Done end → DoneAt b s rs end (replayState b s rs)
   pub replay-stuck :
@@ -213,6 +218,8 @@ pub record Demand3 (b s : List ℕ) (l : Limits) (t : List ℕ) : Type 0 where
   pub cheapest :
       (u c : ℕ) (p : List ℕ) → searchFrom b s l t ≡ rounds.found u p c
       → (q : List ℕ) → reaches b s q ≡ true → length q ≤ l .steps → c ≤ totalCost b q
+  -- the goal told is the lowest that the plan's last state meets, and FF exactly where there is no plan (F-1)
+  pub goal : GoalKept b s (searchFrom b s l t) (planGoal b s (searchFrom b s l t))
   -- "Rounds have a threshold T, first the start's estimate"; "the next T is the least figure above T among open lists
   -- whose proper prefixes were all visited"
   pub first-threshold :

@@ -7,6 +7,7 @@ pub use backward_calls::next_predecessor;
 pub use backward_calls::test_reversible;
 pub use psvn_calls::Application;
 pub use psvn_calls::GoalTest;
+pub use psvn_calls::NO_GOAL;
 pub use psvn_calls::Relabelling;
 pub use psvn_calls::apply_rule;
 pub use psvn_calls::check_block;

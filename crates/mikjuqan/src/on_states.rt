@@ -5,8 +5,9 @@ ghost use Rattle.psvn_calls.specs.Applying.{applyRule, ApplicationKept};
 ghost use Rattle.psvn_calls.specs.Goals.{testGoals, GoalTestKept};
 ghost use Rattle.backward_calls.specs.Predecessors.{stepBackFrom, PredecessorKept};
 ghost use Rattle.backward_calls.specs.Reversing.{testReversible, ReversibilityKept};
-ghost use Rattle.c_answers.specs.Numbers.{decisionOf, appliedOf, decisionTold, appliedTold};
+ghost use Rattle.c_answers.specs.Numbers.{decisionOf, appliedOf, goalNumbersOf, decisionTold, appliedTold, goalTold};
 use c_answers::Decision;
+use c_answers::GoalNumbers;
 
 // Yes where the rule applies; the new state then stands at the front of `out`.
 #[no_mangle]
@@ -25,11 +26,11 @@ pub extern "C" fn mikjuqan_apply_rule(
     c_answers::applied(application)
 }
 
-// Yes where the state meets a goal.
+// The goal that the state meets, the lowest number of a met one; FF where it meets none.
 #[no_mangle]
-pub extern "C" fn mikjuqan_test_goals(block: &[u8], state: &[u8]) -> Decision
-    ensures { λ r. ⌜ r ≡ decisionOf (testGoals (now (block .entry)) (now (state .entry))) ⌝ }
-    ensures { λ r. ⌜ GoalTestKept (now (block .entry)) (now (state .entry)) (decisionTold r) ⌝ }
+pub extern "C" fn mikjuqan_test_goals(block: &[u8], state: &[u8]) -> GoalNumbers
+    ensures { λ r. ⌜ r ≡ goalNumbersOf (testGoals (now (block .entry)) (now (state .entry))) ⌝ }
+    ensures { λ r. ⌜ GoalTestKept (now (block .entry)) (now (state .entry)) (goalTold r) ⌝ }
 {
     let test = engine::test_goals(block, state);
     c_answers::met(test)

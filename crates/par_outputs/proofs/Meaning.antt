@@ -1,7 +1,7 @@
 -- The output of `par` means what specs/Promises.antt says: `par-means`. A query that is not refused keeps demand 3 since
--- the filled table of an exercise that is read from text passes the lower-bound test.
+-- the filled table of an exercise that is read from text passes the lower-bound test; and its plan's goal is the lowest.
 -- The contract of a session promises this of what it prints.
-use mathlib.Core.Path.{_≡_, ap, _∙_}
+use mathlib.Core.Path.{_≡_, ap, subst, _∙_}
 use mathlib.Core.List.{List}
 use Prim.Native.Nat.{ℕ, _+_, _≤_, _<_}
 use native.Mathlib.Omega.{arith}
@@ -12,15 +12,15 @@ use Rattle.refusals.specs.Answers.{Answer, refused, told, verdict, answered}
 use Rattle.refusals.proofs.Verdicts.{verdict-parts}
 use Rattle.blocks.specs.Layout.{positions}
 use Rattle.blocks.specs.Validity.{Valid}
-use Rattle.psvn.proofs.RunLaws.{reaches-run}
 use Rattle.filling.specs.FilledTables.{filled, CostBytes}
 use Rattle.filling.proofs.LeastEntries.{cost-bytes, filled-low, filled-small}
 use Rattle.rounds.specs.Rounds as rounds
 use Rattle.queries.specs.Queries.{longestPlan}
 use Rattle.queries.proofs.QueryLaws.{QueryAccepted, query-accepted}
-use Rattle.search.specs.Promises.{SearchKept}
-use Rattle.search.proofs.Demand.{kept, visits-within, cost-within}
-use Rattle.records.specs.Records.{numberOf, startOf, limitsOf, recordConditions, searchAsked, answerBytes, recordOf}
+use Rattle.search.specs.Promises.{SearchKept, GoalKept}
+use Rattle.search.proofs.Demand.{kept, visits-within, cost-within, plan-reaching, goal-kept}
+use Rattle.records.specs.Records.{numberOf, startOf, limitsOf, recordConditions, searchAsked}
+use Rattle.records.specs.Records.{answerBytes, goalAsked, recordOf}
 use Rattle.records.proofs.AnswerBytes.{bytes-within, answer-small, four-below, four-back}
 use Rattle.frames.specs.Lines.{linesOf, lineBytes, lineOf}
 use Rattle.frames.specs.Reading.{readConditions}
@@ -36,9 +36,10 @@ use Rattle.par_outputs.specs.Promises.{QueryMeans, ExerciseMeans, Means}
 -- the answer line by the verdict on the query line
 pub line-by :
     (b line : List ℕ) (v : Answer (Unit {0})) → verdict (queryLineConditions b line) ≡ v
-    → answerLine b line ≡ lineOf (recordOf (answered v (searchFor b (lineBytes line))))
+    → (let q = lineBytes line in answerLine b line ≡ lineOf (recordOf b q (answered v (searchFor b q))))
 unfolding answerLine
-line-by b line v e = ap (λ (u : Answer (Unit {0})). lineOf (recordOf (answered u (searchFor b (lineBytes line))))) e
+line-by b line v e =
+    let q = lineBytes line in ap (λ (u : Answer (Unit {0})). lineOf (recordOf b q (answered u (searchFor b q)))) e
 
 module _
     (b : List ℕ) (valid : Valid b) (bytes : CostBytes b) (line : List ℕ)
@@ -46,9 +47,12 @@ module _
   abbrev q : List ℕ
   q = lineBytes line
 
-  -- the answer of the search that is asked for
+  -- the answer of the search that is asked for, and the bytes that tell it with its goal
   abbrev answer : rounds.Answer
   answer = searchFor b q
+
+  abbrev told-bytes : List ℕ
+  told-bytes = answerBytes (goalAsked b q answer) answer
 
   -- the start is a state, and the step limit is not too large
   content : QueryAccepted b (startOf b q) (limitsOf b q)
@@ -68,23 +72,30 @@ module _
   pub few-steps : (u c : ℕ) (p : List ℕ) → answer ≡ rounds.found u p c → length p ≤ longestPlan
   few-steps u c p e = omega (arith, promised .plan u c p e .0 .steps, content .steps-few)
 
-  -- the numbers of the answer line are bytes: a plan has few steps, and each is the number of one of at most 64 rules
-  small : Bytes (answerBytes answer)
-  small =
-      answer-small answer (λ u c p e.
-      let numbers = reaches-run b (startOf b q) p (promised .plan u c p e .0 .reaching) .numbers in
-      let few = valid .sized .headed .sizes .r-high in
-      (omega (arith, few-steps u c p e), bytes-within p (λ i l. omega (arith, numbers i l, few))))
+  -- a plan's goal is below FF
+  goal-low : (u c : ℕ) (p : List ℕ) → answer ≡ rounds.found u p c → goalAsked b q answer ≤ 255
+  goal-low u c p e =
+      let found-goal = subst (λ (a : rounds.Answer). GoalKept b (startOf b q) a (goalAsked b q a)) e (goal-kept promised valid) in
+      omega (arith, found-goal .1, ap (goalAsked b q) e)
 
-  shown : answerLine b line ≡ lineOf (answerBytes answer)
+  -- the numbers of the answer line are bytes: a plan has few steps, and each is the number of one of at most 64 rules
+  small : Bytes told-bytes
+  small =
+      answer-small (goalAsked b q answer) answer (λ u c p e.
+      let numbers = plan-reaching promised u c p e .numbers in
+      let few = valid .sized .headed .sizes .r-high in
+      (goal-low u c p e, omega (arith, few-steps u c p e), bytes-within p (λ i l. omega (arith, numbers i l, few))))
+
+  shown : answerLine b line ≡ lineOf told-bytes
   shown = line-by b line (told tt) h
 
   pub query-means : QueryMeans b line
   query-means =
       record {
         shown = shown;
-        read-back = ap lineBytes shown ∙ written-bytes (answerBytes answer) small;
+        read-back = ap lineBytes shown ∙ written-bytes told-bytes small;
         kept = promised;
+        goal = goal-kept promised valid;
         cost-whole = four-back (rounds.planCost answer) (omega (arith, cost-within promised, limit-below (positions b + 1)));
         visits-whole = four-back (rounds.visits answer) (omega (arith, visits-within promised, limit-below (positions b + 5)));
       }

@@ -18,7 +18,7 @@ use Rattle.filling.specs.FilledTables.{CostBytes}
 use Rattle.filling.proofs.LeastEntries.{cost-bytes}
 use Rattle.rounds.specs.Rounds as rounds
 use Rattle.queries.specs.Queries.{longestPlan}
-use Rattle.records.specs.Records.{queryLength, recordRoom, recordConditions, answerFront, refusalBytes, answerBytes}
+use Rattle.records.specs.Records.{queryLength, recordRoom, recordConditions, planFront, answerBytes, refusalBytes, goalAsked}
 use Rattle.frames.specs.Lines.{linesOf, lineOk, lineBytes}
 use Rattle.frames.specs.Places.{lineFrom}
 use Rattle.frames.specs.Reading.{readConditions}
@@ -33,14 +33,14 @@ use Rattle.par_outputs.specs.Output.{parOutput, answersFrom}
 use Rattle.par_outputs.proofs.Meaning.{line-by, query-means, few-steps}
 use Rattle.par_outputs.proofs.Whole.{answers-next, answers-end, output-refused, output-answers}
 
--- a record has ten bytes in front of its plan
+-- a record has eleven bytes in front of its plan, and ten where there is none
 record-short :
-    (a : rounds.Answer) → ((u c : ℕ) (p : List ℕ) → a ≡ rounds.found u p c → length p ≤ longestPlan)
-    → length (answerBytes a) ≤ recordRoom
-record-short (rounds.found u p c) h =
-    omega (arith, h u c p refl, length-append (answerFront 0 (length p) c (rounds.visits (rounds.found u p c))) p)
-record-short (rounds.noPlan u) h = omega arith
-record-short (rounds.spent u) h = omega arith
+    (goal : ℕ) (a : rounds.Answer) → ((u c : ℕ) (p : List ℕ) → a ≡ rounds.found u p c → length p ≤ longestPlan)
+    → length (answerBytes goal a) ≤ recordRoom
+record-short goal (rounds.found u p c) h =
+    omega (arith, h u c p refl, length-append (planFront (length p) c (rounds.visits (rounds.found u p c))) p)
+record-short goal (rounds.noPlan u) h = omega arith
+record-short goal (rounds.spent u) h = omega arith
 
 -- a line has two characters for each of its bytes
 bytes-half : (line : List ℕ) → 2 * length (lineBytes line) ≤ length line
@@ -49,7 +49,7 @@ bytes-half (c ∷ []) = omega arith
 bytes-half (c ∷ d ∷ l) = omega (arith, bytes-half l)
 
 module _ (b : List ℕ) (valid : Valid b) (bytes : CostBytes b) where
-  -- a line that is turned back has a character, and prints five; any other one has 20, and prints at most 149
+  -- a line that is turned back has a character, and prints five; any other one has 20, and prints at most 151
   pub answer-short : (line : List ℕ) → 1 ≤ length line → length (answerLine b line) ≤ 8 * length line
   unfolding queryLineConditions
   answer-short line some = by-verdict (verdict (queryLineConditions b line)) refl where
@@ -57,14 +57,16 @@ module _ (b : List ℕ) (valid : Valid b) (bytes : CostBytes b) where
         (v : Answer (Unit {0})) → verdict (queryLineConditions b line) ≡ v → length (answerLine b line) ≤ 8 * length line
     by-verdict (refused k) h = omega (arith, some, ap length (line-by b line (refused k) h), line-length (refusalBytes k))
     by-verdict (told u) h =
-        let answer = searchFor b (lineBytes line) in
-        let rest = 2 unless eqb (length (lineBytes line)) (queryLength b) ∷ [] in
-        let right = verdict-parts (lineConditions b line) (recordConditions b (lineBytes line)) h .0 in
+        let q = lineBytes line in
+        let answer = searchFor b q in
+        let goal = goalAsked b q answer in
+        let rest = 2 unless eqb (length q) (queryLength b) ∷ [] in
+        let right = verdict-parts (lineConditions b line) (recordConditions b q) h .0 in
         let fits = verdict-told 2 _ [] (verdict-told 1 (lineOk line) rest right .1) .0 in
-        let long = eqb-true (length (lineBytes line)) (queryLength b) fits in
-        let short = record-short answer (few-steps b valid bytes line h) in
+        let long = eqb-true (length q) (queryLength b) fits in
+        let short = record-short goal answer (few-steps b valid bytes line h) in
         let shown = ap length (query-means b valid bytes line h .shown) in
-        omega (arith, bytes-half line, long, valid .sized .headed .sizes .n-low, short, shown, line-length (answerBytes answer))
+        omega (arith, bytes-half line, long, valid .sized .headed .sizes .n-low, short, shown, line-length (answerBytes goal answer))
 
   module _ (x : List ℕ) where
     answers-within :

@@ -1,5 +1,6 @@
 -- What the output of `par` means, for every input: `Means`. Which exercise is read, what each query line prints, and
--- for each query that is not refused demand 3 (`QueryMeans`). It is shown of `parOutput` in proofs/Meaning.antt.
+-- for each query that is not refused demand 3 and the goal reached (`QueryMeans`). It is shown of `parOutput` in
+-- proofs/Meaning.antt.
 use mathlib.Core.Path.{_≡_}
 use mathlib.Core.List.{List, flatMap}
 use Prim.Native.Nat.{ℕ, _≤_, _<_}
@@ -8,10 +9,10 @@ use Rattle.refusals.specs.Answers.{refused, told, verdict}
 use Rattle.blocks.specs.Validity.{Valid}
 use Rattle.filling.specs.FilledTables.{filled}
 use Rattle.rounds.specs.Rounds as rounds
-use Rattle.search.specs.Promises.{SearchKept}
+use Rattle.search.specs.Promises.{SearchKept, GoalKept}
 use Rattle.frames.specs.Lines.{linesOf, lineBytes, lineOf}
 use Rattle.frames.specs.Reading.{readConditions}
-use Rattle.records.specs.Records.{numberOf, bytesOf, startOf, limitsOf, answerBytes}
+use Rattle.records.specs.Records.{numberOf, bytesOf, startOf, limitsOf, answerBytes, goalAsked}
 use Rattle.par_queries.specs.QueryLines.{queryLineConditions, searchFor, refusalLine, answerLine}
 use Rattle.par_openings.specs.Openings.{longestInput, blockRoom, exerciseLines, queryLines, exerciseBlock}
 
@@ -21,11 +22,13 @@ FourBytes x = numberOf (bytesOf x) ≡ x
 
 -- what the answer a, printed as `line`, means for a query of the exercise b, by its bytes q
 pub record AnswerMeans (b q : List ℕ) (a : rounds.Answer) (line : List ℕ) : Type 0 where
-  pub shown : line ≡ lineOf (answerBytes a)
-  -- what is printed reads back as the answer's bytes
-  pub read-back : lineBytes line ≡ answerBytes a
+  pub shown : line ≡ lineOf (answerBytes (goalAsked b q a) a)
+  -- what is printed reads back as the answer's bytes, the goal's among them
+  pub read-back : lineBytes line ≡ answerBytes (goalAsked b q a) a
   -- demand 3, for the query's own start and limits
   pub kept : SearchKept b (startOf b q) (limitsOf b q) (filled b) a
+  -- the goal printed is the lowest that the plan's last state meets
+  pub goal : GoalKept b (startOf b q) a (goalAsked b q a)
   pub cost-whole : FourBytes (rounds.planCost a)
   pub visits-whole : FourBytes (rounds.visits a)
 

@@ -21,7 +21,7 @@ module _ (b line : List ℕ) where
 
   -- the line by the verdict on all conditions
   abbrev shown : Answer (Unit {0}) → List ℕ
-  shown v = lineOf (recordOf (answered v (searchFor b (lineBytes line))))
+  shown v = let q = lineBytes line in lineOf (recordOf b q (answered v (searchFor b q)))
 
   -- a line that is turned back by itself is answered with that number
   pub line-refused : (k : ℕ) → verdict (lineConditions b line) ≡ refused k → answerLine b line ≡ refusalLine k

@@ -27,7 +27,7 @@ searchFor b q = searchAsked b q (filled b)
 
 -- room for every line: two digits for each byte of a record, and the line feed
 abbrev pub lineRoom : ℕ
-lineRoom = 149
+lineRoom = 151
 
 -- the line of a refusal: "FF and the number"
 abbrev pub refusalLine : ℕ → List ℕ
@@ -36,7 +36,8 @@ refusalLine number = lineOf (refusalBytes number)
 -- the line that answers a query line, for the exercise b: the record that answers its bytes, or FF and the number
 unfoldable pub answerLine : List ℕ → List ℕ → List ℕ
 answerLine b line =
-    lineOf (recordOf (answered (verdict (queryLineConditions b line)) (searchFor b (lineBytes line))))
+    let q = lineBytes line in
+    lineOf (recordOf b q (answered (verdict (queryLineConditions b line)) (searchFor b q)))
 
 -- what answering the query line at the place `at` of the input x tells and leaves in the line's buffer: the answer line
 -- with its length, and the place behind the query line

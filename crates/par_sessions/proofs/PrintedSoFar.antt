@@ -1,15 +1,15 @@
 -- Where a session stands that prints lines one after the other: `Standing`. What is printed stands at the front of the
 -- buffer; one line more is printed behind it (`one-more`), and at the end all lines are (`all-printed`). What is written
 -- is known by another name (`written-as`). The loop over the query lines, and the whole output, rest on these.
-use mathlib.Core.Path.{_≡_, sym, ap, ap₂, _∙_}
+use mathlib.Core.Path.{_≡_, sym, ap, _∙_}
 use mathlib.Core.List.{List, [], _++_, append-assoc, append-nil}
 use Prim.Native.Nat.{ℕ, _+_, _-_, _≤_}
 use native.Mathlib.Omega.{arith}
-use lib.ListN.{length, drop, length-append, length-drop}
+use lib.ListN.{length, length-append}
 use borrow.Rule.Slice.PartMut.{midOf, putMid}
 use Rattle.basics.specs.Lists.{atFront}
 use Rattle.records.specs.Records.{Written}
-use Rattle.records.proofs.RecordLaws.{laid-behind}
+use Rattle.records.proofs.RecordLaws.{written-behind, written-length}
 
 -- of all lines, those that are printed stand at the front of the buffer, up to the place `to`, and `left` are to follow
 pub record Standing (all left old out : List ℕ) (to : ℕ) : Type 0 where
@@ -23,29 +23,17 @@ module _ {all left old out : List ℕ} {to : ℕ} (s : Standing all left old out
 
   -- the buffer keeps its length
   pub length-kept : length all ≤ length old → length out ≡ length old
-  length-kept l =
-      let rest = length-drop (length (s .printed)) old in
-      omega (arith, printed-to, s .written .told, ap length (s .written .front), length-append (s .printed) (drop (length (s .printed)) old), rest)
+  length-kept l = written-length (s .written) (omega (arith, printed-to))
 
 module _ (all line left old out : List ℕ) (to : ℕ) (s : Standing all (line ++ left) old out to) where
   pub one-more :
       (k n : ℕ) (new : List ℕ) → k ≡ length out - to → Written line (midOf to k out) n new
       → Standing all left old (putMid to k out new) (to + n)
   one-more k n new e w =
-      let told = s .written .told in
-      let front = s .written .front in
-      let behind : k ≡ length (atFront (s .printed) old) - length (s .printed) = omega (arith, e, told, ap length front) in
       record {
         printed = s .printed ++ line;
         parts = s .parts ∙ sym (append-assoc (s .printed) line left);
-        written =
-            record {
-              told = omega (arith, told, w .told, length-append (s .printed) line);
-              front =
-                  ap (putMid to k out) (w .front)
-                  ∙ ap₂ (λ (t : ℕ) (o : List ℕ). putMid t k o (atFront line (midOf t k o))) told front
-                  ∙ laid-behind (s .printed) old line k behind;
-            };
+        written = written-behind (s .written) e w;
       }
 
 -- bytes that are known by another name

@@ -1,5 +1,5 @@
 -- The theorems on the language.
--- Matching and applying in words, what a side makes, relabelling, the homomorphism, states that stay states, ranks, runs of rules.
+-- Matching and applying in words, what a side makes, relabelling, the homomorphism, states that stay states, ranks, runs of rules, the goal met.
 pub mod Matching
 pub mod Making
 pub mod Successors
@@ -10,3 +10,4 @@ pub mod RelabelTwice
 pub mod RelabelledValid
 pub mod RankLaws
 pub mod RunLaws
+pub mod GoalLaws

@@ -1,10 +1,14 @@
--- What matching and applying mean, in the document's words: a state matches a side (`Matched`), and a state is what a
--- rule makes of another (`Successor`). That `matches` and `step` are just these is shown in proofs/Matching.antt and
--- proofs/Successors.antt; the demands are stated with these.
+-- What matching and applying mean, in the document's words: a state matches a side (`Matched`), is what a rule makes of
+-- another (`Successor`), meets the goal that is told (`LowestMet`, `NoneMet`, `GoalMeans`). That the definitions are
+-- just these is shown in proofs/Matching, Successors and GoalLaws. Demands and promises are stated with these.
 use mathlib.Core.Path.{_≡_}
+use mathlib.Core.Logic.{_↔_}
+use mathlib.Core.Bool.{true, false}
 use mathlib.Core.List.{List}
 use Prim.Native.Nat.{ℕ, _≤_, _<_}
 use lib.ListN.{getD}
+use Rattle.blocks.specs.Layout.{goals}
+use Rattle.psvn.specs.Rules.{goalMet, noGoal}
 
 -- "its label equals each constant and positions with the same variable hold equal labels; a dash tests nothing"
 pub record Matched (n : ℕ) (side : ℕ → ℕ) (s : List ℕ) : Type 0 where
@@ -18,3 +22,18 @@ pub record Successor (n : ℕ) (left right : ℕ → ℕ) (s t : List ℕ) : Typ
   pub variable :
       (i j : ℕ) → i < n → j < n → 16 ≤ right i → right i < 32 → left j ≡ right i → getD t i 0 ≡ getD s j 0
   pub dash : (i : ℕ) → i < n → right i ≡ 255 → getD t i 0 ≡ getD s i 0
+
+-- "the lowest number of a met goal": the state meets goal g, and no goal below it
+pub record LowestMet (b s : List ℕ) (g : ℕ) : Type 0 where
+  pub goal : g < goals b
+  pub met : goalMet b g s ≡ true
+  pub none-below : (k : ℕ) → k < g → goalMet b k s ≡ false
+
+-- the state meets no goal
+abbrev pub NoneMet : List ℕ → List ℕ → Type 0
+NoneMet b s = (g : ℕ) → g < goals b → goalMet b g s ≡ false
+
+-- the byte told for the goal that the state meets: the lowest number of a met goal, or FF, just where none is met
+pub record GoalMeans (b s : List ℕ) (byte : ℕ) : Type 0 where
+  pub none-iff : (byte ≡ noGoal) ↔ NoneMet b s
+  pub lowest : (byte ≡ noGoal → ⊥) → LowestMet b s byte

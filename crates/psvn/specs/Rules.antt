@@ -1,12 +1,13 @@
 -- Matching and applying: one notion, the label that a term gives at a position (`given`), says when a side matches and
 -- what a rule writes. A rule applies (`applies`), makes a state (`step`) and so leads from one state to another
--- (`leads`); a goal is met (`goalMet`), and some goal is (`meets`).
+-- (`leads`); a goal is met (`goalMet`), some goal is (`meets`), and which one (`metGoal`; as a byte, `goalByte`).
 use Prim.Native.Nat.{ℕ}
 use mathlib.Core.Bool.{Bool, _&&_}
 use mathlib.Core.List.{List}
+use mathlib.Core.Option as option
 use lib.Dec.{eqb}
 use lib.ListN.{getD}
-use Rattle.basics.specs.Bounded.{all, some, first}
+use Rattle.basics.specs.Bounded.{all, some, first, find}
 use Rattle.basics.specs.Lists.{tabulate}
 use Rattle.blocks.specs.Terms.{termOf}
 use Rattle.blocks.specs.Layout.{positions, goals, leftOf, rightOf, goalOf}
@@ -58,3 +59,15 @@ goalMet b g s = matches (positions b) (goalOf b g) s
 
 unfoldable pub meets : List ℕ → List ℕ → Bool
 meets b s = some (goals b) (λ g. goalMet b g s)
+
+-- the goal that the state meets: "the lowest number of a met goal" (document 02, F-1), or none
+unfoldable pub metGoal : List ℕ → List ℕ → option.Option ℕ
+metGoal b s = find (goals b) (λ g. goalMet b g s)
+
+-- "hexadecimal FF for none", and a goal as one byte
+abbrev pub noGoal : ℕ
+noGoal = 255
+
+abbrev pub goalByte : option.Option ℕ → ℕ
+goalByte (option.some g) = g
+goalByte option.none = noGoal

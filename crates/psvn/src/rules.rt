@@ -1,4 +1,4 @@
-// Matching, applying, and the goal test.
+// Matching, applying, and the goal that a state meets.
 ghost use mathlib.Core.Path.{_≡_};
 ghost use Prim.Native.Nat.{_+_, _≤_, _<_};
 ghost use lib.ListN.{length};
@@ -6,12 +6,16 @@ ghost use Rattle.basics.specs.Lists.{atFront};
 ghost use Rattle.blocks.specs.Terms.{termOf};
 ghost use Rattle.blocks.specs.Layout.{positions, rules, goals, sideAt};
 ghost use Rattle.blocks.specs.Validity.{Sized};
-ghost use Rattle.psvn.specs.Rules.{given, matches, rewritten, applies, step, same, leads, goalMet, meets};
+ghost use Rattle.psvn.specs.Rules.{given, matches, rewritten, applies, step, same, leads};
+ghost use Rattle.psvn.specs.Rules.{goalMet, metGoal, goalByte};
 use basics::first_of;
 use blocks::labels::ConcreteLabel;
 use blocks::layout;
 use blocks::terms::Term;
 use blocks::terms::decode;
+
+// What stands for a goal where none is met: hexadecimal FF.
+pub const NO_GOAL: u8 = 255;
 
 // The label that a term's byte gives at position i of a state, under the side at `at`.
 fn label_given(block: &[u8], at: usize, state: &[u8], i: usize, byte: u8) -> ConcreteLabel
@@ -133,18 +137,18 @@ fn goal_met(block: &[u8], g: usize, state: &[u8]) -> bool
     side_matches(block, layout::goal_at(block, g), state)
 }
 
-// Whether a state meets a goal.
-pub fn meets(block: &[u8], state: &[u8]) -> bool
+// The goal that a state meets, the lowest number of a met one; NO_GOAL where none is met.
+pub fn met_goal(block: &[u8], state: &[u8]) -> u8
     requires { ⌜ Sized (now block) × (length (now state) ≡ positions (now block)) ⌝ }
-    ensures { λ r. ⌜ r ≡ meets (now (block .entry)) (now (state .entry)) ⌝ }
+    ensures { λ r. ⌜ r ≡ goalByte (metGoal (now (block .entry)) (now (state .entry))) ⌝ }
 {
     let goals = layout::goals(block);
     let mut g: usize = 0;
     while g < goals {
         if goal_met(block, g, state) {
-            return true;
+            return g as u8;
         }
         g += 1;
     }
-    false
+    NO_GOAL
 }

@@ -1,22 +1,24 @@
 -- What the calls promise, from the values that they give: `application-kept`, `check-kept`, `goal-test-kept` and
--- `relabelling-kept`.
--- The proofs of the calls rest on these for the second part of their contracts.
+-- `relabelling-kept`; and that a goal told is not the byte for none (`met-below`).
+-- The proofs of the calls rest on these for the second part of their contracts, and the C interface on the last.
 use mathlib.Core.Path.{_≡_, refl, sym, subst}
 use mathlib.Core.Bool.{Bool, true, false, cond}
 use mathlib.Core.List.{List, [], _∷_}
-use Prim.Native.Nat.{ℕ}
+use mathlib.Core.Option.{Option, none, some}
+use Prim.Native.Nat.{ℕ, _<_}
+use native.Mathlib.Omega.{arith}
 use lib.Dec.{leb}
 use lib.ListN.{length}
 use Rattle.basics.specs.Lists.{atFront}
 use Rattle.basics.proofs.Lists.{front-taken}
-use Rattle.basics.proofs.Bounded.{some-false, first-holds}
 use Rattle.refusals.specs.Answers.{Answer, refused, told, verdict, answered, _unless_, Outcome, outcome, guarded}
 use Rattle.refusals.proofs.Verdicts.{told-refused, verdict-parts}
-use Rattle.blocks.specs.Layout.{positions, goals}
+use Rattle.blocks.specs.Layout.{positions}
 use Rattle.blocks.specs.Validity.{blockConditions}
 use Rattle.blocks.proofs.Accepted.{accepted-valid, valid-accepted}
-use Rattle.psvn.specs.Rules.{applies, step, goalMet, meets}
+use Rattle.psvn.specs.Rules.{applies, step, metGoal, noGoal}
 use Rattle.psvn.specs.Relabelling.{relabelBlock}
+use Rattle.psvn.proofs.GoalLaws.{lowest-met, none-met}
 use Rattle.psvn.proofs.Stepping.{step-length, step-state}
 use Rattle.psvn.proofs.RelabelTwice.{relabel-twice}
 use Rattle.psvn.proofs.RelabelledValid.{relabelled-valid}
@@ -24,7 +26,7 @@ use Rattle.psvn_calls.specs.Applying.{Applied, done, does-not-apply, app
 use Rattle.psvn_calls.specs.Checking.{checkBlock, CheckKept, stateConditions}
 use Rattle.psvn_calls.specs.Goals.{testGoals, GoalTestKept}
 use Rattle.psvn_calls.specs.Relabelling.{relabelConditions, relabelExercise, RelabellingKept}
-use Rattle.psvn_calls.proofs.Conditions.{apply-accepted}
+use Rattle.psvn_calls.proofs.Conditions.{state-accepted, apply-accepted}
 
 module _ (b : List ℕ) where
   pub check-kept : (a : Answer (Unit {0})) → a ≡ checkBlock b → CheckKept b a
@@ -33,17 +35,24 @@ module _ (b : List ℕ) where
   check-kept (refused k) e = λ v. told-refused (valid-accepted b v) (sym e)
 
   module _ (s : List ℕ) where
-    -- by the verdict, and by whether some goal is met
-    goals-by : (v : Answer (Unit {0})) (t : Bool) → meets b s ≡ t → GoalTestKept b s (answered v t)
-    unfolding meets
-    goals-by (refused k) t e = tt
-    goals-by (told u) true e =
-        let h = first-holds (λ g. goalMet b g s) (goals b) e in (_, h .0, h .1)
-    goals-by (told u) false e = some-false (λ g. goalMet b g s) (goals b) e
+    -- by the verdict, and by the goal that is met
+    goals-by : (v : Answer (Unit {0})) (x : Option ℕ) → metGoal b s ≡ x → GoalTestKept b s (answered v x)
+    goals-by (refused k) x e = tt
+    goals-by (told u) (some g) e = lowest-met b s g e
+    goals-by (told u) none e = none-met b s e
 
-    pub goal-test-kept : {a : Answer Bool} → a ≡ testGoals b s → GoalTestKept b s a
+    pub goal-test-kept : {a : Answer (Option ℕ)} → a ≡ testGoals b s → GoalTestKept b s a
     unfolding testGoals
-    goal-test-kept e = subst (GoalTestKept b s) (sym e) (goals-by (verdict (stateConditions b s)) (meets b s) refl)
+    goal-test-kept e = subst (GoalTestKept b s) (sym e) (goals-by (verdict (stateConditions b s)) (metGoal b s) refl)
+
+    -- an accepted block has at most 8 goals
+    pub met-below : (g : ℕ) → told (some g) ≡ testGoals b s → g < noGoal
+    unfolding testGoals
+    met-below g e = go (verdict (stateConditions b s)) refl
+      where
+        go : (v : Answer (Unit {0})) → verdict (stateConditions b s) ≡ v → g < noGoal
+        go (refused k) h = absurd (told-refused {k = k} (sym e) (rw h))
+        go (told u) h = omega (arith, goal-test-kept e .goal, state-accepted b s h .valid .sized .headed .sizes .g-high)
 
     module _ (r : ℕ) (out : List ℕ) where
       abbrev Kept : Outcome Applied → Type 0

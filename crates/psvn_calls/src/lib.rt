@@ -11,5 +11,6 @@ pub use checking::check_block;
 pub use checking::check_state;
 pub use goals::GoalTest;
 pub use goals::test_goals;
+pub use psvn::rules::NO_GOAL;
 pub use relabelling::Relabelling;
 pub use relabelling::relabel_block;

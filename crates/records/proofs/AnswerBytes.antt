@@ -1,5 +1,5 @@
--- The numbers of an answer's record are bytes (`answer-small`), where those of its plan are and the plan has at most 255
--- steps; four bytes hold what is below 2^32 (`four-below`, `four-back`).
+-- The numbers of an answer's record are bytes (`answer-small`), where its goal and those of its plan are and the plan has
+-- at most 255 steps; four bytes hold what is below 2^32 (`four-below`, `four-back`).
 -- That a printed answer line reads back as its answer rests on this.
 use mathlib.Core.Path.{_≡_, refl}
 use mathlib.Core.List.{List, [], _∷_, _++_}
@@ -10,7 +10,7 @@ use Rattle.basics.specs.Lists.{Bytes}
 use Rattle.basics.proofs.Digits.{length-digits, digit-below, value-below, value-digits}
 use Rattle.basics.proofs.ByteLists.{bytes-append}
 use Rattle.rounds.specs.Rounds.{Answer, found, noPlan, spent, visits}
-use Rattle.records.specs.Records.{numberOf, bytesOf, answerFront, answerBytes}
+use Rattle.records.specs.Records.{numberOf, bytesOf, planFront, planBytes, answerBytes}
 
 bytes-more : (x : ℕ) (l : List ℕ) → x ≤ 255 → Bytes l → Bytes (x ∷ l)
 bytes-more x l p q zero = p
@@ -26,25 +26,27 @@ four-small x =
     bytes-within (bytesOf x) (λ i l.
     let d = digit-below (λ j. 256) (λ j. omega arith) 4 x i (omega (arith, length-digits (λ j. 256) 4 x)) in omega arith)
 
-front-small : (status steps cost used : ℕ) → status ≤ 2 → steps ≤ 255 → Bytes (answerFront status steps cost used)
-front-small status steps cost used p q =
-    let numbers = bytesOf cost ++ bytesOf used in
-    let small = bytes-append (bytesOf cost) (bytesOf used) (four-small cost) (four-small used) in
-    bytes-more status (steps ∷ numbers) (omega arith) (bytes-more steps numbers q small)
+-- the bytes of a plan, with its steps, its cost and the visits in front
+plan-small : (cost used : ℕ) (p : List ℕ) → length p ≤ 255 → Bytes p → Bytes (planBytes cost used p)
+plan-small cost used p few small =
+    let numbers = bytes-append (bytesOf cost) (bytesOf used) (four-small cost) (four-small used) in
+    bytes-append (planFront (length p) cost used) p (bytes-more (length p) (bytesOf cost ++ bytesOf used) few numbers) small
 
 -- the bytes of an answer with no plan
-bare-small : (status used : ℕ) → status ≤ 2 → Bytes (answerFront status 0 0 used ++ [])
+bare-small : (status used : ℕ) → status ≤ 2 → Bytes (status ∷ planBytes 0 used [])
 bare-small status used p =
-    bytes-append (answerFront status 0 0 used) [] (front-small status 0 0 used p (omega arith)) (λ i. omega arith)
+    bytes-more status (planBytes 0 used []) (omega arith) (plan-small 0 used [] (omega arith) (λ i. omega arith))
 
 pub answer-small :
-    (a : Answer) → ((u c : ℕ) (p : List ℕ) → a ≡ found u p c → (length p ≤ 255) × Bytes p) → Bytes (answerBytes a)
-answer-small (found u p c) h =
-    let (few, small) = h u c p refl in
-    let used = visits (found u p c) in
-    bytes-append (answerFront 0 (length p) c used) p (front-small 0 (length p) c used (omega arith) few) small
-answer-small (noPlan u) h = bare-small 1 (visits (noPlan u)) (omega arith)
-answer-small (spent u) h = bare-small 2 (visits (spent u)) (omega arith)
+    (goal : ℕ) (a : Answer)
+    → ((u c : ℕ) (p : List ℕ) → a ≡ found u p c → (goal ≤ 255) × (length p ≤ 255) × Bytes p)
+    → Bytes (answerBytes goal a)
+answer-small goal (found u p c) h =
+    let (low, few, small) = h u c p refl in
+    let bytes = planBytes c (visits (found u p c)) p in
+    bytes-more 0 (goal ∷ bytes) (omega arith) (bytes-more goal bytes low (plan-small c (visits (found u p c)) p few small))
+answer-small goal (noPlan u) h = bare-small 1 (visits (noPlan u)) (omega arith)
+answer-small goal (spent u) h = bare-small 2 (visits (spent u)) (omega arith)
 
 -- a number of four bytes is below 2^32, and such a number has four bytes
 pub four-below : (q : List ℕ) → Bytes q → numberOf q < 4294967296

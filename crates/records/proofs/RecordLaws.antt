@@ -1,11 +1,12 @@
--- What is copied into a part of a list behind its front stands behind that front (`laid-behind`); a plan within fewer
--- steps is within more (`found-more`); what is written lies in its buffer and can be taken from it (`written-fits`,
--- `written-taken`). The functions that answer a query, and those that print records, rest on these.
+-- What is written into the part of a list behind what is written stands behind that (`written-behind`); a plan within
+-- fewer steps is within more (`found-more`); what is written lies in its buffer, which keeps its length, and can be
+-- taken from it (`written-fits`, `written-length`, `written-taken`).
+-- The functions that answer a query, and those that print records, rest on these.
 use mathlib.Core.Path.{_≡_, sym, ap, ap₂, _∙_}
 use mathlib.Core.List.{List, [], _++_, append-assoc, append-nil}
-use Prim.Native.Nat.{ℕ, _-_, _≤_}
+use Prim.Native.Nat.{ℕ, _+_, _-_, _≤_}
 use native.Mathlib.Omega.{arith}
-use lib.ListN.{length, take, drop, length-append, drop-of-length-le}
+use lib.ListN.{length, take, drop, length-append, length-drop, drop-of-length-le}
 use lib.Seq.{take-append-seam, drop-append-seam, take-all, drop-drop}
 use borrow.Rule.Slice.PartMut.{midOf, putMid}
 use Rattle.basics.specs.Lists.{atFront}
@@ -23,7 +24,7 @@ module _ (front old : List ℕ) where
   abbrev rest : List ℕ
   rest = drop (length front) old
 
-  pub laid-behind :
+  laid-behind :
       (plan : List ℕ) (k : ℕ) → k ≡ length whole - length front
       → putMid (length front) k whole (atFront plan (midOf (length front) k whole)) ≡ atFront (front ++ plan) old
   laid-behind plan k e =
@@ -39,6 +40,20 @@ module _ (front old : List ℕ) where
       ∙ ap (λ (l : List ℕ). (front ++ plan) ++ l) (drop-drop (length plan) n old)
       ∙ ap (λ (i : ℕ). (front ++ plan) ++ drop i old) (sym (length-append front plan))
 
+-- what is written behind what is written, in the part of the list that stands there
+pub written-behind :
+    {front bytes old whole mid : List ℕ} {to k n : ℕ} → Written front old to whole → k ≡ length whole - to
+    → Written bytes (midOf to k whole) n mid → Written (front ++ bytes) old (to + n) (putMid to k whole mid)
+written-behind {front} {bytes} {old} {whole} {to = to} {k = k} f e w =
+    let behind : k ≡ length (atFront front old) - length front = omega (arith, e, f .told, ap length (f .front)) in
+    record {
+      told = omega (arith, f .told, w .told, length-append front bytes);
+      front =
+          ap (putMid to k whole) (w .front)
+          ∙ ap₂ (λ (t : ℕ) (o : List ℕ). putMid t k o (atFront bytes (midOf t k o))) (f .told) (f .front)
+          ∙ laid-behind front old bytes k behind;
+    }
+
 pub found-more : (d e : ℕ) → d ≤ e → (x : Ending) → FoundWithin d x → FoundWithin e x
 found-more d e l (Found plan) h = omega arith
 found-more d e l (NoPlan visits) h = tt
@@ -47,6 +62,12 @@ found-more d e l (Spent visits) h = tt
 pub written-fits : {bytes old new : List ℕ} {n : ℕ} → Written bytes old n new → n ≤ length new
 written-fits {bytes} {old} w =
     omega (arith, w .told, ap length (w .front), front-fits bytes old)
+
+-- and where it fits, the buffer keeps its length
+pub written-length : {bytes old new : List ℕ} {n : ℕ} → Written bytes old n new → n ≤ length old → length new ≡ length old
+written-length {bytes} {old} w l =
+    let rest = drop (length bytes) old in
+    omega (arith, w .told, ap length (w .front), length-append bytes rest, length-drop (length bytes) old)
 
 pub written-taken : {bytes old new : List ℕ} {n : ℕ} → Written bytes old n new → take n new ≡ bytes
 written-taken {bytes} {old} {n = n} w = ap (take n) (w .front) ∙ front-taken bytes old n (w .told)

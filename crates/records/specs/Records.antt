@@ -12,7 +12,7 @@ use Rattle.blocks.specs.Layout.{positions}
 use Rattle.queries.specs.Queries.{queryConditions}
 use Rattle.queries.specs.declared.Limits.{Limits}
 use Rattle.rounds.specs.Rounds as rounds
-use Rattle.search.specs.Exercises.{searchFrom, statusOf}
+use Rattle.search.specs.Exercises.{searchFrom, statusOf, planGoal}
 
 -- four bytes, the highest first: the number that a list begins with, and the bytes of a number
 abbrev pub numberOf : List ℕ → ℕ
@@ -46,27 +46,42 @@ searchAsked b q t = searchFrom b (startOf b q) (limitsOf b q) t
 
 -- how many bytes hold every answer
 abbrev pub recordRoom : ℕ
-recordRoom = 74
+recordRoom = 75
 
--- "status (00 found, 01 no plan, 02 spent), steps, cost (four bytes), visits (four), plan"
-abbrev pub answerFront : ℕ → ℕ → ℕ → ℕ → List ℕ
-answerFront status steps cost visits = status ∷ steps ∷ (bytesOf cost ++ bytesOf visits)
+-- "steps, cost (four bytes), visits (four)", and the plan behind them
+abbrev pub planFront : ℕ → ℕ → ℕ → List ℕ
+planFront steps cost visits = steps ∷ (bytesOf cost ++ bytesOf visits)
 
-abbrev pub answerBytes : rounds.Answer → List ℕ
-answerBytes a = answerFront (statusOf a) (rounds.steps a) (rounds.planCost a) (rounds.visits a) ++ rounds.plan a
+abbrev pub planBytes : ℕ → ℕ → List ℕ → List ℕ
+planBytes cost visits plan = planFront (length plan) cost visits ++ plan
+
+-- a found line carries the goal "as one byte after the status" (document 02, F-1); the others do not print theirs
+abbrev pub goalBytes : ℕ → rounds.Answer → List ℕ
+goalBytes goal (rounds.found u p c) = goal ∷ []
+goalBytes goal (rounds.noPlan u) = []
+goalBytes goal (rounds.spent u) = []
+
+-- "status (00 found, 01 no plan, 02 spent)", and behind it the goal that the plan reaches, and the plan
+abbrev pub answerBytes : ℕ → rounds.Answer → List ℕ
+answerBytes goal a =
+    statusOf a ∷ goalBytes goal a ++ planBytes (rounds.planCost a) (rounds.visits a) (rounds.plan a)
 
 -- "FF and the number"
 abbrev pub refusalBytes : ℕ → List ℕ
 refusalBytes number = 255 ∷ number ∷ []
 
--- the bytes of an answer, or of a refusal
-abbrev pub recordOf : Answer rounds.Answer → List ℕ
-recordOf (refused number) = refusalBytes number
-recordOf (told a) = answerBytes a
+-- the goal of an answer to the query q
+abbrev pub goalAsked : List ℕ → List ℕ → rounds.Answer → ℕ
+goalAsked b q a = planGoal b (startOf b q) a
+
+-- the bytes of an answer to the query q, or of a refusal
+abbrev pub recordOf : List ℕ → List ℕ → Answer rounds.Answer → List ℕ
+recordOf b q (refused number) = refusalBytes number
+recordOf b q (told a) = answerBytes (goalAsked b q a) a
 
 -- the record that answers a query, by the table t
 unfoldable pub answerRecord : List ℕ → List ℕ → List ℕ → List ℕ
-answerRecord b q t = recordOf (answered (verdict (recordConditions b q)) (searchAsked b q t))
+answerRecord b q t = recordOf b q (answered (verdict (recordConditions b q)) (searchAsked b q t))
 
 -- bytes stand at the front of a buffer that held `old`, and n is their length
 pub record Written (bytes old : List ℕ) (n : ℕ) (new : List ℕ) : Type 0 where

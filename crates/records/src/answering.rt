@@ -1,7 +1,7 @@
 // The bytes that answer a query.
 ghost use mathlib.Core.Path.{_≡_};
-ghost use Prim.Native.Nat.{_≤_};
-ghost use mathlib.Core.List.{_++_};
+ghost use Prim.Native.Nat.{_+_, _≤_};
+ghost use mathlib.Core.List.{[], _∷_};
 ghost use lib.ListN.{length, take};
 ghost use Rattle.basics.specs.Lists.{atFront};
 ghost use Rattle.refusals.specs.Refusals.{refusalNumber};
@@ -9,8 +9,8 @@ ghost use Rattle.blocks.specs.Layout.{abstractStates};
 ghost use Rattle.blocks.specs.Validity.{Valid};
 ghost use Rattle.tables.specs.Tables.{LowerBound, estimate};
 ghost use Rattle.queries.specs.Queries.{longestPlan};
-ghost use Rattle.search.specs.Parts.{FoundWithin, answerOf};
-ghost use Rattle.records.specs.Records.{queryLength, recordRoom, answerFront, answerBytes, refusalBytes};
+ghost use Rattle.search.specs.Parts.{FoundWithin, answerOf, endingGoal};
+ghost use Rattle.records.specs.Records.{queryLength, recordRoom, planFront, planBytes, answerBytes, refusalBytes};
 ghost use Rattle.records.specs.Records.{answerRecord, Written};
 use super::asking::limits_of;
 use super::numbers::put_number;
@@ -24,15 +24,15 @@ use search::Ending;
 use search::Plan;
 use search::planless;
 
-// How many bytes hold every answer: ten in front, and a plan of at most 64 steps.
-pub const RECORD_ROOM: usize = 74;
+// How many bytes hold every answer: eleven in front, and a plan of at most 64 steps.
+pub const RECORD_ROOM: usize = 75;
 
-// Where the cost, the visits and the plan stand in an answer.
-const COST: usize = 2;
+// Where the cost, the visits and the rules stand behind the steps of a plan.
+const COST: usize = 1;
 
-const VISITS: usize = 6;
+const VISITS: usize = 5;
 
-const PLAN: usize = 10;
+const RULES: usize = 9;
 
 // Room for the rules of every plan.
 type Rules = [u8; LONGEST_PLAN];
@@ -47,40 +47,60 @@ pub fn put_refusal(refusal: Refusal, out: &mut [u8]) -> usize
     2
 }
 
-// Writes a status and a plan's steps, cost and visits.
-fn put_front(status: u8, plan: Plan, out: &mut [u8])
-    requires { ⌜ (10 ≤ length (now out)) × (plan .steps ≤ longestPlan) ⌝ }
+// Writes a plan's steps, cost and visits.
+fn put_numbers(plan: Plan, out: &mut [u8])
+    requires { ⌜ (9 ≤ length (now out)) × (plan .steps ≤ longestPlan) ⌝ }
     ensures { λ _. ⌜ now (out .exit) ≡
-        atFront (answerFront status (plan .steps) (plan .cost) (plan .visits)) (now (out .entry)) ⌝ }
+        atFront (planFront (plan .steps) (plan .cost) (plan .visits)) (now (out .entry)) ⌝ }
 {
-    out[0] = status;
-    out[1] = plan.steps as u8;
+    out[0] = plan.steps as u8;
     put_number(out, COST, plan.cost);
     put_number(out, VISITS, plan.visits);
 }
 
-// Writes an answer with this status and plan, whose rules stand at the front of `rules`, and gives its length.
-fn write_record(status: u8, plan: Plan, rules: &Rules, out: &mut [u8]) -> usize
-    requires { ⌜ (plan .steps ≤ longestPlan) × (recordRoom ≤ length (now out)) ⌝ }
-    ensures { λ n. ⌜ Written (answerFront status (length (take (plan .steps) (now (rules .entry)))) (plan .cost)
-        (plan .visits) ++ take (plan .steps) (now (rules .entry))) (now (out .entry)) n (now (out .exit)) ⌝ }
+// Writes a plan, whose rules stand at the front of `rules`, and gives the length of what is written.
+fn put_plan(plan: Plan, rules: &Rules, out: &mut [u8]) -> usize
+    requires { ⌜ (plan .steps ≤ longestPlan) × (9 + longestPlan ≤ length (now out)) ⌝ }
+    ensures { λ n. ⌜ Written (planBytes (plan .cost) (plan .visits)
+        (take (plan .steps) (now (rules .entry)))) (now (out .entry)) n (now (out .exit)) ⌝ }
 {
-    put_front(status, plan, out);
+    put_numbers(plan, out);
     let steps = plan.steps;
-    copy(rules, steps, &mut out[PLAN..]);
-    PLAN + steps
+    copy(rules, steps, &mut out[RULES..]);
+    RULES + steps
+}
+
+// Writes a plan that was found behind its status and its goal, and gives the length.
+fn put_found(plan: Plan, rules: &Rules, out: &mut [u8]) -> usize
+    requires { ⌜ (plan .steps ≤ longestPlan) × (recordRoom ≤ length (now out)) ⌝ }
+    ensures { λ n. ⌜ Written (0 ∷ plan .goal ∷ planBytes (plan .cost) (plan .visits)
+        (take (plan .steps) (now (rules .entry)))) (now (out .entry)) n (now (out .exit)) ⌝ }
+{
+    out[0] = 0;
+    out[1] = plan.goal;
+    2 + put_plan(plan, rules, &mut out[2..])
+}
+
+// Writes a status and the visits where there is no plan, and gives the length.
+fn put_planless(status: u8, visits: u32, out: &mut [u8]) -> usize
+    requires { ⌜ recordRoom ≤ length (now out) ⌝ }
+    ensures { λ n. ⌜ Written (status ∷ planBytes 0 visits []) (now (out .entry)) n (now (out .exit)) ⌝ }
+{
+    out[0] = status;
+    put_numbers(planless(visits), &mut out[1..]);
+    1 + RULES
 }
 
 // Writes the bytes of an answer of the search, and gives their length.
 fn write_answer(ending: Ending, rules: &Rules, out: &mut [u8]) -> usize
     requires { ⌜ FoundWithin longestPlan ending × (recordRoom ≤ length (now out)) ⌝ }
-    ensures { λ n. ⌜
-        Written (answerBytes (answerOf (now (rules .entry)) ending)) (now (out .entry)) n (now (out .exit)) ⌝ }
+    ensures { λ n. ⌜ Written (answerBytes (endingGoal ending) (answerOf (now (rules .entry)) ending))
+        (now (out .entry)) n (now (out .exit)) ⌝ }
 {
     match ending {
-        Ending::Found(plan) => write_record(0, plan, rules, out),
-        Ending::NoPlan { visits } => write_record(1, planless(visits), rules, out),
-        Ending::Spent { visits } => write_record(2, planless(visits), rules, out),
+        Ending::Found(plan) => put_found(plan, rules, out),
+        Ending::NoPlan { visits } => put_planless(1, visits, out),
+        Ending::Spent { visits } => put_planless(2, visits, out),
     }
 }
 

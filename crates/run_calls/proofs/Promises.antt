@@ -35,7 +35,7 @@ module _ (b s rs out : List ℕ) where
   ended :
       ReplayAccepted b s rs (length out) → (ending : Replayed) → replayEnding b s rs ≡ ending
       → ReplayKept b s rs (told ending) (atFront (replayState b s rs) out)
-  ended h (Done end) e = rw (front h) (done-in-turn b s rs end e, state-ok h)
+  ended h (Done end) e = rw (front h) (done-in-turn b s rs (h .valid) end e, state-ok h)
   ended h (Stuck end) e = rw (front h) (stuck-at b s rs end e, state-ok h)
 
   -- by the verdict

@@ -19,7 +19,7 @@ use Rattle.psvn_calls.specs.Checking.{stateConditions}
 use Rattle.run_calls.specs.declared.replaying.Replay.{Replay}
 use Rattle.run_calls.specs.declared.replaying.Replay.the-variants.{Done, Stuck, Refused}
 
--- 'done' or 'stuck' at an index, with the cost so far
+-- 'done' with the goal of the final state, or 'stuck' at an index; either way with the cost so far
 abbrev pub replayOf : Replay → Answer Replayed
 replayOf (Done end) = told (replayed.Done end)
 replayOf (Stuck end) = told (replayed.Stuck end)

@@ -10,7 +10,8 @@ use runs::replay::LONGEST_LIST;
 use runs::replay::Replayed;
 use runs::replay::RunEnd;
 
-// What a replay answers: done, or stuck at a rule; either way how many rules were applied and what they cost.
+// What a replay answers: done, with the goal of the final state, or stuck at a rule; either way how many rules were
+// applied and what they cost.
 pub enum Replay {
     Done(RunEnd),
     Stuck(RunEnd),
@@ -38,9 +39,9 @@ fn check_replay(block: &[u8], start: &[u8], list: &[u8], room: usize) -> Verdict
     Verdict::Accepted
 }
 
-// Replays a list of rule numbers from a start: done, or stuck at the first index whose rule does not apply; either way
-// the cost so far is told and the state there written at the front of `out`. Refused with 3 to 7, 8, 9 (for every
-// number of the list), 10, 11.
+// Replays a list of rule numbers from a start: done, and the goal of the final state is told; or stuck at the first
+// index whose rule does not apply. Either way the cost so far is told, and the state there written at the front of
+// `out`. Refused with 3 to 7, 8, 9 (for every number of the list), 10, 11.
 pub fn replay_run(block: &[u8], start: &[u8], list: &[u8], out: &mut [u8]) -> Replay
     ensures { λ r. ⌜ outcome (replayOf r) (now (out .exit)) ≡
         replayRun (now (block .entry)) (now (start .entry)) (now (list .entry)) (now (out .entry)) ⌝ }

@@ -1,4 +1,4 @@
--- What a replay tells. It is done exactly where the rules apply in turn, with their cost and the last state
+-- What a replay tells. It is done exactly where the rules apply in turn, with their cost, the last state and its goal
 -- (`replay-done`, `done-in-turn`); it is stuck at an index exactly where the rules before it apply in turn and its rule
 -- does not apply then (`replay-stuck`, `stuck-at`); no rules change nothing (`replay-empty`, `replay-empty-state`); and
 -- it ends in a valid state (`replay-state-ok`). The code's proof and readers of the public call rest on these.
@@ -15,8 +15,9 @@ use Rattle.basics.proofs.Bounded.{all-at, first-at, first-passed, first-least, 
 use Rattle.blocks.specs.Layout.{positions, rules}
 use Rattle.blocks.specs.Validity.{Valid}
 use Rattle.blocks.specs.States.{stateOk}
-use Rattle.psvn.specs.Rules.{applies}
+use Rattle.psvn.specs.Rules.{applies, metGoal, noGoal, goalByte}
 use Rattle.psvn.specs.Runs.{RuleNumbers, applyInTurn, run, totalCost}
+use Rattle.psvn.proofs.GoalLaws.{goal-means}
 use Rattle.psvn.proofs.RunLaws.{in-turn-at, in-turn-intro, run-length, run-state}
 use Rattle.runs.specs.Replay.{numbersOk, appliedCount, applied}
 use Rattle.runs.specs.Replay.{replayEnd, replayEnding, replayState, DoneAt, StuckAt}
@@ -33,18 +34,22 @@ rule-numbers b rs h i l = ltb-true _ _ (all-at (λ i. ltb (getD rs i 0) (rules b
 abbrev fails : List ℕ → List ℕ → List ℕ → ℕ → Bool
 fails b s rs i = not (applies b (getD rs i 0) (run b s (take i rs)))
 
--- where and how a replay ends that applied n rules
-abbrev pub endAfter : List ℕ → List ℕ → ℕ → RunEnd
-endAfter b rs n = record { steps = n; cost = totalCost b (take n rs) }
-
-abbrev endingAt : List ℕ → List ℕ → ℕ → Replayed
-endingAt b rs n = cond (ltb n (length rs)) (Stuck (endAfter b rs n)) (Done (endAfter b rs n))
+-- where a replay ends that applied n rules and tells this goal
+abbrev pub endAfter : List ℕ → List ℕ → ℕ → ℕ → RunEnd
+endAfter b rs n goal = record { steps = n; cost = totalCost b (take n rs); goal = goal }
 
 module _ (b s rs : List ℕ) where
+  -- the goal told after n rules, and how a replay ends there
+  abbrev goalAfter : ℕ → ℕ
+  goalAfter n = goalByte (metGoal b (run b s (take n rs)))
+
+  abbrev endingAt : ℕ → Replayed
+  endingAt n = cond (ltb n (length rs)) (Stuck (endAfter b rs n noGoal)) (Done (endAfter b rs n (goalAfter n)))
+
   -- the ending and the state, once the count is known
-  ending-at : (n : ℕ) → appliedCount b s rs ≡ n → replayEnding b s rs ≡ endingAt b rs n
-  unfolding replayEnding replayEnd
-  ending-at n e = ap (endingAt b rs) e
+  ending-at : (n : ℕ) → appliedCount b s rs ≡ n → replayEnding b s rs ≡ endingAt n
+  unfolding replayEnding replayEnd replayState
+  ending-at n e = ap endingAt e
 
   state-at : (n : ℕ) → appliedCount b s rs ≡ n → replayState b s rs ≡ run b s (take n rs)
   unfolding replayState
@@ -65,19 +70,20 @@ module _ (b s rs : List ℕ) where
   -- from the rules to the ending
   pub replay-done :
       applyInTurn b s rs ≡ true
-      → (replayEnding b s rs ≡ Done (endAfter b rs (length rs))) × (replayState b s rs ≡ run b s rs)
+      → (replayEnding b s rs ≡ Done (endAfter b rs (length rs) (goalByte (metGoal b (run b s rs)))))
+      × (replayState b s rs ≡ run b s rs)
   unfolding appliedCount
   replay-done h =
       let n = length rs in
       let e = first-passed (fails b s rs) n n (omega arith) (before-at n (rw take-length h) (omega arith)) in (
-        ending-at n e ∙ rw (le-ltb n n (omega arith)),
+        ending-at n e ∙ rw (le-ltb n n (omega arith), take-length),
         state-at n e ∙ rw take-length,
       )
 
   pub replay-stuck :
       (i : ℕ) → i < length rs → applyInTurn b s (take i rs) ≡ true
       → applies b (getD rs i 0) (run b s (take i rs)) ≡ false
-      → (replayEnding b s rs ≡ Stuck (endAfter b rs i)) × (replayState b s rs ≡ run b s (take i rs))
+      → (replayEnding b s rs ≡ Stuck (endAfter b rs i noGoal)) × (replayState b s rs ≡ run b s (take i rs))
   unfolding appliedCount
   replay-stuck i l h f =
       let e = first-at (fails b s rs) (length rs) i l (ap not f) (before-at i h (omega arith)) in
@@ -88,7 +94,7 @@ module _ (b s rs : List ℕ) where
   count-within = first-within (fails b s rs) (length rs)
 
   -- and back: by the count, a rule is left or none
-  stopped : ltb (appliedCount b s rs) (length rs) ≡ true → StuckAt b s rs (replayEnd b s rs) (replayState b s rs)
+  stopped : ltb (appliedCount b s rs) (length rs) ≡ true → StuckAt b s rs (replayEnd b s rs noGoal) (replayState b s rs)
   unfolding appliedCount replayEnd
   stopped e =
       let n = appliedCount b s rs in
@@ -101,11 +107,16 @@ module _ (b s rs : List ℕ) where
             rw (state-at n refl) (not-true _ (first-holds f (length rs) (sym (first-some f (length rs)) ∙ e) .1));
         cost = refl;
         state = state-at n refl;
+        goal = refl;
       }
 
-  finished : ltb (appliedCount b s rs) (length rs) ≡ false → DoneAt b s rs (replayEnd b s rs) (replayState b s rs)
+  -- where it ends if it is done, with the goal of the state there; FF is no goal's number in an accepted block
+  abbrev doneEnd : RunEnd
+  doneEnd = replayEnd b s rs (goalByte (metGoal b (replayState b s rs)))
+
+  finished : Valid b → ltb (appliedCount b s rs) (length rs) ≡ false → DoneAt b s rs doneEnd (replayState b s rs)
   unfolding appliedCount replayEnd
-  finished e =
+  finished v e =
       let n = appliedCount b s rs in
       let m : length rs ≤ n = ltb-false n (length rs) e in
       let all : take n rs ≡ rs = take-all n rs m in
@@ -116,22 +127,23 @@ module _ (b s rs : List ℕ) where
         steps = omega (arith, count-within);
         cost = ap (totalCost b) all;
         state = state-at n refl ∙ ap (run b s) all;
+        goal = goal-means b (replayState b s rs) (omega (arith, v .sized .headed .sizes .g-high));
       }
 
-  pub done-in-turn : (d : RunEnd) → replayEnding b s rs ≡ Done d → DoneAt b s rs d (replayState b s rs)
+  pub done-in-turn : Valid b → (d : RunEnd) → replayEnding b s rs ≡ Done d → DoneAt b s rs d (replayState b s rs)
   unfolding replayEnding
-  done-in-turn d h = go (ltb (appliedCount b s rs) (length rs)) refl
+  done-in-turn v d h = go (ltb (appliedCount b s rs) (length rs)) refl
     where
       go : (t : Bool) → ltb (appliedCount b s rs) (length rs) ≡ t → DoneAt b s rs d (replayState b s rs)
       go true e = absurd (let z : _≡_ {A = ℕ} 0 1 = cc (e, h) in omega arith)
-      go false e = let q : replayEnd b s rs ≡ d = cc (e, h) in subst (λ (e : RunEnd). DoneAt b s rs e (replayState b s rs)) q (finished e)
+      go false e = let q : doneEnd ≡ d = cc (e, h) in subst (λ (e : RunEnd). DoneAt b s rs e (replayState b s rs)) q (finished v e)
 
   pub stuck-at : (d : RunEnd) → replayEnding b s rs ≡ Stuck d → StuckAt b s rs d (replayState b s rs)
   unfolding replayEnding
   stuck-at d h = go (ltb (appliedCount b s rs) (length rs)) refl
     where
       go : (t : Bool) → ltb (appliedCount b s rs) (length rs) ≡ t → StuckAt b s rs d (replayState b s rs)
-      go true e = let q : replayEnd b s rs ≡ d = cc (e, h) in subst (λ (e : RunEnd). StuckAt b s rs e (replayState b s rs)) q (stopped e)
+      go true e = let q : replayEnd b s rs noGoal ≡ d = cc (e, h) in subst (λ (e : RunEnd). StuckAt b s rs e (replayState b s rs)) q (stopped e)
       go false e = absurd (let z : _≡_ {A = ℕ} 0 1 = cc (e, h) in omega arith)
 
   -- the state there
@@ -148,8 +160,8 @@ module _ (b s rs : List ℕ) where
       rw (getD-take n rs i 0 m) (h i (omega (arith, count-within))))
 
 -- no rules
-pub replay-empty : (b s : List ℕ) → replayEnding b s [] ≡ Done (record { steps = 0; cost = 0 })
-unfolding replayEnding replayEnd appliedCount
+pub replay-empty : (b s : List ℕ) → replayEnding b s [] ≡ Done (record { steps = 0; cost = 0; goal = goalByte (metGoal b s) })
+unfolding replayEnding replayEnd replayState appliedCount
 replay-empty b s = refl
 
 pub replay-empty-state : (b s : List ℕ) → replayState b s [] ≡ s

@@ -13,15 +13,18 @@ use basics::wide;
 use blocks::layout;
 use blocks::layout::MOST_POSITIONS;
 use psvn::rules;
+use psvn::rules::NO_GOAL;
 
 // How many rule numbers a list may have.
 pub const LONGEST_LIST: usize = 4096;
 
-// Where a replay ends: how many rules were applied, which is the index of a rule that is stuck, and what they cost.
+// Where a replay ends: how many rules were applied, which is the index of a rule that is stuck, what they cost, and
+// the goal that the final state meets; NO_GOAL where it meets none, or a rule is stuck.
 #[repr(C)]
 pub struct RunEnd {
     pub steps: usize,
     pub cost: u32,
+    pub goal: u8,
 }
 
 // How a replay ends: all rules applied, or one is stuck.
@@ -70,13 +73,22 @@ fn replay_in(block: &[u8], list: &[u8], state: &mut [u8]) -> Replayed
     while i < list.len() {
         let rule = wide(list[i]);
         if !rules::applies(block, rule, state) {
-            return Replayed::Stuck(RunEnd { steps: i, cost });
+            return Replayed::Stuck(RunEnd {
+                steps: i,
+                cost,
+                goal: NO_GOAL,
+            });
         }
         advance(block, rule, state);
         cost += layout::cost(block, rule) as u32;
         i += 1;
     }
-    Replayed::Done(RunEnd { steps: i, cost })
+    let goal = rules::met_goal(block, state);
+    Replayed::Done(RunEnd {
+        steps: i,
+        cost,
+        goal,
+    })
 }
 
 // Replays the list from the start, and writes the state where it ends at the front of `out`.

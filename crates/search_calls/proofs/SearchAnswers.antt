@@ -1,5 +1,5 @@
 -- What the search call gives where nothing turns it back, from what the search layer answers: the answer and the buffer
--- (`answered-by`), and demand 3 (`kept-by`).
+-- (`answered-by`), and demand 3 with the goal that is told (`kept-by`).
 -- The proof of the search call rests on these.
 use mathlib.Core.Path.{_≡_, sym, ap, ap₂, _∙_, subst}
 use mathlib.Core.List.{List}
@@ -10,10 +10,12 @@ use lib.Seq.{length-take-le}
 use Rattle.basics.specs.Lists.{atFront}
 use Rattle.basics.proofs.Lists.{front-longer}
 use Rattle.refusals.specs.Answers.{told, Outcome, outcome}
-use Rattle.rounds.specs.Rounds.{visits, plan}
-use Rattle.search.specs.Exercises.{searchFrom}
-use Rattle.search.specs.Promises.{SearchKept}
-use Rattle.search.specs.Parts.{Answers}
+use Rattle.blocks.specs.Validity.{Valid}
+use Rattle.rounds.specs.Rounds as rounds
+use Rattle.search.specs.Exercises.{searchFrom, planGoal}
+use Rattle.search.specs.Promises.{SearchKept, GoalKept}
+use Rattle.search.specs.Parts.{Answers, answerOf, endingGoal}
+use Rattle.search.proofs.Demand.{goal-kept}
 use Rattle.queries.specs.declared.Limits.{Limits}
 use Rattle.search.specs.declared.running.Ending.{Ending}
 use Rattle.search.specs.declared.running.Ending.the-variants as ending
@@ -32,20 +34,34 @@ abbrev answering : SearchAnswer → List ℕ → Outcome SearchAnswer
 answering a out = outcome (told a) out
 
 module _ (b s : List ℕ) (l : Limits) (t buffer buffer′ : List ℕ) where
+  -- the answer of the search, as the rounds have it
+  abbrev whole : rounds.Answer
+  whole = searchFrom b s l t
+
   pub answered-by :
       l .steps ≤ length buffer → (r : Ending) → Answers b s l t buffer buffer′ r
-      → outcome (searchOf (givenAs r)) buffer′
-      ≡ answering (reported (searchFrom b s l t)) (atFront (plan (searchFrom b s l t)) buffer)
-  unfolding visits
+      → outcome (searchOf (givenAs r)) buffer′ ≡ answering (reported (planGoal b s whole) whole) (atFront (rounds.plan whole) buffer)
+  unfolding rounds.visits
   answered-by room (ending.Found p) h =
-      let longer = front-longer (plan (searchFrom b s l t)) buffer in
+      let longer = front-longer (rounds.plan whole) buffer in
       let n = length-take-le (p .steps) buffer′ (omega (arith, h .within, room, longer, ap length (h .written))) in
-      ap₂ answering (ap (λ (k : ℕ). searchAnswer 0 k (p .cost) (p .visits)) (sym n) ∙ ap reported (h .told))
+      ap₂ answering
+      (ap (λ (k : ℕ). searchAnswer 0 k (p .cost) (p .visits) (p .goal)) (sym n) ∙ ap₂ reported (h .goal) (h .told))
       (h .written)
-  answered-by room (ending.NoPlan u) h = ap₂ answering (ap reported (h .told)) (h .written)
-  answered-by room (ending.Spent u) h = ap₂ answering (ap reported (h .told)) (h .written)
+  answered-by room (ending.NoPlan u) h = ap₂ answering (ap₂ reported (h .goal) (h .told)) (h .written)
+  answered-by room (ending.Spent u) h = ap₂ answering (ap₂ reported (h .goal) (h .told)) (h .written)
 
-  pub kept-by : (r : Ending) → Answers b s l t buffer buffer′ r → PlanKept b s l t (searchOf (givenAs r)) buffer′
-  kept-by (ending.Found p) h = subst (SearchKept b s l t) (sym (h .told)) (h .kept)
-  kept-by (ending.NoPlan u) h = subst (SearchKept b s l t) (sym (h .told)) (h .kept)
-  kept-by (ending.Spent u) h = subst (SearchKept b s l t) (sym (h .told)) (h .kept)
+  -- what is promised, of an answer and the goal told with it
+  abbrev Promised : rounds.Answer → ℕ → Type 0
+  Promised a goal = SearchKept b s l t a × GoalKept b s a goal
+
+  module _ (v : Valid b) where
+    promised-by : (r : Ending) → Answers b s l t buffer buffer′ r → Promised (answerOf buffer′ r) (endingGoal r)
+    promised-by r h =
+        subst (Promised (answerOf buffer′ r)) (sym (h .goal))
+        (subst (λ (a : rounds.Answer). Promised a (planGoal b s whole)) (sym (h .told)) (h .kept, goal-kept (h .kept) v))
+
+    pub kept-by : (r : Ending) → Answers b s l t buffer buffer′ r → PlanKept b s l t (searchOf (givenAs r)) buffer′
+    kept-by (ending.Found p) h = promised-by (ending.Found p) h
+    kept-by (ending.NoPlan u) h = promised-by (ending.NoPlan u) h
+    kept-by (ending.Spent u) h = promised-by (ending.Spent u) h

@@ -10,7 +10,8 @@ use refusals::Verdict;
 use search::Ending;
 use search::Plan;
 
-// What a search answers: a plan was found; or there is no plan, or the allowance is spent, after so many visits.
+// What a search answers: a plan was found, with the goal that it reaches; or there is no plan, or the allowance is
+// spent, after so many visits.
 pub enum Search {
     Found(Plan),
     NoPlan { visits: u32 },

@@ -18,7 +18,7 @@ use Rattle.blocks.specs.Validity.{sizesOk, headOk, lengthOk, mapOk, sideOk, rul
 use Rattle.blocks.specs.Validity.{ruleBound, boundOk, shapeConditions, contentConditions, blockConditions, Valid}
 use Rattle.blocks.specs.States.{labelled, stateOk}
 use Rattle.blocks.proofs.Accepted.{accepted-valid}
-use Rattle.psvn.specs.Rules.{bound, matches, rewritten, applies, step, leads, goalMet, meets}
+use Rattle.psvn.specs.Rules.{bound, matches, rewritten, applies, step, leads, goalMet, meets, metGoal}
 use Rattle.psvn.specs.Relabelling.{relabelSide, relabelRule, relabelGoal, relabelBlock, relabelState}
 use Rattle.psvn.specs.Ranks.{rank, unrank}
 use Rattle.psvn.proofs.RankLaws.{unrank-abstract, rank-unrank}
@@ -65,7 +65,7 @@ unfolding exampleBlock exampleState exampleImage pairBlock blockE tableE headByt
     abstractStates mapByte mapAt costOf relabelHead ruleWidth ruleAt leftAt rightAt goalAt blockLength sizesOk headOk
     lengthOk mapOk sideOk ruleTermsOk goalTermsOk termsOk ruleBound boundOk shapeConditions contentConditions
     blockConditions labelled bound matches rewritten applies step leads stateConditions applyConditions applyRule stepBackConditions stepBackFrom reversible
-    reversibleConditions testReversible goalMet meets relabelSide relabelRule relabelGoal relabelBlock rank unrank
+    reversibleConditions testReversible goalMet meets metGoal relabelSide relabelRule relabelGoal relabelBlock rank unrank
     stepRank passesAt passes certifies passesTest leastBy leastWithin leastCosts filled tableConditions fillTable
     testTable
 computing = tt

@@ -12,7 +12,7 @@ use Rattle.refusals.specs.Answers.{told, outcome}
 use Rattle.blocks.specs.Layout.{abstractStates}
 use Rattle.blocks.specs.Validity.{Valid}
 use Rattle.blocks.specs.States.{stateOk}
-use Rattle.psvn.specs.Rules.{applies, step}
+use Rattle.psvn.specs.Rules.{applies, step, noGoal}
 use Rattle.psvn.specs.Relabelling.{relabelBlock}
 use Rattle.psvn.specs.Ranks.{unrank}
 use Rattle.tables.specs.Tables.{passesTest}
@@ -143,35 +143,35 @@ pub record Starred : Type 0 where
   pub zeros-always-pass :
       (b : List ℕ) → Valid b → (t : List ℕ) → ((k : ℕ) → k < abstractStates b → getD t k 0 ≡ 0) → passesTest b t ≡ true
   -- the search of input E from <1,2,0> with its table, step limit 8, cost limit 100 and allowance 100: found, 3 steps,
-  -- cost 5, 10 visits, plan 2, 0, 5
+  -- cost 5, 10 visits, plan 2, 0, 5, which reaches goal 0
   pub search-found :
       findPlan blockE startE (limits 8 100 100) tableE roomE
-      ≡ outcome (told (searchAnswer 0 3 5 10)) (2 ∷ 0 ∷ 5 ∷ 9 ∷ 9 ∷ 9 ∷ 9 ∷ 9 ∷ [])
+      ≡ outcome (told (searchAnswer 0 3 5 10 0)) (2 ∷ 0 ∷ 5 ∷ 9 ∷ 9 ∷ 9 ∷ 9 ∷ 9 ∷ [])
   -- its rounds are at the thresholds 0, 2, 4 and 5, with 1, 2, 3 and 4 visits
   pub search-thresholds : thresholdsOf blockE startE (limits 8 100 100) tableE ≡ 0 ∷ 2 ∷ 4 ∷ 5 ∷ []
   pub search-round-visits :
       map (roundVisitsOf blockE startE (limits 8 100 100) tableE) (0 ∷ 2 ∷ 4 ∷ 5 ∷ []) ≡ 1 ∷ 2 ∷ 3 ∷ 4 ∷ []
-  -- an allowance of 9 is spent
+  -- an allowance of 9 is spent; without a plan the goal is FF
   pub search-spent :
-      findPlan blockE startE (limits 8 100 9) tableE roomE ≡ outcome (told (searchAnswer 2 0 0 9)) roomE
+      findPlan blockE startE (limits 8 100 9) tableE roomE ≡ outcome (told (searchAnswer 2 0 0 9 noGoal)) roomE
   -- with cost limit 4, or with step limit 2, there is no plan
   pub search-cost-limit :
-      findPlan blockE startE (limits 8 4 100) tableE roomE ≡ outcome (told (searchAnswer 1 0 0 6)) roomE
+      findPlan blockE startE (limits 8 4 100) tableE roomE ≡ outcome (told (searchAnswer 1 0 0 6 noGoal)) roomE
   pub search-step-limit :
-      findPlan blockE startE (limits 2 100 100) tableE roomE ≡ outcome (told (searchAnswer 1 0 0 11)) roomE
+      findPlan blockE startE (limits 2 100 100) tableE roomE ≡ outcome (told (searchAnswer 1 0 0 11 noGoal)) roomE
   -- the table of zeros gives the same plan, after 19 visits
   pub search-zeros :
       findPlan blockE startE (limits 8 100 100) (0 ∷ 0 ∷ 0 ∷ 0 ∷ 0 ∷ 0 ∷ 0 ∷ 0 ∷ []) roomE
-      ≡ outcome (told (searchAnswer 0 3 5 19)) (2 ∷ 0 ∷ 5 ∷ 9 ∷ 9 ∷ 9 ∷ 9 ∷ 9 ∷ [])
+      ≡ outcome (told (searchAnswer 0 3 5 19 0)) (2 ∷ 0 ∷ 5 ∷ 9 ∷ 9 ∷ 9 ∷ 9 ∷ 9 ∷ [])
   -- from the goal itself the plan has no steps, after one visit
   pub search-at-goal :
-      findPlan blockE (2 ∷ 1 ∷ 0 ∷ []) (limits 8 100 100) tableE roomE ≡ outcome (told (searchAnswer 0 0 0 1)) roomE
-  -- what `par` prints for these queries: found with 3 steps, cost 5, 10 visits and plan 2, 0, 5; spent after 9 visits;
-  -- no plan after 6, and after 11; found with no steps after 1
+      findPlan blockE (2 ∷ 1 ∷ 0 ∷ []) (limits 8 100 100) tableE roomE ≡ outcome (told (searchAnswer 0 0 0 1 0)) roomE
+  -- what `par` prints for these queries: found, goal 0, with 3 steps, cost 5, 10 visits and plan 2, 0, 5; spent after 9
+  -- visits; no plan after 6, and after 11; found, goal 0, with no steps after 1
   pub par-prints :
       parOutput sessionE
-      ≡ characters "0003000000050000000A020005\n"
+      ≡ characters "000003000000050000000A020005\n"
       ++ characters "02000000000000000009\n"
       ++ characters "01000000000000000006\n"
       ++ characters "0100000000000000000B\n"
-      ++ characters "00000000000000000001\n"
+      ++ characters "0000000000000000000001\n"

@@ -1,6 +1,6 @@
 -- What compiled arrays mean: a rule applies to a word, and what it makes of it, as the language says of the word's
--- state (`applies-word`, `step-word`, `step-small`, `cost-word`), goals likewise (`meets-word`), and the rank of the
--- relabelled state (`rank-word`). The words of states and of ranks hold those states (`state-word`, `unpack-word-of`).
+-- state (`applies-word`, `step-word`, `step-small`, `cost-word`), goals likewise (`meets-word`, `met-goal-word`), and the
+-- rank of the relabelled state (`rank-word`). The words of states and of ranks hold those states (`state-word`, `unpack-word-of`).
 -- The tables and the search rest on these, and on `unpack-injective`.
 use mathlib.Core.Path.{_≡_, refl, sym, ap, ap₂, _∙_}
 use mathlib.Core.Logic.{_⊎_, inl, inr, ⊎-elim}
@@ -14,21 +14,21 @@ use lib.Dec.{eqb}
 use lib.ListN.{getD}
 use borrow.Author.Tests.{eq-eqb, eqb-true}
 use Rattle.basics.proofs.Truth.{true-false, and-true, and-intro, not-so}
-use Rattle.basics.proofs.Bounded.{some-ext}
+use Rattle.basics.proofs.Bounded.{some-ext, find-ext}
 use Rattle.basics.proofs.Comparing.{same?}
 use Rattle.blocks.specs.Layout.{positions, rules, goals, labelCount, abstractCount, costOf, goalOf}
 use Rattle.blocks.specs.Validity.{Headed}
 use Rattle.blocks.specs.States.{stateOk}
 use Rattle.blocks.proofs.StateLaws.{labelled-length, labelled-at, state-length, state-label, abstract-count-low}
 use Rattle.blocks.proofs.StateLaws.{label-below}
-use Rattle.psvn.specs.Rules.{matches, applies, step, goalMet, meets}
+use Rattle.psvn.specs.Rules.{matches, applies, step, goalMet, meets, metGoal}
 use Rattle.psvn.specs.Relabelling.{relabelState}
 use Rattle.psvn.specs.Ranks.{rank, unrank}
 use Rattle.psvn.proofs.Making.{matches-itself, itself-matches}
 use Rattle.psvn.proofs.RankLaws.{unrank-abstract}
 use Rattle.words.specs.Packing.{digit, digitPair, pack, unpack}
 use Rattle.words.specs.Sides.{maskAt, valueAt, goalPlace, rewrittenWord, matchesWord, appliesWord, stepWord}
-use Rattle.words.specs.Sides.{costWord, meetsWord}
+use Rattle.words.specs.Sides.{costWord, meetsWord, metGoalWord}
 use Rattle.words.specs.Ranking.{rankPairs, rankWord, wordOf, weightOf}
 use Rattle.words.specs.Compiled.{Sided, Compiled}
 use Rattle.words.proofs.WordDigits.{Small, digit-lt, pack-below, unpack-pack, unpack-injective, unpack-length}
@@ -82,6 +82,14 @@ module _ {b code weights : List ℕ} (c : Compiled b code weights) where
   unfolding meets goalMet
   meets-word w l =
       some-ext (λ g. matchesWord code (goalPlace g) w)
+      (λ g. matches (positions b) (goalOf b g) (unpack (positions b) w)) (goals b) (λ g lg.
+      matches-word (positions b) (goalOf b g) code (goalPlace g) (c .goal g lg) w l)
+
+  pub met-goal-word :
+      (w : ℕ) → w < 16 ^ positions b → metGoalWord code (goals b) w ≡ metGoal b (unpack (positions b) w)
+  unfolding metGoalWord metGoal goalMet
+  met-goal-word w l =
+      find-ext (λ g. matchesWord code (goalPlace g) w)
       (λ g. matches (positions b) (goalOf b g) (unpack (positions b) w)) (goals b) (λ g lg.
       matches-word (positions b) (goalOf b g) code (goalPlace g) (c .goal g lg) w l)
 

@@ -1,13 +1,14 @@
 -- Sides compiled for words, as the arrays hold them: what a side makes of a word (`rewrittenWord`), whether a word
--- matches it (`matchesWord`), and so a rule's test, its result and its cost, and the goal test. Where a side stands
+-- matches it (`matchesWord`), and so a rule's test, its result and its cost, and the goal met. Where a side stands
 -- in the arrays is defined here; `compiling` and `rule_sets` know it too, and other crates name a side by its number.
 use Prim.Native.Nat.{ℕ, zero, suc, _+_, _*_, _%_, _^_}
 use mathlib.Core.Bool.{Bool, _&&_}
-use mathlib.Core.List.{List}
+use mathlib.Core.List.{List, [], _∷_}
+use mathlib.Core.Option.{Option}
 use lib.Dec.{eqb}
 use lib.Bits.{bitAnd, bitOr}
 use lib.ListN.{getD}
-use Rattle.basics.specs.Bounded.{some}
+use Rattle.basics.specs.Bounded.{some, find}
 use Rattle.words.specs.Packing.{digit}
 
 -- where the sides of rule r stand, and goal g
@@ -73,6 +74,14 @@ stepWord code r w = rewrittenWord code (rightPlace r) w
 abbrev pub costWord : List ℕ → ℕ → ℕ
 costWord code r = getD code (816 + r) 0 % 256
 
--- a word meets one of the goals
+-- the word that rules make one after another
+abbrev pub runWord : List ℕ → ℕ → List ℕ → ℕ
+runWord code w [] = w
+runWord code w (r ∷ rs) = runWord code (stepWord code r w) rs
+
+-- a word meets one of the goals; the goal that it meets, the first of them
 abbrev pub meetsWord : List ℕ → ℕ → ℕ → Bool
 meetsWord code goals w = some goals (λ g. matchesWord code (goalPlace g) w)
+
+unfoldable pub metGoalWord : List ℕ → ℕ → ℕ → Option ℕ
+metGoalWord code goals w = find goals (λ g. matchesWord code (goalPlace g) w)

@@ -2,8 +2,9 @@
 // places 2 * r and 2 * r + 1, goal g at 128 + g.
 ghost use mathlib.Core.Path.{_≡_};
 ghost use Prim.Native.Nat.{_%_, _≤_, _<_};
+ghost use Rattle.psvn.specs.Rules.{goalByte};
 ghost use Rattle.words.specs.Sides.{moved, rewrittenWord, constantsWord, matchesWord, appliesWord};
-ghost use Rattle.words.specs.Sides.{stepWord, meetsWord, costWord};
+ghost use Rattle.words.specs.Sides.{stepWord, meetsWord, metGoalWord, costWord};
 use super::code::COSTS;
 use super::code::Code;
 use super::code::FIRST_GOAL;
@@ -14,6 +15,7 @@ use super::code::SIDE;
 use super::code::TO;
 use super::code::VALUE;
 use super::packing::digit;
+use psvn::rules::NO_GOAL;
 
 // The label at the position that the lowest digit of `from` tells, at the position that the lowest digit of `to` tells.
 fn move_label(word: u64, from: u64, to: u64) -> u64
@@ -84,17 +86,25 @@ pub fn cost_word(code: &Code, r: usize) -> u64
     code[COSTS + r] % 256
 }
 
+// The goal that a word meets, the lowest number of a met one; NO_GOAL where none is met.
+pub fn met_goal_word(code: &Code, goals: usize, word: u64) -> u8
+    requires { ⌜ goals ≤ 8 ⌝ }
+    ensures { λ r. ⌜ r ≡ goalByte (metGoalWord (now (code .entry)) goals word) ⌝ }
+{
+    let mut g: usize = 0;
+    while g < goals {
+        if matches_word(code, FIRST_GOAL + g, word) {
+            return g as u8;
+        }
+        g += 1;
+    }
+    NO_GOAL
+}
+
 // Whether a word meets one of the goals.
 pub fn meets_word(code: &Code, goals: usize, word: u64) -> bool
     requires { ⌜ goals ≤ 8 ⌝ }
     ensures { λ answer. ⌜ answer ≡ meetsWord (now (code .entry)) goals word ⌝ }
 {
-    let mut g: usize = 0;
-    while g < goals {
-        if matches_word(code, FIRST_GOAL + g, word) {
-            return true;
-        }
-        g += 1;
-    }
-    false
+    met_goal_word(code, goals, word) != NO_GOAL
 }

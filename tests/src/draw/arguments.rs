@@ -24,6 +24,16 @@ pub fn draw_whole_state(random: &mut Random, draft: &Draft) -> Vec<u8> {
     draw_instance(random, draft, pattern)
 }
 
+/// A random state that meets one of the goals, or a damaged one.
+pub fn draw_goal_state(random: &mut Random, draft: &Draft) -> Vec<u8> {
+    let number = random.below(draft.goals.len().max(1));
+    let state = match draft.goals.get(number) {
+        Some(goal) => draw_instance(random, draft, goal),
+        None => draw_whole_state(random, draft),
+    };
+    damage_sometimes(random, draft, state)
+}
+
 /// A random state with label 0 at one position at least.
 pub fn draw_start(random: &mut Random, draft: &Draft) -> Vec<u8> {
     let mut state = draw_whole_state(random, draft);
@@ -122,19 +132,24 @@ fn step_rank(random: &mut Random, labels: u8, state: &mut [u8]) {
     }
 }
 
-/// A list to replay: mostly rules that apply one after the other, sometimes any, sometimes one that is not there, and
-/// now and then about as many as are allowed.
+/// Rules that mostly apply one after the other, now and then about as many as are allowed in a list.
 pub fn draw_list(random: &mut Random, drawn: &Drawn, start: &[u8]) -> Vec<u8> {
-    let rules = drawn.draft.sizes.rules;
-    let length = match random.below(64) {
+    let length = match random.below(32) {
         0 => random.between(4094, 4099),
         1 => random.between(100, 300),
         _ => random.between(0, 12),
     };
-    let mut list = match drawn.exercise() {
+    match drawn.exercise() {
         Some(exercise) if !exercise.rules.is_empty() => draw_run(random, &exercise, start, length),
-        _ => vec![0; length.min(rules)],
-    };
+        _ => vec![0; length.min(drawn.draft.sizes.rules)],
+    }
+}
+
+/// Changes a list to replay: sometimes any rule stands behind it or within it, sometimes one that is not there.
+pub fn change_list(random: &mut Random, rules: usize, list: &mut Vec<u8>) {
+    if random.one_in(6) {
+        list.push(random.below(rules.max(1)) as u8);
+    }
     if random.one_in(12) {
         let place = random.below(list.len() + 1);
         list.insert(place, random.pick(&[rules.min(255) as u8, rules.min(255) as u8, 64, 128, 255]));
@@ -143,7 +158,6 @@ pub fn draw_list(random: &mut Random, drawn: &Drawn, start: &[u8]) -> Vec<u8> {
         let place = random.below(list.len());
         list[place] = random.below(rules.max(1)) as u8;
     }
-    list
 }
 
 /// Rules that apply one after the other, or any where none does.

@@ -25,7 +25,7 @@ impl Draft {
             sizes,
             map: (0..sizes.labels).map(|_| random.below(abstract_count) as u8).collect(),
             rules: (0..sizes.rules).map(|_| draw_rule(random, sizes.positions, label_count)).collect(),
-            goals: (0..sizes.goals).map(|_| draw_goal(random, sizes.positions, label_count)).collect(),
+            goals: (0..sizes.goals).map(|_| draw_goal(random, sizes, label_count)).collect(),
         }
     }
 
@@ -41,6 +41,17 @@ impl Draft {
             }
         }
         draft
+    }
+
+    /// Makes a state one of the goals; sometimes other states meet the goal too.
+    pub fn set_goal(&mut self, random: &mut Random, number: usize, state: &[u8]) {
+        let is_loose = random.one_in(3);
+        let term = |&label: &u8| match random.below(8) {
+            0 if is_loose => DASH,
+            1 if is_loose => FIRST_VARIABLE + label,
+            _ => label,
+        };
+        self.goals[number] = state.iter().map(term).collect();
     }
 
     /// Head, map, rules and goals.
@@ -133,14 +144,15 @@ fn draw_turn(random: &mut Random, left: &mut [u8], right: &mut [u8]) {
     }
 }
 
-fn draw_goal(random: &mut Random, positions: usize, labels: usize) -> Vec<u8> {
-    let percent_labels = random.pick(&[30, 60, 95]);
+/// Where there are many goals they are mostly labels, so that those behind have their states too.
+fn draw_goal(random: &mut Random, sizes: Sizes, labels: usize) -> Vec<u8> {
+    let percent_labels = if sizes.goals > 3 { 95 } else { random.pick(&[30, 60, 95]) };
     let mut draw_term = || match random.below(100) {
         percent if percent < percent_labels => random.below(labels) as u8,
         percent if percent % 3 == 0 => FIRST_VARIABLE + random.below(2) as u8,
         _ => DASH,
     };
-    (0..positions).map(|_| draw_term()).collect()
+    (0..sizes.positions).map(|_| draw_term()).collect()
 }
 
 pub fn is_variable(term: u8) -> bool {

@@ -27,7 +27,7 @@ pub fn draw_limits(random: &mut Random, block: &[u8], start: &[u8], table: &[u32
 /// only where it is known that few visits are made.
 fn draw_next_to(random: &mut Random, limits: Limits, told: Search, table: &[u32]) -> Limits {
     match told {
-        Search::Found { steps, cost, visits } if random.one_in(2) => Limits {
+        Search::Found { steps, cost, visits, .. } if random.one_in(2) => Limits {
             steps: random.pick(&[steps, steps + 1, steps.saturating_sub(1)]).min(PLAN_LENGTH),
             cost: random.pick(&[ANY, cost]),
             visits: draw_visits(random, limits.visits, visits),

@@ -30,22 +30,34 @@ impl Drawn {
         Drawn { draft, block }
     }
 
-    /// Draws an exercise and a start from which, one time in two, a goal is some steps away.
+    /// Draws an exercise and a start from which, one time in two, the goals are some steps away.
     pub fn with_start(random: &mut Random, most_entries: usize) -> (Drawn, State) {
+        let (drawn, start, _) = Drawn::with_run(random, most_entries);
+        (drawn, start)
+    }
+
+    /// The same, and rules that mostly apply one after the other from the start on, to a goal where it is some steps
+    /// away.
+    pub fn with_run(random: &mut Random, most_entries: usize) -> (Drawn, State, Vec<u8>) {
         if random.one_in(2) {
             let drawn = Drawn::new(random, most_entries);
             let start = arguments::draw_whole_state(random, &drawn.draft);
-            return (drawn, start);
+            let list = arguments::draw_list(random, &drawn, &start);
+            return (drawn, start, list);
         }
         let sizes = sizes::draw_for_moves(random, most_entries);
         let mut draft = Draft::with_moves(random, sizes);
         let start = arguments::draw_start(random, &draft);
         let exercise = check(&draft.block()).expect("the sizes are within the limits");
-        let length = random.between(1, 24);
-        let list = arguments::draw_run(random, &exercise, &start, length);
-        draft.goals[0] = replay(&exercise, &start, &list).1;
+        let mut list = Vec::new();
+        for _ in 0..random.pick(&[1, 1, 2]) {
+            let length = random.between(1, 48);
+            list = arguments::draw_run(random, &exercise, &start, length);
+            let goal = random.below(sizes.goals);
+            draft.set_goal(random, goal, &replay(&exercise, &start, &list).1);
+        }
         let block = damage::draw_block(random, &draft);
-        (Drawn { draft, block }, start)
+        (Drawn { draft, block }, start, list)
     }
 
     /// The exercise that was drawn, if its sizes are within the limits.

@@ -32,23 +32,24 @@ pub fn draw(random: &mut Random, most_entries: usize) -> Sizes {
         labels: random.between(least, most),
         abstract_labels: 0,
         rules: random.between(1, 6),
-        goals: random.between(1, 3),
+        goals: random.pick(&[1, 2, 3, 8]),
     };
     set_abstract_labels(random, &mut sizes, most_entries);
     if random.one_in(20) {
         sizes.rules = random.pick(&[0, 0, 20, 64]);
     }
     if random.one_in(20) {
-        sizes.goals = 8;
+        sizes.goals = random.between(4, 7);
     }
     sizes
 }
 
-/// Sizes with one goal, and room for long ways to it.
+/// Sizes with room for long ways to a goal.
 pub fn draw_for_moves(random: &mut Random, most_entries: usize) -> Sizes {
     let positions = random.between(3, 6);
     let labels = random.between(3, 6);
-    let mut sizes = Sizes { positions, labels, abstract_labels: 0, rules: 2 * positions, goals: 1 };
+    let goals = random.pick(&[1, 2, 8, 8]);
+    let mut sizes = Sizes { positions, labels, abstract_labels: 0, rules: 2 * positions, goals };
     set_abstract_labels(random, &mut sizes, most_entries);
     sizes
 }

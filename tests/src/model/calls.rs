@@ -6,7 +6,7 @@
 use super::answers::{Replay, Search};
 use super::block::check;
 use super::exercise::{Exercise, Rule, State};
-use super::matching::{apply, meets_goal};
+use super::matching::{apply, met_goal};
 use super::predecessors;
 use super::relabel::relabel;
 use super::replay::replay;
@@ -39,10 +39,10 @@ pub fn apply_rule(block: &[u8], rule: usize, state: &[u8], out: &mut [u8]) -> Re
     Ok(write_if_any(apply(rule, state), out))
 }
 
-pub fn test_goals(block: &[u8], state: &[u8]) -> Result<bool, Refusal> {
+pub fn test_goals(block: &[u8], state: &[u8]) -> Result<Option<u8>, Refusal> {
     let exercise = check(block)?;
     check_state(&exercise, state)?;
-    Ok(meets_goal(&exercise, state))
+    Ok(met_goal(&exercise, state))
 }
 
 pub fn first_predecessor(block: &[u8], rule: usize, state: &[u8], out: &mut [u8]) -> Result<bool, Refusal> {

@@ -38,6 +38,11 @@ pub fn apply(rule: &Rule, state: &[u8]) -> Option<State> {
     Some(rule.right.iter().zip(state).map(new_label).collect())
 }
 
+/// The lowest number of a goal that a state meets.
+pub fn met_goal(exercise: &Exercise, state: &[u8]) -> Option<u8> {
+    exercise.goals.iter().position(|goal| matches(goal, state)).map(|number| number as u8)
+}
+
 pub fn meets_goal(exercise: &Exercise, state: &[u8]) -> bool {
-    exercise.goals.iter().any(|goal| matches(goal, state))
+    met_goal(exercise, state).is_some()
 }

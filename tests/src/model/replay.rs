@@ -2,7 +2,7 @@
 
 use super::answers::Replay;
 use super::exercise::{Exercise, State};
-use super::matching::apply;
+use super::matching::{apply, met_goal};
 
 /// How a replay ends, and the state there.
 pub fn replay(exercise: &Exercise, start: &[u8], list: &[u8]) -> (Replay, State) {
@@ -16,5 +16,5 @@ pub fn replay(exercise: &Exercise, start: &[u8], list: &[u8]) -> (Replay, State)
         }
         cost += u32::from(rule.cost);
     }
-    (Replay::Done { steps: list.len(), cost }, state)
+    (Replay::Done { steps: list.len(), cost, goal: met_goal(exercise, &state) }, state)
 }

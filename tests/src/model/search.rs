@@ -2,7 +2,7 @@
 
 use super::answers::Search;
 use super::exercise::{Exercise, State};
-use super::matching::{apply, meets_goal};
+use super::matching::{apply, meets_goal, met_goal};
 use super::table::estimate;
 use mikjuqan::Limits;
 
@@ -20,6 +20,13 @@ struct List {
     rules: Vec<u8>,
     path: Vec<State>,
     cost: u64,
+}
+
+impl List {
+    /// The state that the list leads to.
+    fn state(&self) -> &State {
+        self.path.last().expect("a path has a start")
+    }
 }
 
 /// A round: its threshold, and the least figure above it so far.
@@ -42,7 +49,7 @@ pub fn find(exercise: &Exercise, start: &[u8], limits: Limits, table: &[u32]) ->
         let mut list = List { path: vec![start.to_vec()], ..List::default() };
         let mut round = Round { threshold: now, overshoot: None };
         match rounds.visit(&mut round, &mut list) {
-            Err(Stop::Found) => return (found(&list, rounds.visits), list.rules),
+            Err(Stop::Found) => return (rounds.found(&list), list.rules),
             Err(Stop::Spent) => return (Search::Spent { visits: rounds.visits }, Vec::new()),
             Ok(()) => threshold = round.overshoot,
         }
@@ -50,18 +57,20 @@ pub fn find(exercise: &Exercise, start: &[u8], limits: Limits, table: &[u32]) ->
     (Search::NoPlan { visits: rounds.visits }, Vec::new())
 }
 
-fn found(list: &List, visits: u32) -> Search {
-    Search::Found { steps: list.rules.len(), cost: list.cost as u32, visits }
-}
-
 impl Rounds<'_> {
+    /// The answer where a list meets a goal.
+    fn found(&self, list: &List) -> Search {
+        let goal = met_goal(self.exercise, list.state()).expect("the list meets a goal");
+        Search::Found { steps: list.rules.len(), cost: list.cost as u32, visits: self.visits, goal }
+    }
+
     /// Visits a list, then its extensions in rising rule number. If that stops, the list is where it stopped.
     fn visit(&mut self, round: &mut Round, list: &mut List) -> Result<(), Stop> {
         if self.visits == self.limits.visits {
             return Err(Stop::Spent);
         }
         self.visits += 1;
-        let state = list.path.last().expect("a path has a start").clone();
+        let state = list.state().clone();
         if meets_goal(self.exercise, &state) {
             return Err(Stop::Found);
         }

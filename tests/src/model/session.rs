@@ -35,7 +35,7 @@ fn count_exercise_lines(lines: &[&[u8]]) -> usize {
 fn print_answers(exercise: &Exercise, queries: &[&[u8]]) -> Vec<u8> {
     let table = fill(exercise);
     let answer_line = |query: &&[u8]| match answer(exercise, &table, query) {
-        Ok((answer, plan)) => found_line(answer, &plan),
+        Ok((answer, plan)) => told_line(answer, &plan),
         Err(refusal) => refusal_line(refusal),
     };
     queries.iter().flat_map(answer_line).collect()
@@ -59,13 +59,14 @@ fn answer(exercise: &Exercise, table: &[u32], line: &[u8]) -> Result<(Search, Ve
     Ok(find(exercise, start, limits, table))
 }
 
-fn found_line(answer: Search, plan: &[u8]) -> Vec<u8> {
-    let (status, cost, visits) = match answer {
-        Search::Found { cost, visits, .. } => (0, cost, visits),
-        Search::NoPlan { visits } => (1, 0, visits),
-        Search::Spent { visits } => (2, 0, visits),
+/// The line of an answer. The goal stands in it only where there is a plan.
+fn told_line(answer: Search, plan: &[u8]) -> Vec<u8> {
+    let (mut bytes, cost, visits) = match answer {
+        Search::Found { cost, visits, goal, .. } => (vec![0, goal], cost, visits),
+        Search::NoPlan { visits } => (vec![1], 0, visits),
+        Search::Spent { visits } => (vec![2], 0, visits),
     };
-    let mut bytes = vec![status, plan.len() as u8];
+    bytes.push(plan.len() as u8);
     bytes.extend(cost.to_be_bytes());
     bytes.extend(visits.to_be_bytes());
     bytes.extend(plan);

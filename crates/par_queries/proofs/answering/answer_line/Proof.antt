@@ -15,7 +15,7 @@ use Rattle.blocks.specs.Layout.{abstractStates}
 use Rattle.tables.specs.Tables.{LowerBound, estimate}
 use Rattle.filling.specs.FilledTables.{filled}
 use Rattle.filling.proofs.LeastEntries.{cost-bytes, filled-length, filled-low}
-use Rattle.records.specs.Records.{queryLength, answerRecord, Written}
+use Rattle.records.specs.Records.{queryLength, recordRoom, answerRecord, Written}
 use Rattle.records.proofs.RecordLaws.{written-fits, written-taken}
 use Rattle.frames.specs.Lines.{lineOk, lineBytes, lineOf}
 use Rattle.frames.specs.Places.{lineFrom}
@@ -237,7 +237,7 @@ module _ (c : tie.After-answer-query) where
       written-taken (c .answer-query .ensures)
       ∙ (λ i. answerRecord (block query-line) (bytes decoded i) (query-line .pre .1 i))
 
-  fits : c .answer-query .result ≤ 74
+  fits : c .answer-query .result ≤ recordRoom
   fits = omega (arith, written-fits (c .answer-query .ensures), c .answer-query .kept .1 .1 .1 .0)
 
   told-length : length told-bytes ≡ c .answer-query .result

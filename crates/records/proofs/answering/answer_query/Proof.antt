@@ -11,14 +11,13 @@ use borrow.Author.Needs.{needs}
 use Rattle.refusals.specs.Answers.{Answer, told, verdict, answered}
 use Rattle.refusals.specs.Refusals.{verdictOf}
 use Rattle.blocks.specs.States.{stateOk}
-use Rattle.rounds.specs.Rounds as rounds
 use Rattle.queries.specs.Queries.{longestPlan, queryConditions}
 use Rattle.queries.specs.declared.Limits.{Limits}
 use Rattle.queries.proofs.QueryLaws.{QueryAccepted, query-accepted}
-use Rattle.search.specs.Exercises.{searchFrom}
-use Rattle.search.specs.Parts.{FoundWithin, answerOf}
+use Rattle.search.specs.Exercises.{searchFrom, planGoal}
+use Rattle.search.specs.Parts.{FoundWithin, answerOf, endingGoal}
 use Rattle.records.specs.Records.{startOf, limitsOf, recordConditions, searchAsked}
-use Rattle.records.specs.Records.{answerBytes, recordOf, answerRecord, Written}
+use Rattle.records.specs.Records.{answerBytes, goalAsked, recordOf, answerRecord, Written}
 use Rattle.records.proofs.RecordLaws.{found-more}
 use Rattle.records.proofs.answering.answer_query.Statement.{statement}
 use Rattle.records.proofs.answering.answer_query.Tie as tie
@@ -45,7 +44,8 @@ table s = now (s .args .table)
 -- what is written by a verdict
 abbrev Shown : tie.Start → ℕ → List ℕ → Answer (Unit {0}) → Type 0
 Shown s n new v =
-    Written (recordOf (answered v (searchAsked (block s) (query s) (table s)))) (now (s .args .out)) n new
+    let a = answered v (searchAsked (block s) (query s) (table s)) in
+    Written (recordOf (block s) (query s) a) (now (s .args .out)) n new
 
 shown :
     (s : tie.Start) (n : ℕ) (new : List ℕ) (v : Answer (Unit {0}))
@@ -165,6 +165,17 @@ module _ (c : tie.After-find-plan) where
       c .find-plan .ensures .told
       ∙ ap₂ (λ (s : List ℕ) (l : Limits). searchFrom (block asked) s l (table asked)) (begins (counted d)) (limited d)
 
+  -- and its goal is the one that is told
+  goal-told :
+      endingGoal (c .find-plan .result)
+      ≡ goalAsked (block asked) (query asked) (searchAsked (block asked) (query asked) (table asked))
+  unfolding searchAsked
+  goal-told =
+      let d = checked settled in
+      c .find-plan .ensures .goal
+      ∙ ap₂ (λ (s : List ℕ) (l : Limits). planGoal (block asked) s (searchFrom (block asked) s l (table asked)))
+      (begins (counted d)) (limited d)
+
 write-answer-requires : tie.Need-write-answer-requires
 write-answer-requires c κs = let f = c .before .before .before in (within f, asked f .pre .0 .3)
 
@@ -178,8 +189,8 @@ returns-2 c =
     let s = asked f in
     let out = w .write-answer .last .1 .1 .0 in
     shown s _ _ _ (accepted (settled f))
-    (subst (λ (a : rounds.Answer). Written (answerBytes a) (now (s .args .out)) (w .write-answer .result) out)
-    (searched f) (w .write-answer .ensures))
+    (subst (λ (l : List ℕ). Written l (now (s .args .out)) (w .write-answer .result) out)
+    (ap₂ answerBytes (goal-told f) (searched f)) (w .write-answer .ensures))
 
 pub answer-query-spec : {M : Type 1} → statement M
 answer-query-spec =

@@ -14,7 +14,7 @@ use borrow.Author.Tests.{not-true, not-false}
 use borrow.Author.Needs.{needs}
 use Rattle.basics.proofs.Truth.{and-intro}
 use Rattle.blocks.specs.Layout.{positions, rules, costOf}
-use Rattle.psvn.specs.Rules.{applies, step}
+use Rattle.psvn.specs.Rules.{applies, step, metGoal, noGoal, goalByte}
 use Rattle.psvn.specs.Runs.{applyInTurn, run, totalCost}
 use Rattle.psvn.proofs.RunLaws.{run-more, cost-more, in-turn-more, run-length}
 use Rattle.runs.specs.declared.replay.Replayed.the-variants.{Done, Stuck}
@@ -54,6 +54,9 @@ abbrev μ-loop : tie.MeasureT-loop
 -- the places that the facts below go back to
 abbrev start-from-loop : tie.At-loop Inv-loop μ-loop → tie.Start Inv-loop μ-loop
 start-from-loop c = c .before .before .before .before
+
+abbrev loop-from-met-goal-arg : tie.After-met-goal-arg Inv-loop μ-loop → tie.At-loop Inv-loop μ-loop
+loop-from-met-goal-arg c = c .before .before
 
 abbrev loop-from-applies-arg : tie.After-applies-arg Inv-loop μ-loop → tie.At-loop Inv-loop μ-loop
 loop-from-applies-arg c = c .before .before .before .before
@@ -97,12 +100,12 @@ long c =
     let passed = take (c .loop .i) (now (a .list)) in
     ap length (c .loop .inv .3) ∙ run-length (now (a .block)) (now (a .state)) passed (h .pre .3)
 
--- where a replay ends that stops here
+-- where a replay ends that stops here and tells this goal
 ends-here :
-    (c : tie.At-loop Inv-loop μ-loop)
-    → _≡_ {A = RunEnd} (record { steps = c .loop .i; cost = c .loop .cost })
-    (let a = start-from-loop c .args in endAfter (now (a .block)) (now (a .list)) (c .loop .i))
-ends-here c = ap (λ (x : ℕ). record { steps = c .loop .i; cost = x }) (c .loop .inv .2)
+    (c : tie.At-loop Inv-loop μ-loop) (goal : ℕ)
+    → _≡_ {A = RunEnd} (record { steps = c .loop .i; cost = c .loop .cost; goal = goal })
+    (let a = start-from-loop c .args in endAfter (now (a .block)) (now (a .list)) (c .loop .i) goal)
+ends-here c goal = ap (λ (x : ℕ). record { steps = c .loop .i; cost = x; goal = goal }) (c .loop .inv .2)
 
 loop-holds : tie.Need-loop-holds Inv-loop μ-loop
 loop-holds c = (search needs, search needs, refl, refl, refl)
@@ -149,7 +152,7 @@ returns c =
     let inv = l .loop .inv in
     let f = sym (answered (c .before)) ∙ not-true _ (c .if1 .taken) in
     let q = replay-stuck (now (a .block)) (now (a .state)) (now (a .list)) (l .loop .i) (omega arith) (inv .4) f in
-    (ap Stuck (ends-here l) ∙ sym (q .0), inv .3 ∙ sym (q .1))
+    (ap Stuck (ends-here l noGoal) ∙ sym (q .0), inv .3 ∙ sym (q .1))
 
 advance-requires : tie.Need-advance-requires Inv-loop μ-loop
 advance-requires c κs =
@@ -189,21 +192,27 @@ loop-again c =
       next-in-turn b s list i l (inv .4) applied,
     )
 
+met-goal-requires : tie.Need-met-goal-requires Inv-loop μ-loop
+met-goal-requires c κs = let l = loop-from-met-goal-arg c in (start-from-loop l .pre .0, long l)
+
 same-length-2 : tie.Need-same-length-2 Inv-loop μ-loop
-same-length-2 c = omega (arith, long (c .before))
+same-length-2 c = omega (arith, long (loop-from-met-goal-arg (c .before)))
 
 returns-2 : tie.Need-returns-2 Inv-loop μ-loop
 returns-2 c =
-    let a = start-from-loop (c .before) .args in
+    let l = loop-from-met-goal-arg (c .before) in
+    let a = start-from-loop l .args in
     let b = now (a .block) in
     let s = now (a .state) in
     let list = now (a .list) in
-    let i = c .before .loop .i in
-    let inv = c .before .loop .inv in
-    let last : i ≡ length list = omega (arith, inv .0, c .loop-test .left) in
+    let i = l .loop .i in
+    let inv = l .loop .inv in
+    let last : i ≡ length list = omega (arith, inv .0, c .before .before .loop-test .left) in
     let all : take i list ≡ list = take-all i list (omega arith) in
+    let there = inv .3 ∙ ap (run b s) all in
+    let goal = c .met-goal .ensures ∙ ap (λ (u : List ℕ). goalByte (metGoal b u)) there in
     let q = replay-done b s list (ap (applyInTurn b s) (sym all) ∙ inv .4) in
-    (ap Done (ends-here (c .before) ∙ ap (endAfter b list) last) ∙ sym (q .0), inv .3 ∙ ap (run b s) all ∙ sym (q .1))
+    (ap Done (ends-here l _ ∙ ap₂ (endAfter b list) last goal) ∙ sym (q .0), there ∙ sym (q .1))
 
 pub replay-in-spec : {M : Type 1} → statement M
 replay-in-spec =
@@ -224,5 +233,6 @@ replay-in-spec =
     add-i
     loop-less
     loop-again
+    met-goal-requires
     same-length-2
     returns-2)

@@ -12,7 +12,7 @@ use Rattle.refusals.specs.Answers.{Answer, told, verdict, Outcome, outcome, gua
 use Rattle.refusals.specs.Refusals.{verdictOf}
 use Rattle.tables.proofs.Promises.{lower-bound}
 use Rattle.rounds.specs.Rounds.{plan}
-use Rattle.search.specs.Exercises.{searchFrom}
+use Rattle.search.specs.Exercises.{searchFrom, planGoal}
 use Rattle.search.specs.Parts.{Answers}
 use Rattle.search.specs.declared.running.Ending.{Ending}
 use Rattle.search_calls.specs.Searching.{SearchAnswer, searchOf, reported, searchConditions, findPlan, PlanKept}
@@ -51,7 +51,8 @@ abbrev settled : tie.Start → Answer (Unit {0}) → Outcome SearchAnswer
 settled s verdict =
     let a = s .args in
     let x = searchFrom (now (a .block)) (now (a .start)) (a .limits) (now (a .table)) in
-    guarded verdict (now (a .plan)) (outcome (told (reported x)) (atFront (plan x) (now (a .plan))))
+    guarded verdict (now (a .plan))
+    (outcome (told (reported (planGoal (now (a .block)) (now (a .start)) x) x)) (atFront (plan x) (now (a .plan))))
 
 -- what an accepted call knows, how the search layer ends, and demand 3, all of the call's arguments
 abbrev Accepted : tie.Start → Type 0
@@ -112,7 +113,8 @@ gives c r e =
     answered-by (now (a .block)) (now (a .start)) (a .limits) (now (a .table)) (now (a .plan)) (written c)
     (ready d .room-left) r k in (
       given ∙ sym (ap (settled s) (accepted d)),
-      kept-by (now (a .block)) (now (a .start)) (a .limits) (now (a .table)) (now (a .plan)) (written c) r k,
+      kept-by (now (a .block)) (now (a .start)) (a .limits) (now (a .table)) (now (a .plan)) (written c)
+          (ready d .valid) r k,
     )
 
 find-plan-requires : tie.Need-find-plan-requires

@@ -1,17 +1,17 @@
--- `psvn::rules::meets` meets its contract.
+-- `psvn::rules::met_goal` meets its contract.
 -- The loop's invariant: no goal passed is met.
-use mathlib.Core.Path.{_≡_, sym, _∙_}
+use mathlib.Core.Path.{_≡_, sym, ap, _∙_}
 use mathlib.Core.Bool.{false}
 use Prim.Native.Nat.{ℕ, _≤_, _<_, _-_}
 use native.Mathlib.Omega.{arith}
 use denote.Ref.{now}
 use borrow.Author.Count.{below-more}
 use borrow.Author.Needs.{needs}
-use Rattle.basics.proofs.Bounded.{some-intro, some-passed}
+use Rattle.basics.proofs.Bounded.{find-at, find-passed}
 use Rattle.blocks.specs.Layout.{goals}
-use Rattle.psvn.specs.Rules.{goalMet, meets}
-use Rattle.psvn.proofs.rules.meets.Statement.{statement}
-use Rattle.psvn.proofs.rules.meets.Tie as tie
+use Rattle.psvn.specs.Rules.{goalMet, metGoal, goalByte}
+use Rattle.psvn.proofs.rules.met_goal.Statement.{statement}
+use Rattle.psvn.proofs.rules.met_goal.Tie as tie
 
 abbrev Inv-loop : tie.InvT-loop
 Inv-loop block state count g₀ g =
@@ -36,13 +36,17 @@ loop-holds c = (search needs, search needs, λ k l. absurd (omega arith))
 goal-met-requires : tie.Need-goal-met-requires Inv-loop μ-loop
 goal-met-requires c κs = search needs
 
+cast-result : tie.Need-cast-result Inv-loop μ-loop
+cast-result c = search needs
+
 returns : tie.Need-returns Inv-loop μ-loop
-unfolding meets
+unfolding metGoal
 returns c =
     let a = start-from-then1 c .args in
     let b = now (a .block) in
-    sym (some-intro (λ g. goalMet b g (now (a .state))) (goals b) (c .before .before .before .loop .g) (omega arith)
-    (sym (c .before .goal-met .ensures) ∙ c .if1 .taken))
+    let l = c .before .before .before .loop in
+    sym (ap goalByte (find-at (λ g. goalMet b g (now (a .state))) (goals b) (l .g) (omega arith)
+    (sym (c .before .goal-met .ensures) ∙ c .if1 .taken) (l .inv .2)))
 
 add-g : tie.Need-add-g Inv-loop μ-loop
 add-g c = search needs
@@ -56,15 +60,15 @@ loop-again c =
     (inv .0, search needs, below-more _ _ (inv .2) (sym (c .before .goal-met .ensures) ∙ c .if1 .left))
 
 returns-2 : tie.Need-returns-2 Inv-loop μ-loop
-unfolding meets
+unfolding metGoal
 returns-2 c =
     let a = start-from-loop c .args in
     let b = now (a .block) in
-    sym (some-passed (λ g. goalMet b g (now (a .state))) (goals b) (c .before .loop .g) (omega arith)
-    (c .before .loop .inv .2))
+    sym (ap goalByte (find-passed (λ g. goalMet b g (now (a .state))) (goals b) (c .before .loop .g) (omega arith)
+    (c .before .loop .inv .2)))
 
-pub meets-spec : {M : Type 1} → statement M
-meets-spec =
+pub met-goal-spec : {M : Type 1} → statement M
+met-goal-spec =
     tie.close
     (tie.spec
     Inv-loop
@@ -72,6 +76,7 @@ meets-spec =
     goals-requires
     loop-holds
     goal-met-requires
+    cast-result
     returns
     add-g
     loop-less
