@@ -1,5 +1,5 @@
 /* Runs the library, the tuned engine, the plain engine and the generated engine on the same inputs in turns, compares
- * every answer, and prints the medians and their ratios. */
+ * every answer, and prints the medians and their ratios; then the library's searches with further maps. */
 #define _POSIX_C_SOURCE 200809L
 
 #include "engine.h"
@@ -10,11 +10,12 @@
 #include <string.h>
 #include <time.h>
 
-enum { ENGINES = 4, MOST_TASKS = 32, MOST_ROUNDS = 101, USUAL_ROUNDS = 7 };
+enum { ENGINES = 4, MOST_TASKS = 40, MOST_ROUNDS = 101, USUAL_ROUNDS = 7 };
 
 /* The library stands first: the others are compared with it, in their answers and in their times. */
 static const struct engine *const engines[ENGINES] = {&library_engine, &tuned_engine, &plain_engine,
                                                       &generated_engine};
+enum { TUNED = 1 };
 
 /* A short call is repeated until it takes about this long, in seconds, so that the clock's grain does not count. */
 static const double LONG_ENOUGH = 0.02;
@@ -23,13 +24,17 @@ static const double LONG_ENOUGH = 0.02;
 
 enum action { READ, CHECK, FILL, TEST, FIND };
 
-/* What is measured: an action on an input, and the time of one call by each engine in each round. */
+/* What is measured: an action on an input, and the time of one call by each engine in each round. A search by a number
+ * of maps is the library's alone; that number is 0 for all else. */
 struct task {
   const char *heading;
   const char *name;
   enum action action;
   struct input input;
   struct query query;
+  unsigned map_count;
+  const uint8_t *maps;
+  size_t maps_length;
   uint32_t table[MOST_ENTRIES];
   unsigned long repetitions[ENGINES];
   double seconds[ENGINES][MOST_ROUNDS];
@@ -55,8 +60,8 @@ static void clear(struct outcome *outcome) {
   memset(outcome->table, 0xA5, sizeof outcome->table);
 }
 
-/* Whether an engine has the call for an action; where it has not, it is left out. */
-static bool can_perform(const struct engine *engine, enum action action) {
+/* Whether an engine has the call for an action. */
+static bool has_call(const struct engine *engine, enum action action) {
   switch (action) {
     case READ:
       return engine->read;
@@ -70,6 +75,11 @@ static bool can_perform(const struct engine *engine, enum action action) {
       return engine->find;
   }
   return false;
+}
+
+/* Whether an engine can perform a task; where it cannot, it is left out. */
+static bool can_perform(const struct engine *engine, const struct task *task) {
+  return task->map_count == 0 ? has_call(engine, task->action) : engine == engines[0];
 }
 
 static inline void perform(const struct engine *engine, const struct task *task, struct outcome *outcome) {
@@ -88,7 +98,10 @@ static inline void perform(const struct engine *engine, const struct task *task,
       outcome->passes = engine->test(in->block, in->length, task->table);
       break;
     case FIND:
-      outcome->answer = engine->find(in->block, in->length, &task->query, task->table, outcome->bytes);
+      outcome->answer = task->map_count == 0
+                            ? engine->find(in->block, in->length, &task->query, task->table, outcome->bytes)
+                            : library_find_by_maps(in->block, in->length, task->maps, task->maps_length, &task->query,
+                                                   task->table, outcome->bytes);
       break;
   }
 }
@@ -116,6 +129,18 @@ static void compare(const struct task *task, unsigned e, const struct outcome *o
   const char *part = difference(outcome, expected);
   if (!part) return;
   fprintf(stderr, "bench: '%s' and '%s' differ (%s) in: %s, %s\n", engines[0]->name, engines[e]->name, part,
+          task->heading, task->name);
+  exit(1);
+}
+
+/* Ends the run where the outcome by several maps is another than that by one, but for the visits. */
+static void compare_with_one_map(const struct task *task, const struct outcome *outcome, const struct outcome *by_one) {
+  static struct outcome changed;
+  changed = *outcome;
+  changed.answer.visits = by_one->answer.visits;
+  const char *part = difference(&changed, by_one);
+  if (!part && outcome->answer.status == FOUND) return;
+  fprintf(stderr, "bench: %u maps and one map differ (%s) in: %s, %s\n", task->map_count, part ? part : "no plan",
           task->heading, task->name);
   exit(1);
 }
@@ -153,11 +178,29 @@ static void prepare(void) {
   static struct outcome outcome;
   for (unsigned t = 0; t < task_count; t++) {
     for (unsigned e = 0; e < ENGINES; e++) {
-      if (!can_perform(engines[e], tasks[t].action)) continue;
+      if (!can_perform(engines[e], &tasks[t])) continue;
       tasks[t].repetitions[e] = count_repetitions(&tasks[t], e, &outcome);
       if (e == 0) expected[t] = outcome;
       compare(&tasks[t], e, &outcome, &expected[t]);
     }
+  }
+}
+
+/* The searches by several maps have the plan of that of the same exercise by one map, which stands before them; the
+ * tuned engine searches that one too. */
+static void compare_by_maps(void) {
+  static struct outcome outcome;
+  for (unsigned t = 0, one = 0; t < task_count; t++) {
+    const struct task *task = &tasks[t];
+    if (task->map_count == 0) continue;
+    if (task->map_count == 1) {
+      one = t;
+      clear(&outcome);
+      const struct input *in = &task->input;
+      outcome.answer = tuned_engine.find(in->block, in->length, &task->query, task->table, outcome.bytes);
+      compare(task, TUNED, &outcome, &expected[t]);
+    }
+    compare_with_one_map(task, &expected[t], &expected[one]);
   }
 }
 
@@ -167,7 +210,7 @@ static void run_round(unsigned round) {
   for (unsigned t = 0; t < task_count; t++) {
     for (unsigned k = 0; k < ENGINES; k++) {
       unsigned e = round % 2 ? ENGINES - 1 - k : k;
-      if (!can_perform(engines[e], tasks[t].action)) continue;
+      if (!can_perform(engines[e], &tasks[t])) continue;
       tasks[t].seconds[e][round] = time_calls(&tasks[t], e, tasks[t].repetitions[e], &outcome);
       compare(&tasks[t], e, &outcome, &expected[t]);
     }
@@ -208,7 +251,7 @@ static struct task *add_task(const char *heading, const char *name, enum action 
 static void fill_table(struct task *task) {
   static struct outcome first, outcome;
   for (unsigned e = 0; e < ENGINES; e++) {
-    if (!can_perform(engines[e], FILL)) continue;
+    if (!has_call(engines[e], FILL)) continue;
     clear(&outcome);
     engines[e]->fill(task->input.block, task->input.length, outcome.table);
     if (e == 0) first = outcome;
@@ -222,6 +265,21 @@ static void add_searches(void) {
     struct task *task = add_task("search, ns per visit", search_inputs[k].title, FIND);
     search_inputs[k].make(&task->input, &task->query);
     fill_table(task);
+  }
+}
+
+/* The searches by one map, by two and by four. The library fills all tables, and the others the first one too. */
+static void add_searches_by_maps(void) {
+  static const unsigned counts[] = {1, 2, 4};
+  for (unsigned k = 0; k < SEARCHES; k++) {
+    for (unsigned c = 0; c < sizeof counts / sizeof *counts; c++) {
+      struct task *task = add_task("search by maps", search_inputs[k].title, FIND);
+      task->map_count = counts[c];
+      task->maps = search_inputs[k].further_maps;
+      task->maps_length = make_for_maps(&search_inputs[k], counts[c], &task->input, &task->query);
+      fill_table(task);
+      library_fill_by_maps(task->input.block, task->input.length, task->maps, task->maps_length, task->table);
+    }
   }
 }
 
@@ -262,7 +320,7 @@ static int ratio_width(unsigned e) { return (int)(strlen(engines[0]->name) + 1 +
 
 /* A task's column of times or ratios; an engine that is left out has a dash. */
 static void print_time(const struct task *task, unsigned e, unsigned rounds, double unit) {
-  if (can_perform(engines[e], task->action)) {
+  if (can_perform(engines[e], task)) {
     printf(" %10.2f", median(task->seconds[e], rounds) / unit);
   } else {
     printf(" %10s", "-");
@@ -270,7 +328,7 @@ static void print_time(const struct task *task, unsigned e, unsigned rounds, dou
 }
 
 static void print_ratio(const struct task *task, unsigned e, unsigned rounds) {
-  if (can_perform(engines[e], task->action)) {
+  if (can_perform(engines[e], task)) {
     printf(" %*.2f", ratio_width(e), median_ratio(task, e, rounds));
   } else {
     printf(" %*s", ratio_width(e), "-");
@@ -293,9 +351,22 @@ static void print_tasks(unsigned rounds) {
   for (unsigned e = 1; e < ENGINES; e++) printf(" %s/%s", engines[0]->name, engines[e]->name);
   printf("\n");
   for (unsigned t = 0; t < task_count; t++) {
+    if (tasks[t].map_count > 0) continue;
     if (strcmp(heading, tasks[t].heading) != 0) printf("%s\n", tasks[t].heading);
     heading = tasks[t].heading;
     print_task(&tasks[t], &expected[t], rounds);
+  }
+}
+
+/* The library's searches by maps: all time is that of the call, with the test of all tables. */
+static void print_by_maps(unsigned rounds) {
+  printf("%-20s %10s %10s %12s %10s\n", "search by maps", "maps", "visits", "ns per visit", "ms in all");
+  for (unsigned t = 0; t < task_count; t++) {
+    if (tasks[t].map_count == 0) continue;
+    double seconds = median(tasks[t].seconds[0], rounds);
+    uint32_t visits = expected[t].answer.visits;
+    printf("  %-18s %10u %10u %12.2f %10.3f\n", tasks[t].name, tasks[t].map_count, visits, seconds / visits * 1e9,
+           seconds * 1e3);
   }
 }
 
@@ -318,11 +389,14 @@ int main(int arguments, char **argument) {
   add_fills();
   add_tests();
   add_openings();
+  add_searches_by_maps();
   prepare();
+  compare_by_maps();
   for (unsigned round = 0; round < rounds; round++) {
     fprintf(stderr, "round %u of %u\n", round + 1, rounds);
     run_round(round);
   }
   print_tasks(rounds);
+  print_by_maps(rounds);
   return 0;
 }

@@ -59,6 +59,13 @@ struct engine {
                         uint8_t *plan);
 };
 
+/* The library's fill and search with further maps, which the other engines do not have: each map is K and a byte for
+ * each label, and there is none where the length is 0. The table has MOST_ENTRIES entries. */
+void library_fill_by_maps(const uint8_t *block, size_t length, const uint8_t *maps, size_t maps_length,
+                          uint32_t *table);
+struct answer library_find_by_maps(const uint8_t *block, size_t length, const uint8_t *maps, size_t maps_length,
+                                   const struct query *query, const uint32_t *table, uint8_t *plan);
+
 extern const struct engine library_engine;
 extern const struct engine plain_engine;
 extern const struct engine tuned_engine;

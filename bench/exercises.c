@@ -159,10 +159,46 @@ static void make_many_rules(struct input *input, struct query *query) {
   query->visits = 1000000;
 }
 
-const struct search_input search_inputs[SEARCHES] = {{"tiles", "tiles", make_tiles},
-                                                     {"pancake", "pancake", make_pancake},
-                                                     {"slots", "slots", make_slots},
-                                                     {"many_rules", "64 rules", make_many_rules}};
+/* ---- further maps for the searches: each has as many abstract labels as the exercise's own ---- */
+
+/* Low tiles from high ones, and two more halves. */
+static const uint8_t tiles_maps[] = {2, 0, 0, 0, 0, 0, 1, 1, 1, 1,  //
+                                     2, 0, 0, 1, 1, 0, 0, 1, 1, 0,  //
+                                     2, 0, 0, 0, 1, 1, 0, 0, 1, 1};
+
+/* Odd pancakes from even ones, pairs by turns, those in the middle from the others. */
+static const uint8_t pancake_maps[] = {2, 0, 1, 0, 1, 0, 1, 0, 1, 0, 1, 0,  //
+                                       2, 0, 0, 1, 1, 0, 0, 1, 1, 0, 0, 1,  //
+                                       2, 0, 0, 0, 1, 1, 1, 1, 1, 0, 0, 0};
+
+/* With four abstract labels the table of the slots is as large as can be: here it has three. */
+static const uint8_t slots_smaller_map[] = {3, 0, 1, 1, 2, 2, 2};
+static const uint8_t slots_maps[] = {3, 0, 1, 2, 0, 1, 2,  //
+                                     3, 0, 1, 2, 2, 1, 1,  //
+                                     3, 0, 1, 2, 1, 1, 2};
+
+/* Low labels from high ones, and two more halves. All four tables together are as large as can be. */
+static const uint8_t many_rules_maps[] = {2, 0, 0, 0, 0, 1, 1, 1,  //
+                                          2, 0, 0, 1, 1, 0, 0, 1,  //
+                                          2, 0, 1, 1, 0, 0, 1, 1};
+
+const struct search_input search_inputs[SEARCHES] = {
+    {"tiles", "tiles", make_tiles, tiles_maps, NULL},
+    {"pancake", "pancake", make_pancake, pancake_maps, NULL},
+    {"slots", "slots", make_slots, slots_maps, slots_smaller_map},
+    {"many_rules", "64 rules", make_many_rules, many_rules_maps, NULL},
+};
+
+size_t make_for_maps(const struct search_input *search, unsigned maps, struct input *input, struct query *query) {
+  search->make(input, query);
+  query->visits = MOST_VISITS;
+  unsigned labels = input->block[1];
+  if (search->smaller_map) {
+    input->block[2] = search->smaller_map[0];
+    memcpy(input->block + HEAD_LENGTH, search->smaller_map + 1, labels);
+  }
+  return (maps - 1) * (1 + labels);
+}
 
 const struct search_input *search_named(const char *name) {
   for (unsigned k = 0; k < SEARCHES; k++) {

@@ -22,14 +22,22 @@ struct search_input {
   const char *name;
   const char *title;
   void (*make)(struct input *input, struct query *query);
+  /* Three further maps, each K and a byte for each label; and the map, in the same form, that takes the place of the
+   * exercise's own where that leaves no room for them, or NULL. */
+  const uint8_t *further_maps;
+  const uint8_t *smaller_map;
 };
 
-enum { SEARCHES = 4 };
+enum { SEARCHES = 4, MOST_MAPS = 4 };
 
 extern const struct search_input search_inputs[SEARCHES];
 
 /* The one with this name, or NULL. */
 const struct search_input *search_named(const char *name);
+
+/* The exercise of a search for one to four maps, its own included, and the bytes of the further ones. Visits are enough
+ * for the plan to be found. */
+size_t make_for_maps(const struct search_input *search, unsigned maps, struct input *input, struct query *query);
 
 /* For tables, all of 16,384 entries. */
 void make_counter(struct input *input, bool reversed);

@@ -27,7 +27,8 @@ extern "C" {
 
 #define MIKJUQAN_POSITIONS 16        /* labels of a state */
 #define MIKJUQAN_BLOCK_LENGTH 2261   /* bytes of a block, also of a relabelled one and of one read from text */
-#define MIKJUQAN_TABLE_LENGTH 16384  /* entries of a table */
+#define MIKJUQAN_MAPS_LENGTH 51      /* bytes of further maps */
+#define MIKJUQAN_TABLE_LENGTH 16384  /* entries of a table, and of all tables together */
 #define MIKJUQAN_PLAN_LENGTH 64      /* bytes of a plan, and the largest step limit */
 #define MIKJUQAN_LIST_LENGTH 4096    /* the longest list that is replayed */
 
@@ -38,8 +39,9 @@ extern "C" {
 #define MIKJUQAN_NO_GOAL 255
 
 /* ---- refusals ----
- * The lowest number wins, except in mikjuqan_read_exercise, whose order is 1, 2 (head line), 3, 2 (others), 11, 5, 6,
- * 7. Each comment begins with the number, in decimal and as the two digits that the program `par` prints. */
+ * The lowest number wins, but 14 and 15 come behind 7 and before 8; the order of mikjuqan_read_exercise is 1, 2 (head
+ * line), 3, 2 (others), 11, 5, 6, 7. Each comment begins with the number, in decimal and as the two digits that the
+ * program `par` prints. */
 
 enum {
   MIKJUQAN_ACCEPTED = 0,
@@ -56,8 +58,13 @@ enum {
   MIKJUQAN_REFUSED_RULE = 9,         /* 9 = 09: a rule number is not below R, also behind a rule that is stuck */
   MIKJUQAN_REFUSED_LIMIT = 10,       /* 10 = 0A: the step limit is over 64, or a list of rules over 4,096 */
   MIKJUQAN_REFUSED_BUFFER = 11,      /* 11 = 0B: the buffer is shorter than what may be written */
-  MIKJUQAN_REFUSED_TABLE_SHORT = 12, /* 12 = 0C: the table has fewer entries than there are abstract states */
-  MIKJUQAN_REFUSED_TABLE_FAILS = 13  /* 13 = 0D: the table fails the lower-bound test */
+  MIKJUQAN_REFUSED_TABLE_SHORT = 12, /* 12 = 0C: the table has fewer entries than there are abstract states, those of
+                                        all maps together */
+  MIKJUQAN_REFUSED_TABLE_FAILS = 13, /* 13 = 0D: the table fails the lower-bound test, or one of several does */
+  MIKJUQAN_REFUSED_MAPS = 14,        /* 14 = 0E: there are more than three further maps, or their bytes are not K and
+                                        L bytes for each */
+  MIKJUQAN_REFUSED_MAP_RANGE = 15    /* 15 = 0F: the K of a further map is not 1 to L, a byte of it is not below its
+                                        K, or all tables together have more than 16,384 entries */
 };
 
 /* What a number in `refusal` says, as a sentence without its full stop. The text lasts as long as the program. */
@@ -77,6 +84,8 @@ static inline const char *mikjuqan_refusal_text(uint32_t refusal) {
     case MIKJUQAN_REFUSED_BUFFER: return "the buffer is too short";
     case MIKJUQAN_REFUSED_TABLE_SHORT: return "the table is too short";
     case MIKJUQAN_REFUSED_TABLE_FAILS: return "the table fails the lower-bound test";
+    case MIKJUQAN_REFUSED_MAPS: return "there are more than three further maps, or a part of one";
+    case MIKJUQAN_REFUSED_MAP_RANGE: return "a further map is out of range, or the tables have too many entries";
     default: return "no refusal has this number";
   }
 }
@@ -95,7 +104,7 @@ typedef struct {
   size_t bytes;
 } mikjuqan_length;
 
-/* An entry of a table; MIKJUQAN_NO_PATH is one. */
+/* An estimate, which is an entry of a table; MIKJUQAN_NO_PATH is one. */
 typedef struct {
   uint32_t refusal;
   uint32_t entry;
@@ -190,18 +199,28 @@ mikjuqan_replay mikjuqan_replay_run(const uint8_t *block, size_t block_length, c
                                     size_t start_length, const uint8_t *list, size_t list_length, uint8_t *out,
                                     size_t out_length);
 
-/* ---- tables: K to the power n entries, one for each rank; those behind do not count and are not written ---- */
+/* ---- tables ----
+ * A table has K to the power n entries, one for each rank. Each call below may be lent up to three further maps beside
+ * the block's own; NULL and 0 lend none. A further map is a byte, its own K, and L map bytes, each below that K; the
+ * next one stands directly behind. Each map has a table: that of the block's own map stands first in `table`, and those
+ * of the further maps behind it, in their order. All together have at most MIKJUQAN_TABLE_LENGTH entries; those behind
+ * the last table do not count and are not written. The estimate of a state is the largest of its entries, of which
+ * MIKJUQAN_NO_PATH is above all. */
 
-/* Fills the table with the least costs: 0, or refused with 3 to 7, 12. Needs at most 235 KiB of stack. */
-uint32_t mikjuqan_fill_table(const uint8_t *block, size_t block_length, uint32_t *table, size_t table_length);
+/* Fills all tables with the least costs, each under its own map: 0, or refused with 3 to 7, 14, 15, 12. Needs at most
+ * 235 KiB of stack. */
+uint32_t mikjuqan_fill_table(const uint8_t *block, size_t block_length, const uint8_t *maps, size_t maps_length,
+                             uint32_t *table, size_t table_length);
 
-/* Yes where the table passes the lower-bound test. Refused with 3 to 7, 12. Needs at most 96 KiB of stack. */
-mikjuqan_decision mikjuqan_test_table(const uint8_t *block, size_t block_length, const uint32_t *table,
-                                      size_t table_length);
+/* Yes where each table passes the lower-bound test, under its own map. Refused with 3 to 7, 14, 15, 12. Needs at most
+ * 96 KiB of stack. */
+mikjuqan_decision mikjuqan_test_table(const uint8_t *block, size_t block_length, const uint8_t *maps,
+                                      size_t maps_length, const uint32_t *table, size_t table_length);
 
-/* The estimate of a state; the table is not tested. Refused with 3 to 7, 8, 12. */
-mikjuqan_entry mikjuqan_look_up_estimate(const uint8_t *block, size_t block_length, const uint8_t *state,
-                                         size_t state_length, const uint32_t *table, size_t table_length);
+/* The estimate of a state; the tables are not tested. Refused with 3 to 7, 14, 15, 8, 12. */
+mikjuqan_entry mikjuqan_look_up_estimate(const uint8_t *block, size_t block_length, const uint8_t *maps,
+                                         size_t maps_length, const uint8_t *state, size_t state_length,
+                                         const uint32_t *table, size_t table_length);
 
 /* ---- the search ---- */
 
@@ -213,12 +232,13 @@ typedef struct {
   uint32_t visits;
 } mikjuqan_limits;
 
-/* Finds a cheapest plan from a start within the limits, by any table that passes the test. A plan that is found is
- * written, one rule number a byte; `plan` has room for `limits.steps` bytes, also where the plan is shorter. Refused
- * with 3 to 7, 8, 10, 11, 12, 13. Needs at most 256 KiB of stack. */
-mikjuqan_search mikjuqan_find_plan(const uint8_t *block, size_t block_length, const uint8_t *start,
-                                   size_t start_length, mikjuqan_limits limits, const uint32_t *table,
-                                   size_t table_length, uint8_t *plan, size_t plan_length);
+/* Finds a cheapest plan from a start within the limits, by any tables that pass the test; further maps and their
+ * tables are lent as above. A plan that is found is written, one rule number a byte; `plan` has room for `limits.steps`
+ * bytes, also where the plan is shorter. Refused with 3 to 7, 14, 15, 8, 10, 11, 12, 13. Needs at most 320 KiB of
+ * stack. */
+mikjuqan_search mikjuqan_find_plan(const uint8_t *block, size_t block_length, const uint8_t *maps, size_t maps_length,
+                                   const uint8_t *start, size_t start_length, mikjuqan_limits limits,
+                                   const uint32_t *table, size_t table_length, uint8_t *plan, size_t plan_length);
 
 #ifdef __cplusplus
 }

@@ -1,5 +1,5 @@
 """An independent reading of the language: blocks, states, matching, applying, goals, relabelling, stepping back,
-reversible rules, replay, tables, search, exercises as text, and what the program `par` prints.
+reversible rules, replay, further maps, tables, search, exercises as text, and what the program `par` prints.
 
 It shares nothing with the crates, nor with the model in Rust. The worked exercises (worked.py) and the samples
 (samples.py) are made from it.
@@ -15,6 +15,10 @@ MARK = 2**32 - 1
 # What stands for a goal's number where no goal is met.
 NO_GOAL = 0xFF
 
+# The most entries that all tables have together, and the most maps that are lent beside the block's own.
+MOST_ENTRIES = 16384
+MOST_MAPS = 3
+
 
 class Refused(Exception):
     def __init__(self, number):
@@ -29,7 +33,7 @@ def frame_lengths(block):
     n, labels, abstracts, rules, goals = block[:5]
     if not (1 <= n <= 16 and 1 <= labels <= 16 and 1 <= abstracts <= labels):
         raise Refused(3)
-    if rules > 64 or not 1 <= goals <= 8 or abstracts**n > 16384:
+    if rules > 64 or not 1 <= goals <= 8 or abstracts**n > MOST_ENTRIES:
         raise Refused(3)
     return [5, labels] + [1 + 2 * n] * rules + [n] * goals
 
@@ -333,19 +337,63 @@ def exercise_of(block):
     return Exercise(block)
 
 
-@functools.lru_cache(maxsize=2)
+@functools.lru_cache(maxsize=8)
 def abstraction(block):
     return Abstraction(Exercise(block))
 
 
-def accepted_abstraction(block, state, table):
-    """The abstraction of a block, with the state (None: there is none) and the length of the table accepted too."""
-    exercise = Exercise(block)
-    if state is not None:
-        exercise.state(state)
-    if len(table) < exercise.abstracts**exercise.n:
-        raise Refused(12)
-    return abstraction(tuple(block))
+def remapped(block, record):
+    """A block with other abstract labels: those of a further map, which is K and a byte for each label."""
+    (n, labels, _, *counts), abstracts, mapped = block[:5], record[0], record[1:]
+    return [n, labels, abstracts, *counts, *mapped, *block[5 + labels :]]
+
+
+def accepted_maps(block, maps):
+    """The further maps that are lent with a block that is accepted, as records of K and a byte for each label."""
+    n, labels, abstracts = block[:3]
+    width = 1 + labels
+    records = [list(maps[at : at + width]) for at in range(0, len(maps), width)]
+    if len(records) > MOST_MAPS or any(len(record) != width for record in records):
+        raise Refused(14)
+    if any(not 1 <= k <= labels or any(byte >= k for byte in mapped) for k, *mapped in records):
+        raise Refused(15)
+    if sum(k**n for k in [abstracts, *(record[0] for record in records)]) > MOST_ENTRIES:
+        raise Refused(15)
+    return records
+
+
+class Tables:
+    """The abstractions of an exercise, that of its own map first, then one for each further map. Their tables stand
+    behind one another in one slice, and what is behind the last does not count."""
+
+    def __init__(self, block, maps):
+        exercise_of(tuple(block))
+        self.blocks = [block, *(remapped(block, record) for record in accepted_maps(block, maps))]
+        self.ends = list(itertools.accumulate(abstracts**n for n, _, abstracts, *_ in self.blocks))
+
+    @functools.cached_property
+    def abstractions(self):
+        return [abstraction(tuple(block)) for block in self.blocks]
+
+    def accept(self, table):
+        if len(table) < self.ends[-1]:
+            raise Refused(12)
+
+    def pairs(self, table):
+        """Each abstraction with its own part of the slice."""
+        starts = [0, *self.ends]
+        return [(each, table[start:end]) for each, start, end in zip(self.abstractions, starts, self.ends)]
+
+    def least_costs(self):
+        return [entry for each in self.abstractions for entry in each.least_costs()]
+
+    def passes(self, table):
+        return all(each.passes(part) for each, part in self.pairs(table))
+
+    def estimates(self, table):
+        """The estimate of a state, as a function: the largest of its entries. The mark is the largest number."""
+        pairs = self.pairs(table)
+        return functools.cache(lambda state: max(each.estimate(state, part) for each, part in pairs))
 
 
 def written(new, out):
@@ -441,48 +489,55 @@ def replay(block, start, numbers, out):
         return r.number, list(out)
 
 
-def fill_table(block, table):
+def fill_table(block, maps, table):
     """The answer and the contents of the table afterwards."""
     try:
-        return 'filled', written(accepted_abstraction(block, None, table).least_costs(), table)
+        tables = Tables(block, maps)
+        tables.accept(table)
+        return 'filled', written(tables.least_costs(), table)
     except Refused as r:
         return r.number, list(table)
 
 
-def test_table(block, table):
+def test_table(block, maps, table):
     try:
-        return accepted_abstraction(block, None, table).passes(table)
+        tables = Tables(block, maps)
+        tables.accept(table)
+        return tables.passes(table)
     except Refused as r:
         return r.number
 
 
-def find_plan(block, start, steps, limit, allowance, table, plan):
+def look_up(block, maps, state, table):
+    """The answer, ('entry', the estimate) or a number."""
+    try:
+        tables = Tables(block, maps)
+        given = exercise_of(tuple(block)).state(state)
+        tables.accept(table)
+        return 'entry', tables.estimates(table)(tuple(given))
+    except Refused as r:
+        return r.number
+
+
+def find_plan(block, maps, start, steps, limit, allowance, table, plan):
     """The answer, (status, steps, cost, visits), with the goal behind that where a plan is found, or a number, and the
     contents of the buffer afterwards."""
     try:
-        exercise = exercise_of(tuple(block))
+        tables, exercise = Tables(block, maps), exercise_of(tuple(block))
         first = tuple(exercise.state(start))
         if steps > 64:
             raise Refused(10)
         if len(plan) < steps:
             raise Refused(11)
-        ranks = accepted_abstraction(block, start, table)
-        if not ranks.passes(table):
+        tables.accept(table)
+        if not tables.passes(table):
             raise Refused(13)
-        rounds = Rounds(exercise, first, steps, allowance, functools.cache(lambda state: ranks.estimate(state, table)))
+        rounds = Rounds(exercise, first, steps, allowance, tables.estimates(table))
         status, found = rounds.run(limit)
         rules, cost, *goal = found or ([], 0)
         return (status, len(rules), cost, rounds.visits, *goal), written(rules, plan)
     except Refused as r:
         return r.number, list(plan)
-
-
-def look_up(block, state, table):
-    """The answer, ('entry', the entry) or a number."""
-    try:
-        return 'entry', accepted_abstraction(block, state, table).estimate(state, table)
-    except Refused as r:
-        return r.number
 
 
 def lines_of(text):
@@ -538,7 +593,7 @@ def answer_query(block, table, line):
         if len(query) != n + 9:
             raise Refused(2)
         limit, allowance = (int.from_bytes(query[at : at + 4], 'big') for at in (n + 1, n + 5))
-        found, plan = find_plan(block, query[:n], query[n], limit, allowance, table, [0] * 64)
+        found, plan = find_plan(block, [], query[:n], query[n], limit, allowance, table, [0] * 64)
         if not isinstance(found, tuple):
             raise Refused(found)
         status, steps, cost, visits, *goal = found

@@ -6,10 +6,11 @@ worked.py NAME prints them; its output is kept as tests/vectors/NAME.txt. A line
 
     CALL ARGUMENT .. = ANSWER [BUFFER]
 
-where BUFFER is what the buffer, the last argument, holds afterwards. Bytes are pairs of hexadecimal digits, parts of
-them joined by '+', PAIR*COUNT for a run; entries of a table are decimal numbers joined by ',', ENTRY*COUNT for a run;
-'-' stands for none. Lines with '#' say what follows. worked.py fill_order_input prints what the program fill_order
-reads, worked.py fill_order what it must print.
+where BUFFER is what the buffer, the last argument, holds afterwards, and arguments stand in the order of the calls:
+block, further maps where the call takes some, subject, limits, table, buffer. Bytes are pairs of hexadecimal digits,
+parts of them joined by '+', PAIR*COUNT for a run; entries of a table are decimal numbers joined by ',', ENTRY*COUNT
+for a run; '-' stands for none. Lines with '#' say what follows. worked.py fill_order_input prints what the program
+fill_order reads, worked.py fill_order what it must print, worked.py two_maps what the samples two_maps must print.
 """
 import functools
 import itertools
@@ -97,18 +98,41 @@ def replay(block, start, rules, out):
     return line('replay_run', arguments, answer, packed_bytes(after)), after
 
 
-def fill_table(block, table):
-    answer, after = reference.fill_table(block, table)
-    return line('fill_table', [packed_bytes(block), packed_entries(table)], answer, packed_entries(after)), after
+def variants(block, maps, table):
+    """The exercise under its own map and under each further one, as blocks, each with its part of the table: calls with
+    these and without further maps are another way to what calls with maps must give."""
+    width, rest, found = 1 + block[1], list(table), []
+    for record in [block[2:3] + block[5 : 4 + width]] + [maps[at : at + width] for at in range(0, len(maps), width)]:
+        variant = reference.remapped(block, record)
+        size = record[0] ** block[0]
+        found.append((variant, rest[:size]))
+        rest = rest[size:]
+    return found
 
 
-def test_table(block, table):
-    return line('test_table', [packed_bytes(block), packed_entries(table)], reference.test_table(block, table))
+def fill_table(block, table, maps=()):
+    answer, after = reference.fill_table(block, maps, table)
+    if maps and answer == 'filled':
+        singles = [reference.fill_table(variant, [], part)[1] for variant, part in variants(block, maps, table)]
+        assert after[: len(sum(singles, []))] == sum(singles, [])
+    arguments = [packed_bytes(block), packed_bytes(maps), packed_entries(table)]
+    return line('fill_table', arguments, answer, packed_entries(after)), after
 
 
-def look_up(block, state, table):
-    arguments = [packed_bytes(block), packed_bytes(state), packed_entries(table)]
-    return line('look_up_estimate', arguments, reference.look_up(block, state, table))
+def test_table(block, table, maps=()):
+    answer = reference.test_table(block, maps, table)
+    if maps and isinstance(answer, bool):
+        assert answer == all(reference.test_table(variant, [], part) for variant, part in variants(block, maps, table))
+    return line('test_table', [packed_bytes(block), packed_bytes(maps), packed_entries(table)], answer)
+
+
+def look_up(block, state, table, maps=()):
+    answer = reference.look_up(block, maps, state, table)
+    if maps and isinstance(answer, tuple):
+        singles = [reference.look_up(variant, [], state, part) for variant, part in variants(block, maps, table)]
+        assert answer == max(singles)
+    arguments = [packed_bytes(block), packed_bytes(maps), packed_bytes(state), packed_entries(table)]
+    return line('look_up_estimate', arguments, answer)
 
 
 def read_exercise(text, out):
@@ -363,7 +387,7 @@ UNWRITTEN = 0xAAAAAAAA
 
 # Input E's table, as the document prints it.
 E_TABLE = [reference.MARK if entry == 'M' else int(entry) for entry in 'M M M 2 M 1 0 M'.split()]
-assert reference.fill_table(E, [UNWRITTEN] * 8) == ('filled', E_TABLE)
+assert reference.fill_table(E, [], [UNWRITTEN] * 8) == ('filled', E_TABLE)
 
 
 def fill_and_test(block):
@@ -466,15 +490,15 @@ def listing(block, start, steps):
     return reference.Listing(reference.exercise_of(block), start, steps)
 
 
-def find_plan(block, start, steps, limit, allowance, table, plan):
+def find_plan(block, start, steps, limit, allowance, table, plan, maps=()):
     """The search by its rounds, told, and compared with the listing of all open lists, which has no rounds, and whose
     plan has no table. A plan that is replayed has the same cost and goal."""
-    value, out = reference.find_plan(block, start, steps, limit, allowance, table, plan)
+    value, out = reference.find_plan(block, maps, start, steps, limit, allowance, table, plan)
     if isinstance(value, tuple):
         status, length, cost, visits, *goal = value
         every = listing(tuple(block), tuple(start), steps)
-        ranks = reference.abstraction(tuple(block))
-        unbounded = every.visits(lambda state: ranks.estimate(state, table), limit)
+        single = [(reference.abstraction(tuple(variant)), part) for variant, part in variants(block, maps, table)]
+        unbounded = every.visits(lambda state: max(ranks.estimate(state, part) for ranks, part in single), limit)
         if status == 'spent':
             assert unbounded > allowance == visits and out == plan
         else:
@@ -484,12 +508,12 @@ def find_plan(block, start, steps, limit, allowance, table, plan):
             assert (out, cost) == (cheapest[0] + plan[len(cheapest[0]) :], cheapest[1])
         if status == 'found':
             assert reference.replay(block, start, out[:length], start)[0] == ('done', cost, *goal)
-    query = [packed_bytes(block), packed_bytes(start), steps, limit, allowance]
-    line('find_plan', [*query, packed_entries(table), packed_bytes(plan)], value, packed_bytes(out))
+    query = [packed_bytes(block), packed_bytes(maps), packed_bytes(start), steps, limit, allowance]
+    return line('find_plan', [*query, packed_entries(table), packed_bytes(plan)], value, packed_bytes(out))
 
 
-def search(block, start, steps, limit, allowance, table, room=12):
-    find_plan(block, start, steps, limit, allowance, table, [170] * room)
+def search(block, start, steps, limit, allowance, table, room=12, maps=()):
+    return find_plan(block, start, steps, limit, allowance, table, [170] * room, maps)
 
 
 def search_e(steps, limit, allowance, table=E_TABLE):
@@ -530,7 +554,7 @@ def searches_of_e():
 def search_twice(block, start, steps=6, limit=100):
     """On the filled table, and on zeros; both have at least six elements."""
     length = max(6, block[2] ** block[0])
-    for contents in (reference.fill_table(block, [UNWRITTEN] * length)[1], [0] * length):
+    for contents in (reference.fill_table(block, [], [UNWRITTEN] * length)[1], [0] * length):
         search(block, start, steps, limit, 100, contents)
 
 
@@ -583,7 +607,7 @@ def search_deep(contents, needed):
 
 def large_searches():
     title('64 steps of cost 255: into 70, 64 and 63 bytes; D = 65; D = 63; B = 16319; V too small')
-    search_deep(reference.fill_table(DEEP, [UNWRITTEN] * 128)[1], 65)
+    search_deep(reference.fill_table(DEEP, [], [UNWRITTEN] * 128)[1], 65)
     title('on zeros')
     search_deep([0] * 128, 2145)
     title('sixteen positions and labels, five steps: D = 12, D = 4, B = 14, V = 20')
@@ -1009,7 +1033,7 @@ def race(costs):
 
 def goals_of_searches():
     title('goal k is <k,1>: from <k,0>, <k,1> and <k,2>; then from <7,0> with D = 0, B = 1, V = 1')
-    table = reference.fill_table(EIGHT_GOALS, [UNWRITTEN] * 64)[1]
+    table = reference.fill_table(EIGHT_GOALS, [], [UNWRITTEN] * 64)[1]
     for k, last in itertools.product(range(8), range(3)):
         search(EIGHT_GOALS, [k, last], 4, 100, 100, table)
     for limits in [(0, 100, 100), (4, 1, 100), (4, 100, 1)]:
@@ -1095,6 +1119,343 @@ def random_small_block(random):
     return random_block(random, n, labels, abstracts, random.randint(0, 12), random.randint(1, 3))
 
 
+# Further maps for input E, each K and a byte for each label: another pair of labels counts as one, none does, a third
+# pair, all three; and its own map once more.
+E_MAPS = [[2, 0, 0, 1], [3, 0, 1, 2], [2, 0, 1, 0], [1, 0, 0, 0], [2, 0, 1, 1]]
+
+# What turns back a call that is lent maps, in the order in which it is looked for.
+ORDER = [3, 4, 5, 6, 7, 14, 15, 8, 10, 11, 12, 13]
+
+
+def joined(records):
+    return [byte for record in records for byte in record]
+
+
+def entries_of(block, maps):
+    """How many entries all tables have together."""
+    return sum(variant[2] ** variant[0] for variant, _ in variants(block, maps, []))
+
+
+def filled(block, maps=()):
+    """All tables behind one another, filled."""
+    return reference.fill_table(block, maps, [UNWRITTEN] * entries_of(block, maps))[1]
+
+
+def call_all(block, maps, state, table, refusal=None):
+    """The four calls that are lent maps. All are refused with the number, or none where there is no number."""
+    answers = [
+        fill_table(block, [UNWRITTEN] * len(table), maps)[0],
+        test_table(block, table, maps),
+        look_up(block, state, table, maps),
+        search(block, state, 5, 100, 100, table, 6, maps),
+    ]
+    refusals = [answer for answer in answers if isinstance(answer, int) and not isinstance(answer, bool)]
+    assert refusals == ([] if refusal is None else [refusal] * 4), (answers, refusal)
+
+
+def maps_of_e():
+    title('input E with none to five further maps: the four calls by what is filled, and two elements behind it')
+    for count in range(6):
+        maps = joined(E_MAPS[:count])
+        table = filled(E, maps if count <= 3 else [])
+        call_all(E, maps, [1, 2, 0], [*table, 0, 0], 14 if count > 3 else None)
+    title('each choice of at most three of five maps, in each order: the fill into 60 elements, and the search by it')
+    for count in range(4):
+        for records in itertools.permutations(E_MAPS, count):
+            _, table = fill_table(E, [UNWRITTEN] * 60, joined(records))
+            search(E, [1, 2, 0], 8, 100, 100, table, 12, joined(records))
+    title('each of them twice, three times: the fill into 120 elements, and the search by it')
+    for count, record in itertools.product((2, 3), E_MAPS):
+        _, table = fill_table(E, [UNWRITTEN] * 120, record * count)
+        search(E, [1, 2, 0], 8, 100, 100, table, 12, record * count)
+
+
+def lengths_of_maps():
+    def lend(block, state, maps, lengths):
+        width = 1 + block[1]
+        for length in lengths:
+            is_accepted = length % width == 0 and length <= 3 * width
+            call_all(block, maps[:length], state, [0] * 60, None if is_accepted else 14)
+
+    title('input E: the first 0 to 18 bytes of further maps')
+    lend(E, [1, 2, 0], joined(E_MAPS), range(19))
+    title('one label: the first 0 to 9 bytes')
+    lend(block_of(2, 1, [(1, 'A-', '0-')]), [0, 0], [1, 0] * 5, range(10))
+    title('sixteen labels: none; a byte; a byte less than one to four maps have, as many, one more')
+    sixteen = block_of(1, 16, [(1, '0', 'f'), (2, 'f', '7')], ['7'])
+    around = [0, 1, *(17 * count + more for count in range(1, 5) for more in (-1, 0, 1))]
+    lend(sixteen, [0], [12, *range(12), 0, 1, 2, 3] * 5, around)
+    title('input E: as many bytes as 256, 257, 65536 and 65537 maps have')
+    for length in (1024, 1028, 262144, 262148):
+        call_all(E, [0] * length, [1, 2, 0], [0] * 8, 14)
+
+
+def numbers_in_maps():
+    def lend(block, place, record, refusal):
+        """The map at a place among three, the others being good."""
+        maps = [[2] + [0, 1] * (block[1] // 2) + [0] * (block[1] % 2)] * 3
+        maps[place] = record
+        call_all(block, joined(maps), [0] * block[0], [0] * 80, refusal)
+
+    title('input E: K of the first, second, third map is 0, 1, 2, 3, 4, 5, 16, 17, 127, 128, 255')
+    for place, k in itertools.product(range(3), [*range(6), 16, 17, 127, 128, 255]):
+        lend(E, place, [k, 0, 0, 0], None if 1 <= k <= 3 else 15)
+    title('sixteen labels: K of the first, second, third map is 0, 1, 15, 16, 17')
+    for place, k in itertools.product(range(3), (0, 1, 15, 16, 17)):
+        lend(block_of(1, 16, [(1, '0', 'f')], ['7']), place, [k] + [0] * 16, None if 1 <= k <= 16 else 15)
+    title('input E: each byte of the first, second, third map, whose K is 2, is 0, 1, 2, 3, 15, 16, 127, 128, 255')
+    for place, at, byte in itertools.product(range(3), range(1, 4), [*range(4), 15, 16, 127, 128, 255]):
+        maps = [[2, 0, 1, 0] for _ in range(3)]
+        maps[place][at] = byte
+        assert test_table(E, [0] * 32, joined(maps)) == (True if byte < 2 else 15)
+    title("each byte of a map: 1, which is below the block's K, where K is 1; 2, which is not, where K is 3")
+    for at, (k, byte, refusal) in itertools.product(range(3), [(1, 1, 15), (3, 2, None)]):
+        lend(E, 0, [k, *(byte if label == at else 0 for label in range(3))], refusal)
+    title("each byte of a map: 2, which is below the block's K, where K is 2; then where K is 3")
+    for at, (k, refusal) in itertools.product(range(3), [(2, 15), (3, None)]):
+        lend(reference.remapped(E, E_MAPS[1]), 0, [k, *(2 if label == at else 0 for label in range(3))], refusal)
+
+
+# Positions, then the K of each map, the block's own first: with 16,384 entries together or somewhat fewer, and with
+# more. 65,536 entries are none in 16 bits, and 16 to the power 16 are none in 64.
+WITHIN = ['14 2', '13 2 2', '12 2 2 2 2', '3 16 16 16 16', '6 5 3', '6 5 3 1 1', '4 11 6 4 3', '5 6 6 3 3']
+WITHIN += ['16 1 1 1 1']
+ABOVE = ['14 2 1', '14 1 2', '13 2 2 1', '13 1 2 2', '12 2 2 2 3', '7 4 1', '7 1 4', '6 5 4', '6 5 3 2', '4 11 6 4 4']
+ABOVE += ['5 6 6 4', '8 3 3 3', '4 11 7', '9 1 3', '15 1 2', '7 4 4 4 4', '14 2 2 2 2', '16 1 2', '16 1 2 2 2']
+ABOVE += ['16 1 4', '8 1 16', '16 1 8', '16 1 16', '16 1 16 16 16', '16 1 1 1 16']
+
+
+def large_maps():
+    def exercise(text):
+        """An exercise without rules, its further maps, and how many entries there are together. All labels count as
+        one, and the others are not used."""
+        n, own, *further = map(int, text.split())
+        labels = max(own, *further, 2)
+        maps = joined([k] + [0] * labels for k in further)
+        return [n, labels, own, 0, 1] + [0] * (labels + n), maps, sum(k**n for k in (own, *further))
+
+    for text in WITHIN:
+        block, maps, entries = exercise(text)
+        title(f'positions, then the K of each map: {text}: no table; one entry fewer than needed; as many; one more')
+        assert entries == entries_of(block, maps) <= reference.MOST_ENTRIES
+        for length in (0, entries - 1, entries, entries + 1):
+            call_all(block, maps, [0] * block[0], [0] * length, 12 if length < entries else None)
+    for text in ABOVE:
+        block, maps, entries = exercise(text)
+        title(f'{text}: no table; 16,384 entries')
+        assert entries > reference.MOST_ENTRIES
+        for length in (0, reference.MOST_ENTRIES):
+            call_all(block, maps, [0] * block[0], [0] * length, 15)
+
+
+def tables_by_maps():
+    title('input E with one to three further maps: by 0, 7, 8, .. entries, up to one more than needed')
+    for count in range(1, 4):
+        maps = joined(E_MAPS[:count])
+        table = [*filled(E, maps), 0]
+        needed = len(table) - 1
+        for length in [0, 7, 8, 15, 16, 17, 42, 43, 44, 50, 51, 52]:
+            if length <= needed + 1:
+                call_all(E, maps, [1, 2, 0], table[:length], 12 if length < needed else None)
+    title('with one: the test with each entry raised, lowered, marked, 0 and large')
+    mark, table = reference.MARK, filled(E, E_MAPS[0])
+    for at, entry in enumerate(table):
+        for other in (min(entry + 1, mark), max(entry - 1, 0), mark, 0, mark - 1):
+            test_table(E, table[:at] + [other] + table[at + 1 :], E_MAPS[0])
+    title("with three: the goal's entry is 1 in every set of tables; all four calls")
+    maps = joined(E_MAPS[:3])
+    table = filled(E, maps)
+    goals = [place for place, entry in enumerate(table) if entry == 0]
+    for k in range(16):
+        failing = list(table)
+        for place in subset(k, goals):
+            failing[place] = 1
+        fill_table(E, failing, maps)
+        assert test_table(E, failing, maps) == (k == 0)
+        look_up(E, [2, 1, 0], failing, maps)
+        answer = search(E, [1, 2, 0], 5, 100, 100, failing, 6, maps)
+        assert (answer == 13) == (k > 0)
+    title('with two of as many entries: the tables of each order by each order of the maps')
+    orders = [joined(order) for order in itertools.permutations([E_MAPS[0], E_MAPS[2]])]
+    for lent, other in itertools.product(orders, orders):
+        assert test_table(E, filled(E, other), lent) == (lent == other)
+        search(E, [1, 2, 0], 5, 100, 100, filled(E, other), 6, lent)
+
+
+def estimates_by_maps():
+    title('input E with none to three further maps: the estimates of <0,0,0>, .., <2,2,2> by what is filled')
+    for count in range(4):
+        maps = joined(E_MAPS[:count])
+        for state in all_states(3, 3):
+            look_up(E, state, filled(E, maps), maps)
+    title('four tables that fail: of <1,2,0> each entry the largest; the mark in every set; nearly the mark in each')
+    maps, places = joined(E_MAPS[:3]), [6, 8 + 2, 16 + 15, 43 + 4]
+    values = [[5, 6, 7, 8], [6, 7, 8, 5], [7, 8, 5, 6], [8, 5, 6, 7], [0, 0, 0, 0], [3, 3, 3, 3]]
+    values += [[reference.MARK if k >> place & 1 else place for place in range(4)] for k in range(16)]
+    values += [[reference.MARK - 1 if place == at else 7 for place in range(4)] for at in range(4)]
+    for entries in values:
+        table = [9] * 51
+        for place, entry in zip(places, entries):
+            table[place] = entry
+        assert look_up(E, [1, 2, 0], table, maps) == ('entry', max(entries))
+
+
+# From <0> two ways lead on: to <4> and <5>, from where none leads to the goal, and to <1>, <2> and <3>, the goal.
+DEAD_END_WAYS = [(1, '0', '4'), (1, '4', '5'), (1, '5', '4'), (1, '0', '1'), (1, '1', '2'), (3, '2', '3')]
+DEAD_END = block_of(1, 6, DEAD_END_WAYS, ['3'])
+
+
+
+def moves(n, *steps):
+    """Rules by which what stands at a position moves to an empty one (label 0), to and fro, for each reach and cost."""
+    rules = []
+    for reach, cost in steps:
+        for i in range(n - reach):
+            before, between, behind = ('-' * count for count in (i, reach - 1, n - 1 - reach - i))
+            sides = [before + pair[0] + between + pair[1] + behind for pair in ('A0', '0A')]
+            rules += [(cost, *sides), (cost, *sides[::-1])]
+    return rules
+
+
+# Five slots and three boxes: a step to the next slot at cost 1, over one slot at cost 3. By its own map all boxes count
+# as one; each further map tells one of them from the others.
+SLOTS = reference.remapped(block_of(5, 4, moves(5, (1, 1), (2, 3)), ['32100']), [2, 0, 1, 1, 1])
+SLOTS_MAPS = [[3, 0, 1, 2, 2], [3, 0, 2, 1, 2], [3, 0, 2, 2, 1]]
+
+
+def searches_by_maps():
+    title('a way that ends nowhere: no further maps; a map that tells all labels first, second, third; from each start')
+    telling, blind = [6, *range(6)], [1] + [0] * 6
+    for maps in [[], *(joined([blind] * place + [telling] + [blind] * (2 - place)) for place in range(3))]:
+        for start in range(6):
+            search(DEAD_END, [start], 5, 100, 100, filled(DEAD_END, maps), 6, maps)
+    title('five slots with none to three further maps, by what is filled, by zeros: V is large, as needed, one less')
+    for start, count in itertools.product(([1, 2, 3, 0, 0], [0, 3, 1, 2, 0], [2, 0, 0, 3, 1]), range(4)):
+        maps = joined(SLOTS_MAPS[:count])
+        for table in (filled(SLOTS, maps), [0] * entries_of(SLOTS, maps)):
+            *_, visits = search(SLOTS, start, 6, 100, 100000, table, 6, maps)[:4]
+            search(SLOTS, start, 6, 100, visits, table, 6, maps)
+            search(SLOTS, start, 6, 100, visits - 1, table, 6, maps)
+    title('by all four: B from 0 to 12; D from 0 to 7; one table filled, and zeros in the others')
+    maps, start = joined(SLOTS_MAPS), [1, 2, 3, 0, 0]
+    table = filled(SLOTS, maps)
+    for limit in range(13):
+        search(SLOTS, start, 6, limit, 100000, table, 6, maps)
+    for steps in range(8):
+        search(SLOTS, start, steps, 100, 100000, table, 7, maps)
+    bounds = list(itertools.accumulate([32, 243, 243, 243], initial=0))
+    for first, last in itertools.pairwise(bounds):
+        alone = [0] * first + table[first:last] + [0] * (len(table) - last)
+        search(SLOTS, start, 6, 100, 100000, alone, 6, maps)
+
+
+def searches_with_large_entries():
+    mark = reference.MARK
+    block = block_of(1, 4, [(1, '0', '1'), (255, '1', '2')], ['3'])
+    telling, blind = [4, *range(4)], [1] + [0] * 4
+    for place in range(3):
+        maps = joined([blind] * place + [telling] + [blind] * (2 - place))
+        title(f'figures around 4294967295 by further map {place}: the first estimate is large, 0, the mark; B, D, V')
+        for first in (mark - 1, 0, mark):
+            table = [0] * (1 + place) + [first, mark - 1, mark - 1, 0] + [0] * (2 - place)
+            limits = [(6, mark - 2, 100), (6, mark - 1, 100), (6, mark, 100), (1, mark, 100), (0, mark, 100)]
+            for steps, limit, allowance in limits + [(6, mark, 3), (6, mark, 2), (6, mark, 1)]:
+                search(block, [0], steps, limit, allowance, table, 6, maps)
+
+
+def random_maps():
+    title('random exercises with none to three further maps: the fill, the test, an estimate, a search by it, on zeros')
+    random = Random(2)
+    for number in range(48):
+        n, labels = random.randint(1, 3), random.randint(1, 4)
+        block = random_block(random, n, labels, random.randint(1, labels), random.randint(0, 6), random.randint(1, 2))
+        numbers = [random.randint(1, labels) for _ in range(number % 4)]
+        maps = joined([k, *(random.randrange(k) for _ in range(labels))] for k in numbers)
+        state = [random.randrange(labels) for _ in range(n)]
+        call_all(block, maps, state, filled(block, maps))
+        search(block, state, 5, 100, 1000, [0] * entries_of(block, maps), 6, maps)
+
+
+def faulty_maps():
+    names = {3: 'head', 4: 'length', 5: 'map', 6: 'term', 7: 'variable'}
+    lent = joined(E_MAPS[:2])
+    table = filled(E, lent)
+
+    def arguments(faults, extra=(1,), wrong=(5, 4)):
+        """Block, maps, state, table with faults; further bytes for 14, a place and a byte there for 15."""
+        maps = list(lent)
+        if 15 in faults:
+            maps[wrong[0] - 1] = wrong[1]
+        contents = [1 if 13 in faults and entry == 0 else entry for entry in table]
+        block = faulty({name for number, name in names.items() if number in faults})
+        state = [1, 2, 3 if 8 in faults else 0]
+        return block, maps + list(extra) * (14 in faults), state, contents[: 42 if 12 in faults else 43]
+
+    def lowest(faults):
+        return next((number for number in ORDER if number in faults), None)
+
+    def refused(answer):
+        return answer if isinstance(answer, int) and not isinstance(answer, bool) else None
+
+    title('input E with two further maps, and every set of faults 7, 14, 15, 12: the fill, the test')
+    for k in range(16):
+        faults = subset(k, [7, 14, 15, 12])
+        block, maps, _, contents = arguments(faults)
+        assert refused(fill_table(block, contents, maps)[0]) == lowest(faults)
+        assert refused(test_table(block, contents, maps)) == lowest(faults)
+    title('7, 14, 15, 8, 12: the estimate')
+    for k in range(32):
+        faults = subset(k, [7, 14, 15, 8, 12])
+        block, maps, state, contents = arguments(faults)
+        assert refused(look_up(block, state, contents, maps)) == lowest(faults)
+    title('7, 14, 15, 8, 10, 11, 12, 13: the search')
+    for k in range(256):
+        faults = subset(k, [7, 14, 15, 8, 10, 11, 12, 13])
+        block, maps, state, contents = arguments(faults)
+        steps, room = 65 if 10 in faults else 6, 5 if 11 in faults else 6
+        assert refused(search(block, state, steps, 100, 100, contents, room, maps)) == lowest(faults)
+    title('each of 3 to 7 with 14, with 15, with both: the four calls')
+    for number, further in itertools.product(range(3, 8), [{14}, {15}, {14, 15}]):
+        block, maps, state, contents = arguments({number, *further})
+        call_all(block, maps, state, contents, number)
+    title('14 by one byte, by two maps more; 15 by K of 0, by K of 4, by a byte: each, both, with 8 and 12')
+    for extra, wrong in itertools.product([(1,), (1, 0, 0, 0) * 2], [(1, 0), (5, 4), (8, 3)]):
+        for faults in ({14}, {15}, {14, 15}, {14, 8, 12}, {15, 8, 12}):
+            block, maps, state, contents = arguments(faults, extra, wrong)
+            call_all(block, maps, state, contents, lowest(faults))
+    title('15 by too many entries, and a byte more; with a state of three labels; with both')
+    wide = [14, 2, 1, 0, 1] + [0] * 16
+    for more, count in itertools.product(([], [0]), (14, 3)):
+        call_all(wide, [2, 0, 1, *more], [0] * count, [0], 14 if more else 15)
+
+
+def maps():
+    maps_of_e()
+    lengths_of_maps()
+    numbers_in_maps()
+    large_maps()
+    tables_by_maps()
+    estimates_by_maps()
+    searches_by_maps()
+    searches_with_large_entries()
+    random_maps()
+    faulty_maps()
+
+
+def two_maps():
+    """What samples/two_maps.c and rust/examples/two_maps.rs print: seven pancakes, of which the first ones are turned
+    over. The exercise's own map tells the last three from the others, the further one odd labels from even ones."""
+    fronts = ['ABCDEFG'[:count] for count in range(2, 8)]
+    turns = [(1, front.ljust(7, '-'), front[::-1].ljust(7, '-')) for front in fronts]
+    block = reference.remapped(block_of(7, 7, turns, ['0123456']), [2, 0, 0, 0, 0, 1, 1, 1])
+    for words, maps in [('one map', []), ('two maps', [2, 0, 1, 0, 1, 0, 1, 0])]:
+        table = filled(block, maps)
+        found, plan = reference.find_plan(block, maps, [4, 6, 2, 5, 1, 3, 0], 64, 100, 2**32 - 1, table, [0] * 64)
+        _, steps, cost, visits, _ = found
+        rules = ' '.join(map(str, plan[:steps]))
+        print(f'{words}, {len(table)} entries: rules {rules}, cost {cost}, {visits} visits')
+
+
 def fill_order_blocks():
     random = Random(1)
     blocks = [random_small_block(random) for _ in range(150)]
@@ -1121,6 +1482,6 @@ def fill_order():
 
 if __name__ == '__main__':
     parts = [blocks, rules, predecessors, replays, tables, searches, texts, sessions, goals]
-    parts += [fill_order, fill_order_input]
+    parts += [maps, two_maps, fill_order, fill_order_input]
     by_name = {part.__name__: part for part in parts}
     by_name[usage.named('tests/worked.py NAME', by_name)[0]]()

@@ -27,6 +27,7 @@ use crate::{Limits, Refusal, Replay, Search};
 #[derive(Clone, Copy, Debug)]
 pub struct Exercise<'a> {
     block: &'a [u8],
+    maps: &'a [u8],
 }
 
 impl<'a> Exercise<'a> {
@@ -39,7 +40,49 @@ impl<'a> Exercise<'a> {
     /// assert_eq!(nothing.check_block(), Err(Refusal::Head));
     /// ```
     pub const fn new(block: &'a [u8]) -> Exercise<'a> {
-        Exercise { block }
+        Exercise { block, maps: &[] }
+    }
+
+    /// The same exercise with further maps, up to three beside the block's own, in the place of those it had. Nothing
+    /// is looked at yet.
+    ///
+    /// A further map is a byte, its own number of abstract labels K, and a byte below that for each label; the next
+    /// one stands directly behind. Each map has a table. In the table that is handed to [`fill_table`],
+    /// [`test_table`], [`look_up_estimate`] and [`find_plan`] that of the block's own map stands first, and those of
+    /// the further maps behind it, in their order. All together have at most
+    /// [`TABLE_LENGTH`](crate::TABLE_LENGTH) entries. The estimate of a state is the largest of its entries, of which
+    /// [`NO_PATH`](crate::NO_PATH) is above all. The other calls do not look at further maps.
+    ///
+    /// ```
+    /// use mikjuqan::{Exercise, Refusal};
+    ///
+    /// // One position, three labels; rule 0 leads from 0 to 1 at cost 4, rule 1 from 1 to 2 at cost 3; goal 2. The
+    /// // block's own map makes one of 0 and 1, the first further map of 1 and 2, the second has three abstract labels.
+    /// let block = [1, 3, 2, 2, 1, 0, 0, 1, 4, 0, 1, 3, 1, 2, 2];
+    /// let maps = [2, 0, 1, 1, 3, 0, 1, 2];
+    /// let one = Exercise::new(&block);
+    /// let three = one.with_maps(&maps);
+    /// let mut table = [9; 8];
+    /// assert_eq!(one.fill_table(&mut table), Ok(()));
+    /// assert_eq!(table, [3, 0, 9, 9, 9, 9, 9, 9]);
+    /// assert_eq!(three.fill_table(&mut table), Ok(()));
+    /// assert_eq!(table, [3, 0, 4, 0, 7, 3, 0, 9]);
+    /// assert_eq!(one.look_up_estimate(&[0], &table), Ok(Some(3)));
+    /// assert_eq!(one.with_maps(&maps[..4]).look_up_estimate(&[0], &table), Ok(Some(4)));
+    /// assert_eq!(three.look_up_estimate(&[0], &table), Ok(Some(7)));
+    ///
+    /// // What is wrong with further maps is told by the calls that take them.
+    /// assert_eq!(one.with_maps(&maps[..7]).test_table(&table), Err(Refusal::Maps));
+    /// assert_eq!(one.with_maps(&[2, 0, 1, 2]).test_table(&table), Err(Refusal::MapRange));
+    /// assert_eq!(one.with_maps(&[2, 0, 1, 2]).check_block(), Ok(()));
+    /// ```
+    ///
+    /// [`fill_table`]: Exercise::fill_table
+    /// [`test_table`]: Exercise::test_table
+    /// [`look_up_estimate`]: Exercise::look_up_estimate
+    /// [`find_plan`]: Exercise::find_plan
+    pub const fn with_maps(self, maps: &'a [u8]) -> Exercise<'a> {
+        Exercise { block: self.block, maps }
     }
 
     /// The block.
@@ -50,6 +93,17 @@ impl<'a> Exercise<'a> {
     /// ```
     pub const fn block(self) -> &'a [u8] {
         self.block
+    }
+
+    /// The further maps.
+    ///
+    /// ```
+    /// let exercise = mikjuqan::Exercise::new(&[1, 2, 1, 0, 1, 0, 0, 1]);
+    /// assert_eq!(exercise.maps(), []);
+    /// assert_eq!(exercise.with_maps(&[2, 0, 1]).maps(), [2, 0, 1]);
+    /// ```
+    pub const fn maps(self) -> &'a [u8] {
+        self.maps
     }
 
     /// Whether the block is accepted.
@@ -213,9 +267,9 @@ impl<'a> Exercise<'a> {
     }
 
     /// Fills the front of a table: for each abstract state the least cost from it to a goal, or
-    /// [`NO_PATH`](crate::NO_PATH).
+    /// [`NO_PATH`](crate::NO_PATH). With further maps all tables are filled, one behind the other.
     ///
-    /// Refused with 3 to 7, 12. Needs at most 235 KiB of stack.
+    /// Refused with 3 to 7, 14, 15, 12. Needs at most 235 KiB of stack.
     ///
     /// ```
     /// use mikjuqan::{Exercise, NO_PATH};
@@ -227,12 +281,13 @@ impl<'a> Exercise<'a> {
     /// assert_eq!(table, [4, 0, NO_PATH, 7]);
     /// ```
     pub fn fill_table(self, table: &mut [u32]) -> Result<(), Refusal> {
-        accepted(ffi::fill_table(self.block, table))
+        accepted(ffi::fill_table(self.block, self.maps, table))
     }
 
-    /// Tells whether a table passes the lower-bound test.
+    /// Tells whether a table passes the lower-bound test. With further maps each table is tested under its own map,
+    /// and all must pass.
     ///
-    /// Refused with 3 to 7, 12. Needs at most 96 KiB of stack.
+    /// Refused with 3 to 7, 14, 15, 12. Needs at most 96 KiB of stack.
     ///
     /// ```
     /// use mikjuqan::{Exercise, Refusal};
@@ -246,12 +301,13 @@ impl<'a> Exercise<'a> {
     /// assert_eq!(exercise.test_table(&[4]), Err(Refusal::TableShort));
     /// ```
     pub fn test_table(self, table: &[u32]) -> Result<bool, Refusal> {
-        answers::decision(ffi::test_table(self.block, table))
+        answers::decision(ffi::test_table(self.block, self.maps, table))
     }
 
-    /// The estimate of a state, `None` for [`NO_PATH`](crate::NO_PATH). The table is not tested.
+    /// The estimate of a state, `None` for [`NO_PATH`](crate::NO_PATH). With further maps it is the largest of its
+    /// entries, and `None` where one of them is [`NO_PATH`](crate::NO_PATH). The table is not tested.
     ///
-    /// Refused with 3 to 7, 8, 12.
+    /// Refused with 3 to 7, 14, 15, 8, 12.
     ///
     /// ```
     /// use mikjuqan::{Exercise, NO_PATH};
@@ -263,13 +319,14 @@ impl<'a> Exercise<'a> {
     /// assert_eq!(exercise.look_up_estimate(&[0], &[NO_PATH, 6]), Ok(None));
     /// ```
     pub fn look_up_estimate(self, state: &[u8], table: &[u32]) -> Result<Option<u32>, Refusal> {
-        answers::estimate(ffi::look_up_estimate(self.block, state, table))
+        answers::estimate(ffi::look_up_estimate(self.block, self.maps, state, table))
     }
 
     /// Finds a cheapest plan from a start within the limits, and writes it, one rule number a byte.
     ///
-    /// Any table that passes the lower-bound test gives the same plan; how many visits it takes depends on the table.
-    /// Refused with 3 to 7, 8, 10, 11, 12, 13. Needs at most 256 KiB of stack.
+    /// Any table that passes the lower-bound test gives the same plan, and so do tables for further maps; how many
+    /// visits it takes depends on the tables. Refused with 3 to 7, 14, 15, 8, 10, 11, 12, 13. Needs at most 320 KiB of
+    /// stack.
     ///
     /// ```
     /// use mikjuqan::{Exercise, Limits, Search};
@@ -300,6 +357,6 @@ impl<'a> Exercise<'a> {
     /// # Ok::<(), mikjuqan::Refusal>(())
     /// ```
     pub fn find_plan(self, start: &[u8], limits: Limits, table: &[u32], plan: &mut [u8]) -> Result<Search, Refusal> {
-        answers::search(ffi::find_plan(self.block, start, limits, table, plan))
+        answers::search(ffi::find_plan(self.block, self.maps, start, limits, table, plan))
     }
 }

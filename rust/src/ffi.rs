@@ -117,11 +117,20 @@ mod c {
             out_length: usize,
         ) -> Replay;
 
-        pub fn mikjuqan_fill_table(block: *const u8, block_length: usize, table: *mut u32, table_length: usize) -> u32;
+        pub fn mikjuqan_fill_table(
+            block: *const u8,
+            block_length: usize,
+            maps: *const u8,
+            maps_length: usize,
+            table: *mut u32,
+            table_length: usize,
+        ) -> u32;
 
         pub fn mikjuqan_test_table(
             block: *const u8,
             block_length: usize,
+            maps: *const u8,
+            maps_length: usize,
             table: *const u32,
             table_length: usize,
         ) -> Decision;
@@ -129,6 +138,8 @@ mod c {
         pub fn mikjuqan_look_up_estimate(
             block: *const u8,
             block_length: usize,
+            maps: *const u8,
+            maps_length: usize,
             state: *const u8,
             state_length: usize,
             table: *const u32,
@@ -138,6 +149,8 @@ mod c {
         pub fn mikjuqan_find_plan(
             block: *const u8,
             block_length: usize,
+            maps: *const u8,
+            maps_length: usize,
             start: *const u8,
             start_length: usize,
             limits: Limits,
@@ -228,19 +241,25 @@ pub fn replay_run(block: &[u8], start: &[u8], list: &[u8], out: &mut [u8]) -> Re
     }
 }
 
-pub fn fill_table(block: &[u8], table: &mut [u32]) -> u32 {
-    unsafe { c::mikjuqan_fill_table(block.as_ptr(), block.len(), table.as_mut_ptr(), table.len()) }
+pub fn fill_table(block: &[u8], maps: &[u8], table: &mut [u32]) -> u32 {
+    unsafe {
+        c::mikjuqan_fill_table(block.as_ptr(), block.len(), maps.as_ptr(), maps.len(), table.as_mut_ptr(), table.len())
+    }
 }
 
-pub fn test_table(block: &[u8], table: &[u32]) -> Decision {
-    unsafe { c::mikjuqan_test_table(block.as_ptr(), block.len(), table.as_ptr(), table.len()) }
+pub fn test_table(block: &[u8], maps: &[u8], table: &[u32]) -> Decision {
+    unsafe {
+        c::mikjuqan_test_table(block.as_ptr(), block.len(), maps.as_ptr(), maps.len(), table.as_ptr(), table.len())
+    }
 }
 
-pub fn look_up_estimate(block: &[u8], state: &[u8], table: &[u32]) -> Entry {
+pub fn look_up_estimate(block: &[u8], maps: &[u8], state: &[u8], table: &[u32]) -> Entry {
     unsafe {
         c::mikjuqan_look_up_estimate(
             block.as_ptr(),
             block.len(),
+            maps.as_ptr(),
+            maps.len(),
             state.as_ptr(),
             state.len(),
             table.as_ptr(),
@@ -249,11 +268,13 @@ pub fn look_up_estimate(block: &[u8], state: &[u8], table: &[u32]) -> Entry {
     }
 }
 
-pub fn find_plan(block: &[u8], start: &[u8], limits: Limits, table: &[u32], plan: &mut [u8]) -> Search {
+pub fn find_plan(block: &[u8], maps: &[u8], start: &[u8], limits: Limits, table: &[u32], plan: &mut [u8]) -> Search {
     unsafe {
         c::mikjuqan_find_plan(
             block.as_ptr(),
             block.len(),
+            maps.as_ptr(),
+            maps.len(),
             start.as_ptr(),
             start.len(),
             limits,

@@ -33,8 +33,34 @@
 //! # Ok::<(), mikjuqan::Refusal>(())
 //! ```
 //!
-//! Buffers of [`POSITIONS`], [`BLOCK_LENGTH`], [`TABLE_LENGTH`] and [`PLAN_LENGTH`] elements are long enough for every
-//! exercise. Buffers are measured before the answer is known: room for a state is asked for even where none is
+//! Further maps may save visits: [`Exercise::with_maps`] lends up to three beside the block's own. Each has a table, and
+//! the largest of a state's entries is its estimate. The plan is the same:
+//!
+//! ```
+//! # use mikjuqan::{Exercise, Limits, Search};
+//! # let text = b"0303020601\n000101\n\
+//! #     011000FF0010FF\n010010FF1000FF\n01FF1000FF0010\n\
+//! #     01FF0010FF1000\n0310FF0000FF10\n0300FF1010FF00\n\
+//! #     020100\n";
+//! # let mut room = [0; mikjuqan::BLOCK_LENGTH];
+//! # let length = mikjuqan::read_exercise(text, &mut room)?;
+//! // A further map with three abstract labels, one for each label, whose table has 27 entries.
+//! let exercise = Exercise::new(&room[..length]).with_maps(&[3, 0, 1, 2]);
+//! let mut tables = [0; 8 + 27];
+//! exercise.fill_table(&mut tables)?;
+//!
+//! let mut plan = [0; 8];
+//! let limits = Limits { steps: 8, cost: 100, visits: 100 };
+//! let Search::Found(found) = exercise.find_plan(&[1, 2, 0], limits, &tables, &mut plan)? else {
+//!     panic!("there is a plan");
+//! };
+//! assert_eq!((found.steps, found.cost, found.visits), (3, 5, 4));
+//! assert_eq!(plan[..found.steps], [2, 0, 5]);
+//! # Ok::<(), mikjuqan::Refusal>(())
+//! ```
+//!
+//! Buffers of [`POSITIONS`], [`BLOCK_LENGTH`], [`MAPS_LENGTH`], [`TABLE_LENGTH`] and [`PLAN_LENGTH`] elements are long
+//! enough for every exercise. Buffers are measured before the answer is known: room for a state is asked for even where none is
 //! written.
 
 #![no_std]
@@ -56,7 +82,10 @@ pub const POSITIONS: usize = 16;
 /// The most bytes that a block has, also one that is relabelled or read from text.
 pub const BLOCK_LENGTH: usize = 2261;
 
-/// The most entries that a table needs.
+/// The most bytes that further maps have.
+pub const MAPS_LENGTH: usize = 51;
+
+/// The most entries that a table needs, and the most that all tables have together.
 pub const TABLE_LENGTH: usize = 16384;
 
 /// The most rules that a plan has, and the largest step limit.

@@ -3,8 +3,8 @@
 use core::error::Error;
 use core::fmt;
 
-/// Why a call was refused. Each case has a number; the lowest wins, except in
-/// [`read_exercise`](crate::read_exercise).
+/// Why a call was refused. Each case has a number; the lowest wins, but 14 and 15 come behind 7 and before 8, and
+/// [`read_exercise`](crate::read_exercise) has an order of its own.
 ///
 /// ```
 /// use mikjuqan::{Exercise, Refusal};
@@ -39,10 +39,15 @@ pub enum Refusal {
     Limit = 10,
     /// 11: the buffer is shorter than what may be written.
     Buffer = 11,
-    /// 12: the table has fewer entries than there are abstract states.
+    /// 12: the table has fewer entries than all tables together: one for each abstract state of each map.
     TableShort = 12,
-    /// 13: the table fails the lower-bound test.
+    /// 13: the table fails the lower-bound test, or one of several does.
     TableFails = 13,
+    /// 14: there are more than three further maps, or their bytes are not K and a byte for each label for each.
+    Maps = 14,
+    /// 15: the K of a further map is 0 or above the number of labels, a byte of it is not below its K, or all tables
+    /// together have more than 16,384 entries.
+    MapRange = 15,
 }
 
 impl Refusal {
@@ -61,16 +66,18 @@ impl Refusal {
         Refusal::Buffer,
         Refusal::TableShort,
         Refusal::TableFails,
+        Refusal::Maps,
+        Refusal::MapRange,
     ];
 
-    /// The number of this refusal, 1 to 13.
+    /// The number of this refusal, 1 to 15.
     ///
     /// ```
     /// use mikjuqan::Refusal;
     ///
     /// assert_eq!(Refusal::Character.number(), 1);
-    /// assert_eq!(Refusal::TableFails.number(), 13);
-    /// assert!(Refusal::ALL.iter().map(|refusal| refusal.number()).eq(1..=13));
+    /// assert_eq!(Refusal::MapRange.number(), 15);
+    /// assert!(Refusal::ALL.iter().map(|refusal| refusal.number()).eq(1..=15));
     /// ```
     pub fn number(self) -> u32 {
         self as u32
@@ -93,6 +100,8 @@ impl fmt::Display for Refusal {
             Refusal::Buffer => "the buffer is too short",
             Refusal::TableShort => "the table is too short",
             Refusal::TableFails => "the table fails the lower-bound test",
+            Refusal::Maps => "there are more than three further maps, or a part of one",
+            Refusal::MapRange => "a further map is out of range, or the tables have too many entries",
         };
         write!(formatter, "refused with {}: {reason}", self.number())
     }
@@ -104,7 +113,7 @@ impl Error for Refusal {}
 pub(crate) fn accepted(number: u32) -> Result<(), Refusal> {
     match number {
         0 => Ok(()),
-        1..=13 => Err(Refusal::ALL[number as usize - 1]),
+        1..=15 => Err(Refusal::ALL[number as usize - 1]),
         _ => unreachable!("the library has no refusal {number}"),
     }
 }

@@ -1,5 +1,5 @@
-//! The C header has the version, the sizes, the structs, the refusals and their texts once more: they must be those of
-//! this crate.
+//! The C header has the version, the sizes, the structs, the functions, the refusals and their texts once more: they
+//! must be those of this crate.
 
 use mikjuqan::Refusal;
 use std::fs;
@@ -70,6 +70,32 @@ fn rust_struct(name: &str, members: &str) -> String {
     format!("#[repr(C)]\npub struct {} {{\n{members}}}\n", rust_type(name))
 }
 
+/// The functions of the header, as Rust declares them: each on one line, in their order.
+fn header_functions(header: &str) -> Vec<String> {
+    let comments: Vec<&str> = header.split("/*").collect();
+    let code: String = comments.iter().map(|part| part.split("*/").last().expect("there is a last part")).collect();
+    let declared = code.split(";\n").filter(|part| part.ends_with(')') && part.contains("(const uint8_t *"));
+    let rust_function = |part: &str| {
+        let lines: Vec<&str> = part.lines().map(str::trim).filter(|line| !line.is_empty()).collect();
+        let declaration = lines.join(" ");
+        let (front, parameters) = declaration.trim_end_matches(')').split_once('(').expect("a function has parameters");
+        let (answer, name) = front.split_once(' ').expect("a function has an answer");
+        let parameters: Vec<String> = parameters.split(", ").map(rust_parameter).collect();
+        format!("pub fn {name}({}) -> {};", parameters.join(", "), rust_type(answer))
+    };
+    declared.map(rust_function).collect()
+}
+
+/// A parameter of the header in Rust; a pointer's star stands before its name.
+fn rust_parameter(parameter: &str) -> String {
+    let (kind, name) = parameter.rsplit_once(' ').expect("a parameter has a type");
+    match (name.strip_prefix('*'), kind.strip_prefix("const ")) {
+        (Some(name), Some(kind)) => format!("{name}: *const {}", rust_type(kind)),
+        (Some(name), None) => format!("{name}: *mut {}", rust_type(kind)),
+        (None, _) => format!("{name}: {}", rust_type(kind)),
+    }
+}
+
 #[test]
 fn version() {
     assert_eq!(defined("MIKJUQAN_VERSION"), format!("\"{}\"", env!("CARGO_PKG_VERSION")));
@@ -80,6 +106,7 @@ fn sizes() {
     let sizes = [
         ("MIKJUQAN_POSITIONS", mikjuqan::POSITIONS),
         ("MIKJUQAN_BLOCK_LENGTH", mikjuqan::BLOCK_LENGTH),
+        ("MIKJUQAN_MAPS_LENGTH", mikjuqan::MAPS_LENGTH),
         ("MIKJUQAN_TABLE_LENGTH", mikjuqan::TABLE_LENGTH),
         ("MIKJUQAN_PLAN_LENGTH", mikjuqan::PLAN_LENGTH),
         ("MIKJUQAN_LIST_LENGTH", mikjuqan::LIST_LENGTH),
@@ -105,6 +132,22 @@ fn structs() {
     }
     let no_goal = format!("pub const NO_GOAL: u8 = {};", defined("MIKJUQAN_NO_GOAL"));
     assert!(sources.contains(&no_goal), "there is no {no_goal}");
+}
+
+/// The functions of the library, with the names and types of all parameters.
+#[test]
+fn functions() {
+    let source = file("src/ffi.rs");
+    let (_, behind) = source.split_once("extern \"C\" {").expect("the functions are declared");
+    let (declared, _) = behind.split_once("\n    }\n").expect("the declarations end");
+    let lines: Vec<&str> = declared.lines().map(str::trim).filter(|line| !line.is_empty()).collect();
+    let declared = lines.join(" ").replace("( ", "(").replace(", )", ")");
+    let functions = header_functions(&header());
+    assert_eq!(functions.len(), 13);
+    assert_eq!(functions.len(), declared.matches("pub fn ").count());
+    for function in functions {
+        assert!(declared.contains(&function), "there is no\n{function}\nin\n{declared}");
+    }
 }
 
 /// Each refusal has its number, twice in its comment too: in decimal, and as the two digits that `par` prints.

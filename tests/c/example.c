@@ -1,5 +1,5 @@
-/* Every call of the library on one exercise, as a program that uses it would make them, those that tell a goal on a
- * second one, and every buffer of every call once as NULL.
+/* Every call of the library on one exercise, as a program that uses it would make them, those that take further maps
+ * with and without them, those that tell a goal on a second exercise, and every buffer of every call once as NULL.
  *
  * Build it in the repository's directory, as C or as C++:
  *
@@ -153,25 +153,26 @@ static void replay(const uint8_t *block, size_t block_length) {
 static void fill_and_look_up(const uint8_t *block, size_t block_length, uint32_t *table) {
   static const uint32_t filled[ENTRIES] = {MIKJUQAN_NO_PATH, MIKJUQAN_NO_PATH, MIKJUQAN_NO_PATH, 2,
                                            MIKJUQAN_NO_PATH, 1, 0, MIKJUQAN_NO_PATH};
-  expect(mikjuqan_fill_table(block, block_length, table, ENTRIES) == MIKJUQAN_ACCEPTED &&
+  expect(mikjuqan_fill_table(block, block_length, NULL, 0, table, ENTRIES) == MIKJUQAN_ACCEPTED &&
              memcmp(table, filled, sizeof filled) == 0,
          "the table is M M M 2 M 1 0 M");
-  expect(mikjuqan_fill_table(block, block_length, table, ENTRIES - 1) == MIKJUQAN_REFUSED_TABLE_SHORT,
+  expect(mikjuqan_fill_table(block, block_length, NULL, 0, table, ENTRIES - 1) == MIKJUQAN_REFUSED_TABLE_SHORT,
          "a table of seven entries is refused with 12");
 
-  mikjuqan_decision passes = mikjuqan_test_table(block, block_length, table, ENTRIES);
+  mikjuqan_decision passes = mikjuqan_test_table(block, block_length, NULL, 0, table, ENTRIES);
   expect(passes.refusal == MIKJUQAN_ACCEPTED && passes.yes, "the filled table passes the test");
-  passes = mikjuqan_test_table(block, block_length, table, 0);
+  passes = mikjuqan_test_table(block, block_length, NULL, 0, table, 0);
   expect(passes.refusal == MIKJUQAN_REFUSED_TABLE_SHORT && !passes.yes, "an empty table is refused with 12");
 
   static const uint8_t far_state[POSITIONS] = {0, 1, 2};
   static const uint8_t lost_state[POSITIONS] = {0, 0, 0};
-  mikjuqan_entry estimate = mikjuqan_look_up_estimate(block, block_length, far_state, POSITIONS, table, ENTRIES);
+  mikjuqan_entry estimate =
+      mikjuqan_look_up_estimate(block, block_length, NULL, 0, far_state, POSITIONS, table, ENTRIES);
   expect(estimate.refusal == MIKJUQAN_ACCEPTED && estimate.entry == 2, "the estimate of <0,1,2> is 2");
-  estimate = mikjuqan_look_up_estimate(block, block_length, lost_state, POSITIONS, table, ENTRIES);
+  estimate = mikjuqan_look_up_estimate(block, block_length, NULL, 0, lost_state, POSITIONS, table, ENTRIES);
   expect(estimate.refusal == MIKJUQAN_ACCEPTED && estimate.entry == MIKJUQAN_NO_PATH,
          "from <0,0,0> there is no path");
-  estimate = mikjuqan_look_up_estimate(block, 4, far_state, POSITIONS, table, ENTRIES);
+  estimate = mikjuqan_look_up_estimate(block, 4, NULL, 0, far_state, POSITIONS, table, ENTRIES);
   expect(estimate.refusal == MIKJUQAN_REFUSED_HEAD && estimate.entry == 0, "a block of four bytes is refused with 3");
 }
 
@@ -196,24 +197,102 @@ static void search(const uint8_t *block, size_t block_length, uint32_t *table) {
   uint8_t plan[STEPS] = {255, 255, 255, 255, 255, 255, 255, 255};
   mikjuqan_limits limits = within(STEPS, 100, 100);
   mikjuqan_search told =
-      mikjuqan_find_plan(block, block_length, start, POSITIONS, limits, table, ENTRIES, plan, STEPS);
+      mikjuqan_find_plan(block, block_length, NULL, 0, start, POSITIONS, limits, table, ENTRIES, plan, STEPS);
   expect(finds(told, 3, 5, 10, 0), "there is a plan of 3 steps at cost 5 to goal 0, found with 10 visits");
   expect(same(plan, 2, 0, 5) && plan[3] == 255, "its rules are 2, 0, 5, and nothing is written behind them");
 
   mikjuqan_limits lower_cost = within(STEPS, 4, 100);
-  told = mikjuqan_find_plan(block, block_length, start, POSITIONS, lower_cost, table, ENTRIES, plan, STEPS);
+  told = mikjuqan_find_plan(block, block_length, NULL, 0, start, POSITIONS, lower_cost, table, ENTRIES, plan, STEPS);
   expect(lacks(told, MIKJUQAN_NO_PLAN, 6), "there is none at cost 4, which takes 6 visits to know");
   mikjuqan_limits fewer_visits = within(STEPS, 100, 9);
-  told = mikjuqan_find_plan(block, block_length, start, POSITIONS, fewer_visits, table, ENTRIES, plan, STEPS);
+  told = mikjuqan_find_plan(block, block_length, NULL, 0, start, POSITIONS, fewer_visits, table, ENTRIES, plan, STEPS);
   expect(lacks(told, MIKJUQAN_SPENT, 9), "with 9 visits the search is spent");
   mikjuqan_limits more_steps = within(MIKJUQAN_PLAN_LENGTH + 1, 100, 100);
-  told = mikjuqan_find_plan(block, block_length, start, POSITIONS, more_steps, table, ENTRIES, plan, STEPS);
+  told = mikjuqan_find_plan(block, block_length, NULL, 0, start, POSITIONS, more_steps, table, ENTRIES, plan, STEPS);
   expect(is_refused(told, MIKJUQAN_REFUSED_LIMIT), "a step limit of 65 is refused with 10");
 
   table[6] = 1; /* the goal's own entry */
-  told = mikjuqan_find_plan(block, block_length, start, POSITIONS, limits, table, ENTRIES, plan, STEPS);
+  told = mikjuqan_find_plan(block, block_length, NULL, 0, start, POSITIONS, limits, table, ENTRIES, plan, STEPS);
   expect(is_refused(told, MIKJUQAN_REFUSED_TABLE_FAILS), "a table with 1 for the goal is refused with 13");
   table[6] = 0;
+}
+
+/* ---- further maps ---- */
+
+/* Each is its K, and a byte for each label: all labels are told from one another; 0 and 1 count as one; all three do; 1
+ * and 2 do. The tables of the first three have 27, 8 and 1 entries, behind the eight of the block's own. */
+static const uint8_t further[] = {3, 0, 1, 2, 2, 0, 0, 1, 1, 0, 0, 0, 2, 0, 1, 1};
+
+enum { MAP = 4, ALL_ENTRIES = ENTRIES + 27 + 8 + 1 };
+
+static void fill_and_look_up_by_maps(const uint8_t *block, size_t length, uint32_t *tables) {
+  uint32_t own[ENTRIES];
+  tables[ALL_ENTRIES] = 77;
+  expect(mikjuqan_fill_table(block, length, NULL, 0, own, ENTRIES) == MIKJUQAN_ACCEPTED &&
+             mikjuqan_fill_table(block, length, further, 3 * MAP, tables, ALL_ENTRIES + 1) == MIKJUQAN_ACCEPTED &&
+             memcmp(tables, own, sizeof own) == 0 && tables[ALL_ENTRIES - 1] == 0 && tables[ALL_ENTRIES] == 77,
+         "with three further maps four tables are filled, the block's own first, and nothing behind them");
+  expect(tables[ENTRIES + 21] == 0 && tables[ENTRIES + 15] == 5,
+         "by the first of them <2,1,0> has 0 and <1,2,0> has 5");
+  expect(mikjuqan_fill_table(block, length, further, 3 * MAP, tables, ALL_ENTRIES - 1) == MIKJUQAN_REFUSED_TABLE_SHORT,
+         "43 entries are refused with 12");
+
+  mikjuqan_entry one = mikjuqan_look_up_estimate(block, length, NULL, 0, start, POSITIONS, tables, ENTRIES);
+  mikjuqan_entry two = mikjuqan_look_up_estimate(block, length, further, MAP, start, POSITIONS, tables, ALL_ENTRIES);
+  expect(one.refusal == MIKJUQAN_ACCEPTED && two.refusal == MIKJUQAN_ACCEPTED && one.entry == 0 && two.entry == 5,
+         "the estimate of <1,2,0> is 0 by one map and 5 by two");
+  static const uint8_t lost_state[POSITIONS] = {1, 1, 0};
+  two = mikjuqan_look_up_estimate(block, length, further, MAP, lost_state, POSITIONS, tables, ALL_ENTRIES);
+  expect(two.refusal == MIKJUQAN_ACCEPTED && two.entry == MIKJUQAN_NO_PATH,
+         "from <1,1,0> there is no path by the second, and so none by both");
+}
+
+static void search_by_maps(const uint8_t *block, size_t length, uint32_t *tables) {
+  uint8_t plan[STEPS] = {255, 255, 255, 255, 255, 255, 255, 255};
+  mikjuqan_limits limits = within(STEPS, 100, 100);
+  mikjuqan_search told = mikjuqan_find_plan(block, length, further, MAP, start, POSITIONS, limits, tables, ALL_ENTRIES,
+                                            plan, STEPS);
+  expect(finds(told, 3, 5, 4, 0) && same(plan, 2, 0, 5) && plan[3] == 255,
+         "by two maps the same plan takes 4 visits, not 10");
+  told = mikjuqan_find_plan(block, length, further, 3 * MAP, start, POSITIONS, limits, tables, ALL_ENTRIES, plan,
+                            STEPS);
+  expect(finds(told, 3, 5, 4, 0) && same(plan, 2, 0, 5), "by four maps as well");
+
+  tables[ENTRIES + 21] = 1; /* the goal's own entry in the second table */
+  mikjuqan_decision passes = mikjuqan_test_table(block, length, further, 3 * MAP, tables, ALL_ENTRIES);
+  expect(passes.refusal == MIKJUQAN_ACCEPTED && !passes.yes, "where one of four tables fails the test, all do");
+  passes = mikjuqan_test_table(block, length, NULL, 0, tables, ALL_ENTRIES);
+  expect(passes.refusal == MIKJUQAN_ACCEPTED && passes.yes, "without further maps it is not looked at");
+  told = mikjuqan_find_plan(block, length, further, MAP, start, POSITIONS, limits, tables, ALL_ENTRIES, plan, STEPS);
+  expect(is_refused(told, MIKJUQAN_REFUSED_TABLE_FAILS), "a search with it is refused with 13");
+  tables[ENTRIES + 21] = 0;
+}
+
+/* Whether all four calls that take further maps are refused with a number. */
+static int refuse(const uint8_t *block, size_t length, const uint8_t *maps, size_t maps_length, uint32_t *tables,
+                  uint32_t refusal) {
+  uint8_t plan[STEPS];
+  const size_t none = 0;
+  mikjuqan_search told = mikjuqan_find_plan(block, length, maps, maps_length, start, POSITIONS, within(STEPS, 9, 9),
+                                            tables, none, plan, STEPS);
+  return mikjuqan_fill_table(block, length, maps, maps_length, tables, none) == refusal &&
+         mikjuqan_test_table(block, length, maps, maps_length, tables, none).refusal == refusal &&
+         mikjuqan_look_up_estimate(block, length, maps, maps_length, start, POSITIONS, tables, none).refusal ==
+             refusal &&
+         is_refused(told, refusal);
+}
+
+static void further_maps(const uint8_t *block, size_t length) {
+  static uint32_t tables[ALL_ENTRIES + 1];
+  fill_and_look_up_by_maps(block, length, tables);
+  search_by_maps(block, length, tables);
+
+  static const uint8_t high_k[MAP] = {4, 0, 1, 2}, high_byte[MAP] = {2, 0, 1, 2};
+  expect(refuse(block, length, further, 4 * MAP, tables, MIKJUQAN_REFUSED_MAPS), "four further maps: 14");
+  expect(refuse(block, length, further, MAP + 1, tables, MIKJUQAN_REFUSED_MAPS), "a map and a byte: 14");
+  expect(refuse(block, length, high_k, MAP, tables, MIKJUQAN_REFUSED_MAP_RANGE), "a K above L: 15");
+  expect(refuse(block, length, high_byte, MAP, tables, MIKJUQAN_REFUSED_MAP_RANGE), "a byte not below its K: 15");
+  expect(refuse(block, length, further, MAP, tables, MIKJUQAN_REFUSED_TABLE_SHORT), "a good map and no table: 12");
 }
 
 /* ---- several goals ---- */
@@ -230,16 +309,17 @@ static void several_goals(void) {
   expect(meets(mikjuqan_test_goals(block, length, labels + 3, 1), 0), "four goals: <3> meets goal 0");
   expect(meets(mikjuqan_test_goals(block, length, labels + 1, 1), 1), "<1> meets goals 1, 2 and 3: the lowest counts");
   expect(meets(mikjuqan_test_goals(block, length, labels, 1), 2), "<0> meets goal 2");
-  mikjuqan_search told = mikjuqan_find_plan(block, length, labels, 1, within(STEPS, 100, 100), zero, 1, out, STEPS);
+  mikjuqan_limits limits = within(STEPS, 100, 100);
+  mikjuqan_search told = mikjuqan_find_plan(block, length, NULL, 0, labels, 1, limits, zero, 1, out, STEPS);
   expect(finds(told, 0, 0, 1, 2), "so the plan from <0> has no rules");
 
   block[4] = 2;
   length -= 2;
-  told = mikjuqan_find_plan(block, length, labels, 1, within(STEPS, 100, 100), zero, 1, out, STEPS);
+  told = mikjuqan_find_plan(block, length, NULL, 0, labels, 1, limits, zero, 1, out, STEPS);
   expect(finds(told, 1, 1, 3, 1) && out[0] == 0, "two goals: the plan from <0> is rule 0, to goal 1");
-  told = mikjuqan_find_plan(block, length, labels + 2, 1, within(STEPS, 100, 100), zero, 1, out, STEPS);
+  told = mikjuqan_find_plan(block, length, NULL, 0, labels + 2, 1, limits, zero, 1, out, STEPS);
   expect(finds(told, 1, 1, 3, 0) && out[0] == 2, "that from <2> is rule 2, to goal 0");
-  told = mikjuqan_find_plan(block, length, labels + 4, 1, within(STEPS, 100, 100), zero, 1, out, STEPS);
+  told = mikjuqan_find_plan(block, length, NULL, 0, labels + 4, 1, limits, zero, 1, out, STEPS);
   expect(lacks(told, MIKJUQAN_NO_PLAN, 1), "there is none from <4>");
 
   expect(ends(mikjuqan_replay_run(block, length, labels, 1, rules, 3, out, STEPS), 0, 3, 3, 0),
@@ -277,12 +357,12 @@ static void null_block(const uint32_t *table) {
   expect(mikjuqan_next_predecessor(NULL, 0, 2, start, POSITIONS, goal, POSITIONS, out, STEPS).refusal == refused,
          "and next_predecessor");
   expect(mikjuqan_replay_run(NULL, 0, start, POSITIONS, list, 3, out, STEPS).refusal == refused, "and replay_run");
-  expect(mikjuqan_fill_table(NULL, 0, filled, ENTRIES) == refused, "and fill_table");
-  expect(mikjuqan_test_table(NULL, 0, table, ENTRIES).refusal == refused, "and test_table");
-  expect(mikjuqan_look_up_estimate(NULL, 0, start, POSITIONS, table, ENTRIES).refusal == refused,
+  expect(mikjuqan_fill_table(NULL, 0, NULL, 0, filled, ENTRIES) == refused, "and fill_table");
+  expect(mikjuqan_test_table(NULL, 0, NULL, 0, table, ENTRIES).refusal == refused, "and test_table");
+  expect(mikjuqan_look_up_estimate(NULL, 0, NULL, 0, start, POSITIONS, table, ENTRIES).refusal == refused,
          "and look_up_estimate");
-  expect(is_refused(mikjuqan_find_plan(NULL, 0, start, POSITIONS, limits, table, ENTRIES, out, STEPS), refused),
-         "and find_plan");
+  mikjuqan_search told = mikjuqan_find_plan(NULL, 0, NULL, 0, start, POSITIONS, limits, table, ENTRIES, out, STEPS);
+  expect(is_refused(told, refused), "and find_plan");
 }
 
 static void null_state(const uint8_t *block, size_t length, const uint32_t *table) {
@@ -299,22 +379,23 @@ static void null_state(const uint8_t *block, size_t length, const uint32_t *tabl
   expect(mikjuqan_next_predecessor(block, length, 2, start, POSITIONS, NULL, 0, out, STEPS).refusal == refused,
          "also for the earlier state");
   expect(mikjuqan_replay_run(block, length, NULL, 0, list, 3, out, STEPS).refusal == refused, "and replay_run");
-  expect(mikjuqan_look_up_estimate(block, length, NULL, 0, table, ENTRIES).refusal == refused,
+  expect(mikjuqan_look_up_estimate(block, length, NULL, 0, NULL, 0, table, ENTRIES).refusal == refused,
          "and look_up_estimate");
-  expect(is_refused(mikjuqan_find_plan(block, length, NULL, 0, limits, table, ENTRIES, out, STEPS), refused),
-         "and find_plan");
+  mikjuqan_search told = mikjuqan_find_plan(block, length, NULL, 0, NULL, 0, limits, table, ENTRIES, out, STEPS);
+  expect(is_refused(told, refused), "and find_plan");
 }
 
 static void null_table(const uint8_t *block, size_t length) {
   uint8_t plan[STEPS];
   mikjuqan_limits limits = within(STEPS, 100, 100);
   const uint32_t refused = MIKJUQAN_REFUSED_TABLE_SHORT;
-  expect(mikjuqan_fill_table(block, length, NULL, 0) == refused, "NULL as table: fill_table is refused with 12");
-  expect(mikjuqan_test_table(block, length, NULL, 0).refusal == refused, "so is test_table");
-  expect(mikjuqan_look_up_estimate(block, length, start, POSITIONS, NULL, 0).refusal == refused,
+  expect(mikjuqan_fill_table(block, length, NULL, 0, NULL, 0) == refused,
+         "NULL as table: fill_table is refused with 12");
+  expect(mikjuqan_test_table(block, length, NULL, 0, NULL, 0).refusal == refused, "so is test_table");
+  expect(mikjuqan_look_up_estimate(block, length, NULL, 0, start, POSITIONS, NULL, 0).refusal == refused,
          "and look_up_estimate");
-  expect(is_refused(mikjuqan_find_plan(block, length, start, POSITIONS, limits, NULL, 0, plan, STEPS), refused),
-         "and find_plan");
+  mikjuqan_search told = mikjuqan_find_plan(block, length, NULL, 0, start, POSITIONS, limits, NULL, 0, plan, STEPS);
+  expect(is_refused(told, refused), "and find_plan");
 }
 
 static void null_out(const uint8_t *block, size_t length, const uint32_t *table) {
@@ -328,20 +409,21 @@ static void null_out(const uint8_t *block, size_t length, const uint32_t *table)
   expect(mikjuqan_next_predecessor(block, length, 2, start, POSITIONS, goal, POSITIONS, NULL, 0).refusal == refused,
          "and next_predecessor");
   expect(mikjuqan_replay_run(block, length, start, POSITIONS, list, 3, NULL, 0).refusal == refused, "and replay_run");
-  expect(is_refused(mikjuqan_find_plan(block, length, start, POSITIONS, limits, table, ENTRIES, NULL, 0), refused),
-         "and find_plan");
+  mikjuqan_search told = mikjuqan_find_plan(block, length, NULL, 0, start, POSITIONS, limits, table, ENTRIES, NULL, 0);
+  expect(is_refused(told, refused), "and find_plan");
 }
 
-/* NULL is right where nothing is needed: a list of no rules, and room for a plan of no steps. */
+/* NULL is right where nothing is needed: a list of no rules, room for a plan of no steps, and no further maps, as in
+ * most calls above. */
 static void null_accepted(const uint8_t *block, size_t length, const uint32_t *table) {
   uint8_t out[POSITIONS] = {9, 9, 9};
   mikjuqan_replay run = mikjuqan_replay_run(block, length, start, POSITIONS, NULL, 0, out, POSITIONS);
   expect(ends(run, 0, 0, 0, MIKJUQAN_NO_GOAL) && same(out, 1, 2, 0), "NULL as list: the replay is done at the start");
 
   mikjuqan_limits no_steps = within(0, 100, 100);
-  mikjuqan_search told = mikjuqan_find_plan(block, length, goal, POSITIONS, no_steps, table, ENTRIES, NULL, 0);
+  mikjuqan_search told = mikjuqan_find_plan(block, length, NULL, 0, goal, POSITIONS, no_steps, table, ENTRIES, NULL, 0);
   expect(finds(told, 0, 0, 1, 0), "NULL for a plan of no steps: it is found from <2,1,0>");
-  told = mikjuqan_find_plan(block, length, start, POSITIONS, no_steps, table, ENTRIES, NULL, 0);
+  told = mikjuqan_find_plan(block, length, NULL, 0, start, POSITIONS, no_steps, table, ENTRIES, NULL, 0);
   expect(lacks(told, MIKJUQAN_NO_PLAN, 1), "and there is none from <1,2,0>");
 }
 
@@ -355,6 +437,7 @@ int main(void) {
   replay(block, length);
   fill_and_look_up(block, length, table);
   search(block, length, table);
+  further_maps(block, length);
   several_goals();
   null_text();
   null_block(table);

@@ -146,25 +146,29 @@ pub fn replay_run(
     (answer, expected_out)
 }
 
-pub fn fill_table(random: &mut Random, block: &[u8], room: usize) -> (Result<(), Refusal>, Vec<u32>) {
+pub fn fill_table(random: &mut Random, block: &[u8], maps: &[u8], room: usize) -> (Result<(), Refusal>, Vec<u32>) {
     let block = Lent::new("block", random, block);
+    let maps = Lent::new("maps", random, maps);
     let mut table = Lent::with_length("table", random, room);
     let mut expected_table = table.to_vec();
-    let expected = calls::fill_table(&block, &mut expected_table);
-    let answer = Exercise::new(&block).fill_table(&mut table);
+    let expected = calls::fill_table(&block, &maps, &mut expected_table);
+    let answer = Exercise::new(&block).with_maps(&maps).fill_table(&mut table);
     assert_eq!(answer, expected);
     block.assert_kept();
+    maps.assert_kept();
     table.assert_holds(&expected_table);
     (answer, expected_table)
 }
 
-pub fn test_table(random: &mut Random, block: &[u8], table: &[u32]) -> Result<bool, Refusal> {
+pub fn test_table(random: &mut Random, block: &[u8], maps: &[u8], table: &[u32]) -> Result<bool, Refusal> {
     let block = Lent::new("block", random, block);
+    let maps = Lent::new("maps", random, maps);
     let table = Lent::new("table", random, table);
-    let expected = calls::test_table(&block, &table);
-    let answer = Exercise::new(&block).test_table(&table);
+    let expected = calls::test_table(&block, &maps, &table);
+    let answer = Exercise::new(&block).with_maps(&maps).test_table(&table);
     assert_eq!(answer, expected);
     block.assert_kept();
+    maps.assert_kept();
     table.assert_kept();
     answer
 }
@@ -172,16 +176,19 @@ pub fn test_table(random: &mut Random, block: &[u8], table: &[u32]) -> Result<bo
 pub fn look_up_estimate(
     random: &mut Random,
     block: &[u8],
+    maps: &[u8],
     state: &[u8],
     table: &[u32],
 ) -> Result<Option<u32>, Refusal> {
     let block = Lent::new("block", random, block);
+    let maps = Lent::new("maps", random, maps);
     let state = Lent::new("state", random, state);
     let table = Lent::new("table", random, table);
-    let expected = calls::look_up_estimate(&block, &state, &table);
-    let answer = Exercise::new(&block).look_up_estimate(&state, &table);
+    let expected = calls::look_up_estimate(&block, &maps, &state, &table);
+    let answer = Exercise::new(&block).with_maps(&maps).look_up_estimate(&state, &table);
     assert_eq!(answer, expected);
     block.assert_kept();
+    maps.assert_kept();
     state.assert_kept();
     table.assert_kept();
     answer
@@ -190,20 +197,24 @@ pub fn look_up_estimate(
 pub fn find_plan(
     random: &mut Random,
     block: &[u8],
+    maps: &[u8],
     start: &[u8],
     limits: Limits,
     table: &[u32],
     room: usize,
 ) -> (Result<Search, Refusal>, Vec<u8>) {
     let block = Lent::new("block", random, block);
+    let maps = Lent::new("maps", random, maps);
     let start = Lent::new("start", random, start);
     let table = Lent::new("table", random, table);
     let mut plan = Lent::with_length("plan", random, room);
     let mut expected_plan = plan.to_vec();
-    let expected = calls::find_plan(&block, &start, limits, &table, &mut expected_plan);
-    let answer = Exercise::new(&block).find_plan(&start, limits, &table, &mut plan).map(Search::from);
+    let expected = calls::find_plan(&block, &maps, &start, limits, &table, &mut expected_plan);
+    let exercise = Exercise::new(&block).with_maps(&maps);
+    let answer = exercise.find_plan(&start, limits, &table, &mut plan).map(Search::from);
     assert_eq!(answer, expected, "{limits:?}");
     block.assert_kept();
+    maps.assert_kept();
     start.assert_kept();
     table.assert_kept();
     plan.assert_holds(&expected_plan);

@@ -61,9 +61,11 @@ fn unpack<T: Copy>(packed: &str, between: char, part: impl Fn(&str) -> Vec<T>) -
 /// The answer of a call in the words of a line, with the buffer that the line expects; other contents are an error
 /// here.
 fn run(name: &str, a: &Arguments, expected: &str) -> String {
-    // What is handed over first is the block, but in two cases.
+    // What is handed over first is the block, but in two cases. Four calls take further maps behind it.
     let block = a.bytes(0);
-    let exercise = Exercise::new(&block);
+    let takes_maps = ["fill_table", "test_table", "look_up_estimate", "find_plan"].contains(&name);
+    let maps = if takes_maps { a.bytes(1) } else { Vec::new() };
+    let exercise = Exercise::new(&block).with_maps(&maps);
     let written = |place: usize, call: &dyn Fn(&mut [u8]) -> String| {
         let after = Arguments(vec![last_word(expected)]);
         let mut out = Lent::new("out", &mut Random::new(1), &a.bytes(place));
@@ -77,8 +79,8 @@ fn run(name: &str, a: &Arguments, expected: &str) -> String {
         "check_block" => words(exercise.check_block()),
         "test_goals" => words(exercise.test_goals(&a.bytes(1))),
         "test_reversible" => words(exercise.test_reversible(a.number(1))),
-        "test_table" => words(exercise.test_table(&a.entries(1))),
-        "look_up_estimate" => words(exercise.look_up_estimate(&a.bytes(1), &a.entries(2))),
+        "test_table" => words(exercise.test_table(&a.entries(2))),
+        "look_up_estimate" => words(exercise.look_up_estimate(&a.bytes(2), &a.entries(3))),
         "relabel_block" => written(1, &|out| words(exercise.relabel_block(out))),
         "apply_rule" => written(3, &|out| words(exercise.apply_rule(a.number(1), &a.bytes(2), out))),
         "first_predecessor" => written(3, &|out| words(exercise.first_predecessor(a.number(1), &a.bytes(2), out))),
@@ -86,9 +88,9 @@ fn run(name: &str, a: &Arguments, expected: &str) -> String {
             written(4, &|out| words(exercise.next_predecessor(a.number(1), &a.bytes(2), &a.bytes(3), out)))
         }
         "replay_run" => written(3, &|out| words(replay(exercise, &a.bytes(1), &a.bytes(2), out))),
-        "find_plan" => written(6, &|plan| {
-            let limits = Limits { steps: a.number(2), cost: a.number(3), visits: a.number(4) };
-            words(exercise.find_plan(&a.bytes(1), limits, &a.entries(5), plan).map(Search::from))
+        "find_plan" => written(7, &|plan| {
+            let limits = Limits { steps: a.number(3), cost: a.number(4), visits: a.number(5) };
+            words(exercise.find_plan(&a.bytes(2), limits, &a.entries(6), plan).map(Search::from))
         }),
         "fill_table" => fill(exercise, a, expected),
         _ => panic!("there is no call {name}"),
@@ -105,7 +107,7 @@ fn replay(exercise: Exercise, start: &[u8], list: &[u8], out: &mut [u8]) -> Resu
 }
 
 fn fill(exercise: Exercise, a: &Arguments, expected: &str) -> String {
-    let mut table = Lent::new("table", &mut Random::new(1), &a.entries(1));
+    let mut table = Lent::new("table", &mut Random::new(1), &a.entries(2));
     let answer = words(exercise.fill_table(&mut table));
     table.assert_holds(&Arguments(vec![last_word(expected)]).entries(0));
     format!("{answer} {}", last_word(expected))

@@ -1,16 +1,19 @@
 //! Random and damaged inputs for each of the thirteen calls, compared with the model: the answer and all lent memory.
 //!
-//! Each test lists the answers and refusals that its call can give, and fails if one of them was not met.
+//! Each test lists the answers and refusals that its call can give, and fails if one of them was not met; those that
+//! are lent further maps do so for each number of them.
 
 use outside::compare;
 use outside::draw::arguments::{
     change_list, damage_sometimes, draw_back, draw_goal_state, draw_room, draw_rule_number, draw_state,
 };
 use outside::draw::limits::draw_limits;
+use outside::draw::maps::DrawnMaps;
 use outside::draw::tables::draw_table;
 use outside::draw::text::draw_text;
 use outside::draw::Drawn;
-use outside::repeat::{cases, repeat, GOALS};
+use outside::random::Random;
+use outside::repeat::{cases, repeat, Kind, GOALS};
 
 /// Calls that make no table take exercises with any number of abstract states.
 const ANY: usize = 16_384;
@@ -110,43 +113,57 @@ fn replay_run() {
     });
 }
 
+/// Runs a case with each number of further maps, from none to three. Each can be damaged, none too, and so each of them
+/// meets all answers and refusals.
+fn repeat_by_maps<T: Kind>(name: &str, possible: &str, case: impl Fn(&mut Random, usize) -> T) {
+    for count in 0..=3 {
+        let name = format!("{name} with {count} further maps");
+        repeat(&name, cases() / 4, possible, |random| case(random, count));
+    }
+}
+
 #[test]
 fn fill_table() {
-    repeat("fill_table", cases(), "accepted, 3, 4, 5, 6, 7, 12", |random| {
+    repeat_by_maps("fill_table", "accepted, 3, 4, 5, 6, 7, 14, 15, 12", |random, count| {
         let drawn = Drawn::new(random, FEW);
-        let room = draw_room(random, drawn.draft.sizes.abstract_states().unwrap_or(20));
-        compare::fill_table(random, &drawn.block, room).0
+        let maps = DrawnMaps::new(random, &drawn.draft, count, FEW);
+        let room = draw_room(random, maps.mapped(&drawn).map_or(20, |mapped| mapped.entries()));
+        compare::fill_table(random, &drawn.block, &maps.bytes, room).0
     });
 }
 
 #[test]
 fn test_table() {
-    repeat("test_table", cases(), "yes, no, 3, 4, 5, 6, 7, 12", |random| {
+    repeat_by_maps("test_table", "yes, no, 3, 4, 5, 6, 7, 14, 15, 12", |random, count| {
         let drawn = Drawn::new(random, FEW);
-        let table = draw_table(random, &drawn);
-        compare::test_table(random, &drawn.block, &table)
+        let maps = DrawnMaps::new(random, &drawn.draft, count, FEW);
+        let table = draw_table(random, &drawn, &maps);
+        compare::test_table(random, &drawn.block, &maps.bytes, &table)
     });
 }
 
 #[test]
 fn look_up_estimate() {
-    repeat("look_up_estimate", cases(), "estimate, no path, 3, 4, 5, 6, 7, 8, 12", |random| {
+    repeat_by_maps("look_up_estimate", "estimate, no path, 3, 4, 5, 6, 7, 14, 15, 8, 12", |random, count| {
         let drawn = Drawn::new(random, FEW);
+        let maps = DrawnMaps::new(random, &drawn.draft, count, FEW);
         let state = draw_state(random, &drawn.draft);
-        let table = draw_table(random, &drawn);
-        compare::look_up_estimate(random, &drawn.block, &state, &table)
+        let table = draw_table(random, &drawn, &maps);
+        compare::look_up_estimate(random, &drawn.block, &maps.bytes, &state, &table)
     });
 }
 
 #[test]
 fn find_plan() {
     let answers = format!("found at the start, found near, found far, {GOALS}, no plan, spent");
-    repeat("find_plan", cases(), &format!("{answers}, 3, 4, 5, 6, 7, 8, 10, 11, 12, 13"), |random| {
+    let possible = format!("{answers}, 3, 4, 5, 6, 7, 14, 15, 8, 10, 11, 12, 13");
+    repeat_by_maps("find_plan", &possible, |random, count| {
         let (drawn, start) = Drawn::with_start(random, FEW);
+        let maps = DrawnMaps::new(random, &drawn.draft, count, FEW);
         let start = damage_sometimes(random, &drawn.draft, start);
-        let table = draw_table(random, &drawn);
-        let limits = draw_limits(random, &drawn.block, &start, &table);
+        let table = draw_table(random, &drawn, &maps);
+        let limits = draw_limits(random, &drawn.block, &maps.bytes, &start, &table);
         let room = draw_room(random, limits.steps.min(70));
-        compare::find_plan(random, &drawn.block, &start, limits, &table, room).0
+        compare::find_plan(random, &drawn.block, &maps.bytes, &start, limits, &table, room).0
     });
 }

@@ -1,6 +1,6 @@
 //! Every slice of every call handed over empty once, as `&[]`, whose pointer points nowhere.
 
-use mikjuqan::{read_exercise, Exercise, Limits, Refusal, BLOCK_LENGTH};
+use mikjuqan::{read_exercise, Exercise, Limits, Refusal, BLOCK_LENGTH, NO_PATH};
 use outside::model::answers::{Replay, Search};
 use outside::samples::{e_block, E_TEXT};
 
@@ -59,6 +59,37 @@ fn states() {
     assert_eq!(with_e(|e, out| e.replay_run(&[], &[2, 0, 5], out)), Err(refused));
     assert_eq!(with_e(|e, _| e.look_up_estimate(&[], &TABLE)), Err(refused));
     assert_eq!(with_e(|e, plan| e.find_plan(&[], LIMITS, &TABLE, plan)), Err(refused));
+}
+
+/// Empty further maps are none; what else is wrong is told as without them.
+#[test]
+fn maps() {
+    let mut table = [0xEEEE; 9];
+    assert_eq!(with_e(|e, _| e.with_maps(&[]).fill_table(&mut table)), Ok(()));
+    assert_eq!(table, [NO_PATH, NO_PATH, NO_PATH, 2, NO_PATH, 1, 0, NO_PATH, 0xEEEE]);
+    assert_eq!(with_e(|e, _| e.with_maps(&[]).test_table(&table)), Ok(true));
+    assert_eq!(with_e(|e, _| e.with_maps(&[]).look_up_estimate(&START, &table)), Ok(Some(0)));
+    let found = with_e(|e, plan| e.with_maps(&[]).find_plan(&START, LIMITS, &table, plan)).map(Search::from);
+    assert_eq!(found, Ok(Search::Found { steps: 3, cost: 5, visits: 10, goal: 0 }));
+    let nothing = Exercise::new(&[]).with_maps(&[]);
+    assert_eq!(nothing.fill_table(&mut table), Err(Refusal::Head));
+    assert_eq!(nothing.test_table(&table), Err(Refusal::Head));
+    assert_eq!(nothing.look_up_estimate(&[], &[]), Err(Refusal::Head));
+    assert_eq!(nothing.find_plan(&[], LIMITS, &[], &mut []).map(Search::from), Err(Refusal::Head));
+}
+
+/// With a further map all else may be empty: the state, the table, the plan.
+#[test]
+fn all_but_maps() {
+    const MAP: [u8; 4] = [2, 0, 0, 1];
+    assert_eq!(with_e(|e, _| e.with_maps(&MAP).fill_table(&mut [])), Err(Refusal::TableShort));
+    assert_eq!(with_e(|e, _| e.with_maps(&MAP).test_table(&[])), Err(Refusal::TableShort));
+    assert_eq!(with_e(|e, _| e.with_maps(&MAP).look_up_estimate(&[], &[])), Err(Refusal::State));
+    assert_eq!(with_e(|e, _| e.with_maps(&MAP).look_up_estimate(&START, &[])), Err(Refusal::TableShort));
+    let find = |start: &[u8], plan: &mut [u8]| with_e(|e, _| e.with_maps(&MAP).find_plan(start, LIMITS, &[], plan));
+    assert_eq!(find(&[], &mut []), Err(Refusal::State));
+    assert_eq!(find(&START, &mut []), Err(Refusal::Buffer));
+    assert_eq!(find(&START, &mut [0; 8]), Err(Refusal::TableShort));
 }
 
 #[test]

@@ -38,7 +38,7 @@ fn replay(block: &[u8], start: &[u8], list: &[u8]) -> Replay {
 /// What a search by the zero table answers, with enough steps, cost and visits.
 fn find(block: &[u8], start: &[u8]) -> Search {
     let limits = Limits { steps: 8, cost: 100, visits: 100 };
-    compare::find_plan(&mut Random::new(1), block, start, limits, &[0; 81], 8).0.expect("nothing is wrong")
+    compare::find_plan(&mut Random::new(1), block, &[], start, limits, &[0; 81], 8).0.expect("nothing is wrong")
 }
 
 fn goal_found(block: &[u8], start: &[u8]) -> u8 {

@@ -2,13 +2,13 @@
 //!
 //! Besides comparing with the model, each test states at which lengths its call is accepted.
 
-use mikjuqan::{Limits, Refusal};
+use mikjuqan::{Limits, Refusal, TABLE_LENGTH};
 use outside::compare;
 use outside::draw::arguments::draw_run;
 use outside::model::block::check;
 use outside::model::exercise::Exercise;
+use outside::model::maps::Mapped;
 use outside::model::matching::apply;
-use outside::model::table::fill;
 use outside::model::text::encode_line;
 use outside::random::Random;
 use outside::samples::{e_block, samples};
@@ -37,8 +37,25 @@ impl Subject {
         self.exercise.positions
     }
 
-    fn table(&self) -> Vec<u32> {
-        fill(&self.exercise)
+    /// No further maps, and three where there is room for their tables, two abstract labels in each where there is.
+    fn lendings(&self) -> Vec<Vec<u8>> {
+        let map =
+            |count: u8| [count].into_iter().chain((0..self.exercise.labels as u8).map(move |label| label % count));
+        let mut maps = Vec::new();
+        for _ in 0..3 {
+            let longer = [2, 1].map(|count| maps.iter().copied().chain(map(count)).collect::<Vec<u8>>());
+            maps = longer.into_iter().find(|maps| self.mapped(maps).is_ok()).unwrap_or(maps);
+        }
+        vec![Vec::new(), maps]
+    }
+
+    fn mapped(&self, maps: &[u8]) -> Result<Mapped, Refusal> {
+        Mapped::new(self.exercise.clone(), maps)
+    }
+
+    /// The filled tables.
+    fn tables(&self, maps: &[u8]) -> Vec<u32> {
+        self.mapped(maps).expect("the maps are accepted").fill()
     }
 }
 
@@ -101,6 +118,24 @@ fn try_states<T>(subject: &Subject, mut call: impl FnMut(&[u8]) -> Result<T, Ref
     let tried = try_lengths(needed, |length| call(&with_length(&subject.state, length)));
     assert_eq!(tried.accepted, [needed], "states of {}", subject.name);
     assert_eq!(tried.refusals, [Refusal::State], "states of {}", subject.name);
+}
+
+/// Tries further maps of every length, up to more than three, each with one abstract label: those that are not whole
+/// maps are refused with 14, and in the exercise with the largest table there is no room for one more entry. The tables
+/// are zero.
+fn try_maps<T>(subject: &Subject, mut call: impl FnMut(&[u8], &[u32]) -> Result<T, Refusal>) {
+    let width = 1 + subject.exercise.labels;
+    let own = subject.exercise.abstract_states();
+    let map: Vec<u8> = [1].into_iter().chain(vec![0; subject.exercise.labels]).collect();
+    let tables = vec![0; own + 3];
+    let tried = try_lengths(4 * width, |length| call(&map.repeat(8)[..length], &tables));
+    if own == TABLE_LENGTH {
+        assert_eq!(tried.accepted, [0], "maps of {}", subject.name);
+        assert!(tried.refusals.iter().all(|refusal| [Refusal::Maps, Refusal::MapRange].contains(refusal)));
+    } else {
+        assert_eq!(tried.accepted, [0, width, 2 * width, 3 * width], "maps of {}", subject.name);
+        assert_eq!(tried.refusals, [Refusal::Maps], "maps of {}", subject.name);
+    }
 }
 
 /// Tries a buffer of every length: those shorter than what is needed are refused.
@@ -228,9 +263,13 @@ fn replay_run() {
 fn fill_table() {
     let random = &mut Random::new(10);
     for subject in subjects() {
-        let needed = subject.exercise.abstract_states();
-        try_blocks(&subject, |block| compare::fill_table(random, block, needed).0);
-        try_rooms(needed, Refusal::TableShort, |room| compare::fill_table(random, &subject.block, room).0);
+        let block = &subject.block;
+        for maps in subject.lendings() {
+            let needed = subject.tables(&maps).len();
+            try_blocks(&subject, |block| compare::fill_table(random, block, &maps, needed).0);
+            try_rooms(needed, Refusal::TableShort, |room| compare::fill_table(random, block, &maps, room).0);
+        }
+        try_maps(&subject, |maps, tables| compare::fill_table(random, block, maps, tables.len()).0);
     }
 }
 
@@ -238,11 +277,15 @@ fn fill_table() {
 fn test_table() {
     let random = &mut Random::new(11);
     for subject in subjects() {
-        let table = subject.table();
-        try_blocks(&subject, |block| compare::test_table(random, block, &table));
-        try_rooms(table.len(), Refusal::TableShort, |room| {
-            compare::test_table(random, &subject.block, &with_length(&table, room))
-        });
+        let block = &subject.block;
+        for maps in subject.lendings() {
+            let tables = subject.tables(&maps);
+            try_blocks(&subject, |block| compare::test_table(random, block, &maps, &tables));
+            try_rooms(tables.len(), Refusal::TableShort, |room| {
+                compare::test_table(random, block, &maps, &with_length(&tables, room))
+            });
+        }
+        try_maps(&subject, |maps, tables| compare::test_table(random, block, maps, tables));
     }
 }
 
@@ -251,36 +294,44 @@ fn look_up_estimate() {
     let random = &mut Random::new(12);
     for subject in subjects() {
         let Subject { block, state, .. } = &subject;
-        let table = subject.table();
-        try_blocks(&subject, |block| compare::look_up_estimate(random, block, state, &table));
-        try_states(&subject, |state| compare::look_up_estimate(random, block, state, &table));
-        try_rooms(table.len(), Refusal::TableShort, |room| {
-            compare::look_up_estimate(random, block, state, &with_length(&table, room))
-        });
+        for maps in subject.lendings() {
+            let tables = subject.tables(&maps);
+            try_blocks(&subject, |block| compare::look_up_estimate(random, block, &maps, state, &tables));
+            try_states(&subject, |state| compare::look_up_estimate(random, block, &maps, state, &tables));
+            try_rooms(tables.len(), Refusal::TableShort, |room| {
+                compare::look_up_estimate(random, block, &maps, state, &with_length(&tables, room))
+            });
+        }
+        try_maps(&subject, |maps, tables| compare::look_up_estimate(random, block, maps, state, tables));
     }
 }
 
 #[test]
 fn find_plan() {
     let random = &mut Random::new(13);
+    let limits = Limits { steps: 64, cost: 100, visits: 100 };
     for subject in subjects() {
         let Subject { block, state, .. } = &subject;
-        let table = subject.table();
-        let limits = Limits { steps: 64, cost: 100, visits: 100 };
-        try_blocks(&subject, |block| compare::find_plan(random, block, state, limits, &table, 64).0);
-        try_states(&subject, |state| compare::find_plan(random, block, state, limits, &table, 64).0);
-        try_rooms(table.len(), Refusal::TableShort, |room| {
-            compare::find_plan(random, block, state, limits, &with_length(&table, room), 64).0
-        });
-        for steps in [0, 1, 2, 63, 64] {
-            let limits = Limits { steps, ..limits };
-            try_rooms(steps, Refusal::Buffer, |room| compare::find_plan(random, block, state, limits, &table, room).0);
+        for maps in &subject.lendings() {
+            let tables = subject.tables(maps);
+            try_blocks(&subject, |block| compare::find_plan(random, block, maps, state, limits, &tables, 64).0);
+            try_states(&subject, |state| compare::find_plan(random, block, maps, state, limits, &tables, 64).0);
+            try_rooms(tables.len(), Refusal::TableShort, |room| {
+                compare::find_plan(random, block, maps, state, limits, &with_length(&tables, room), 64).0
+            });
+            for steps in [0, 1, 2, 63, 64] {
+                let limits = Limits { steps, ..limits };
+                try_rooms(steps, Refusal::Buffer, |room| {
+                    compare::find_plan(random, block, maps, state, limits, &tables, room).0
+                });
+            }
+            let tried = try_lengths(64, |steps| {
+                let limits = Limits { steps, ..limits };
+                compare::find_plan(random, block, maps, state, limits, &tables, 64).0
+            });
+            assert_eq!(tried.accepted, (0..=64).collect::<Vec<_>>(), "step limits of {}", subject.name);
+            assert_eq!(tried.refusals, [Refusal::Limit], "step limits of {}", subject.name);
         }
-        let tried = try_lengths(64, |steps| {
-            let limits = Limits { steps, ..limits };
-            compare::find_plan(random, block, state, limits, &table, 64).0
-        });
-        assert_eq!(tried.accepted, (0..=64).collect::<Vec<_>>(), "step limits of {}", subject.name);
-        assert_eq!(tried.refusals, [Refusal::Limit], "step limits of {}", subject.name);
+        try_maps(&subject, |maps, tables| compare::find_plan(random, block, maps, state, limits, tables, 64).0);
     }
 }

@@ -1,14 +1,18 @@
-//! What is promised of every plan, looked at without a table: by looking at all lists of rules within the step limit.
+//! What is promised of every plan, with none to three further maps, looked at without a table: by looking at all lists
+//! of rules within the step limit.
 
 use mikjuqan::Limits;
 use outside::compare;
-use outside::draw::tables::draw_passing;
+use outside::draw::maps::draw_map;
+use outside::draw::sizes::Sizes;
+use outside::draw::tables::draw_passing_entries;
 use outside::draw::Drawn;
 use outside::model;
 use outside::model::answers::{Replay, Search};
 use outside::model::block::check;
 use outside::model::exercise::Exercise;
 use outside::model::exhaustive::{first_cheapest, least_cost, Plan};
+use outside::model::maps::Mapped;
 use outside::model::table::Graph;
 use outside::random::Random;
 use outside::repeat::{cases, repeat, GOALS};
@@ -19,9 +23,11 @@ const MOST: usize = 5000;
 const ANY: u32 = u32::MAX;
 
 /// What the library answers, and the plan.
-fn find(exercise: &Exercise, start: &[u8], limits: Limits, table: &[u32]) -> (Search, Vec<u8>) {
+fn find(exercise: &Exercise, start: &[u8], limits: Limits, lent: &Lent) -> (Search, Vec<u8>) {
     let mut plan = vec![0; limits.steps];
-    let answer = mikjuqan::Exercise::new(&exercise.encode()).find_plan(start, limits, table, &mut plan);
+    let block = exercise.encode();
+    let mapped = mikjuqan::Exercise::new(&block).with_maps(&lent.maps);
+    let answer = mapped.find_plan(start, limits, &lent.tables, &mut plan);
     let answer = answer.map(Search::from).expect("nothing is wrong");
     (answer, plan[..answer.steps()].to_vec())
 }
@@ -40,13 +46,25 @@ fn draw_small(random: &mut Random) -> (Exercise, Vec<u8>, usize, Option<Plan>) {
     }
 }
 
-/// The filled table, the zero table, or any that passes.
-fn draw_table(random: &mut Random, exercise: &Exercise) -> Vec<u32> {
-    let graph = Graph::new(exercise);
-    match random.below(3) {
-        0 => graph.least_costs(),
-        1 => vec![0; graph.goals.len()],
-        _ => draw_passing(random, &graph),
+/// Further maps, none to three, and a table that passes the test for each map.
+#[derive(Debug)]
+struct Lent {
+    maps: Vec<u8>,
+    tables: Vec<u32>,
+    mapped: Mapped,
+}
+
+impl Lent {
+    fn draw(random: &mut Random, exercise: &Exercise) -> Lent {
+        let mut maps = Vec::new();
+        for _ in 0..random.below(4) {
+            let longer = [maps.clone(), draw_map(random, &Sizes::of(exercise), 64)].concat();
+            // An exercise with a very large table has no room for more.
+            maps = if Mapped::new(exercise.clone(), &longer).is_ok() { longer } else { maps };
+        }
+        let mapped = Mapped::new(exercise.clone(), &maps).expect("the maps are within the limits");
+        let draw = |exercise: &Exercise| draw_passing_entries(random, &Graph::new(exercise));
+        Lent { tables: mapped.exercises().iter().flat_map(draw).collect(), maps, mapped }
     }
 }
 
@@ -59,12 +77,12 @@ fn never_spent() -> String {
 fn plan_is_the_first_cheapest_open_list() {
     repeat("plan_is_the_first_cheapest_open_list", cases() / 5, &never_spent(), |random| {
         let (exercise, start, steps, plan) = draw_small(random);
-        let table = draw_table(random, &exercise);
-        let (answer, rules) = find(&exercise, &start, Limits { steps, cost: ANY, visits: ANY }, &table);
+        let lent = Lent::draw(random, &exercise);
+        let (answer, rules) = find(&exercise, &start, Limits { steps, cost: ANY, visits: ANY }, &lent);
         let cost = if let Search::Found { cost, .. } = answer { Some(cost) } else { None };
-        assert_eq!(cost, plan.as_ref().map(|plan| plan.cost), "{exercise:?} {start:?} {steps} {table:?}");
+        assert_eq!(cost, plan.as_ref().map(|plan| plan.cost), "{exercise:?} {start:?} {steps} {lent:?}");
         assert_eq!(cost, least_cost(&exercise, &start, steps), "lists that pass a state twice are not cheaper");
-        assert_eq!(rules, plan.map_or(vec![], |plan| plan.rules), "{exercise:?} {start:?} {steps} {table:?}");
+        assert_eq!(rules, plan.map_or(vec![], |plan| plan.rules), "{exercise:?} {start:?} {steps} {lent:?}");
         answer
     });
 }
@@ -73,8 +91,8 @@ fn plan_is_the_first_cheapest_open_list() {
 fn plan_that_is_replayed_ends_at_its_goal() {
     repeat("plan_that_is_replayed", cases() / 5, &never_spent(), |random| {
         let (exercise, start, steps, _) = draw_small(random);
-        let table = draw_table(random, &exercise);
-        let (answer, rules) = find(&exercise, &start, Limits { steps, cost: ANY, visits: ANY }, &table);
+        let lent = Lent::draw(random, &exercise);
+        let (answer, rules) = find(&exercise, &start, Limits { steps, cost: ANY, visits: ANY }, &lent);
         if let Search::Found { steps, cost, goal, .. } = answer {
             let block = exercise.encode();
             let (end, state) = compare::replay_run(random, &block, &start, &rules, start.len());
@@ -91,8 +109,8 @@ fn cost_limit_decides_whether_there_is_a_plan() {
         let (exercise, start, steps, plan) = draw_small(random);
         let least = plan.as_ref().map_or(random.below(20) as u32, |plan| plan.cost);
         let cost = random.pick(&[least, least + 1, least.saturating_sub(1), 0]);
-        let table = draw_table(random, &exercise);
-        let (answer, rules) = find(&exercise, &start, Limits { steps, cost, visits: ANY }, &table);
+        let lent = Lent::draw(random, &exercise);
+        let (answer, rules) = find(&exercise, &start, Limits { steps, cost, visits: ANY }, &lent);
         let within = plan.filter(|plan| plan.cost <= cost);
         assert_eq!(matches!(answer, Search::Found { .. }), within.is_some());
         assert_eq!(rules, within.map_or(vec![], |plan| plan.rules));
@@ -105,14 +123,14 @@ fn cost_limit_decides_whether_there_is_a_plan() {
 fn spent_exactly_where_more_visits_are_made() {
     repeat("spent_exactly", cases() / 5, &format!("{}, spent", never_spent()), |random| {
         let (exercise, start, steps, _) = draw_small(random);
-        let table = draw_table(random, &exercise);
+        let lent = Lent::draw(random, &exercise);
         let limits = Limits { steps, cost: random.pick(&[ANY, 5]), visits: ANY };
-        let free = model::search::find(&exercise, &start, limits, &table);
+        let free = model::search::find(&exercise, &start, limits, &|state| lent.mapped.estimate(&lent.tables, state));
         let (Search::Found { visits: made, .. } | Search::NoPlan { visits: made }) = free.0 else {
             panic!("so many visits cannot be spent");
         };
         let visits = random.pick(&[made, made + 1, made.saturating_sub(1), made / 2]);
-        let limited = find(&exercise, &start, Limits { visits, ..limits }, &table);
+        let limited = find(&exercise, &start, Limits { visits, ..limits }, &lent);
         if visits < made {
             assert_eq!(limited, (Search::Spent { visits }, vec![]));
         } else {

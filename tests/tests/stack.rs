@@ -61,20 +61,18 @@ fn deep_text(side: Side) -> Vec<u8> {
     deep_frames(side).iter().flat_map(|frame| encode_line(frame)).collect()
 }
 
-/// Exercises with 16,384 abstract states and 64 rules: rules that always apply, rules that turn all labels, and rules
-/// that change one.
-fn large_blocks() -> Vec<Vec<u8>> {
-    let head = [[14, 2, 2, 64, 8].as_slice(), &[0, 1]].concat();
-    let goals = [0x01; 8 * 14];
-    let always = [[1].as_slice(), &[0xFF; 14], &[0; 14]].concat();
-    let turned: Vec<u8> = (0..14).map(|position| 0x10 + (position + 1) % 14).collect();
-    let turn = [[1].as_slice(), &(0x10..0x1E).collect::<Vec<u8>>(), &turned].concat();
-    let mut change = [0xFF; 29];
-    (change[0], change[14], change[28]) = (255, 0, 1);
-    [always, turn, change.to_vec()]
-        .iter()
-        .map(|rule| [head.clone(), rule.repeat(64), goals.to_vec()].concat())
-        .collect()
+/// Exercises of two labels with so many positions and 64 rules: rules that always apply, rules that turn all labels,
+/// and rules that change one.
+fn large_blocks(positions: u8) -> Vec<Vec<u8>> {
+    let n = usize::from(positions);
+    let head = [positions, 2, 2, 64, 8, 0, 1].to_vec();
+    let goals = vec![0x01; 8 * n];
+    let always = [vec![1], vec![0xFF; n], vec![0; n]].concat();
+    let turned: Vec<u8> = (0..positions).map(|position| 0x10 + (position + 1) % positions).collect();
+    let turn = [vec![1], (0x10..0x10 + positions).collect(), turned].concat();
+    let mut change = vec![0xFF; 1 + 2 * n];
+    (change[0], change[n], change[2 * n]) = (255, 0, 1);
+    [always, turn, change].iter().map(|rule| [head.clone(), rule.repeat(64), goals.clone()].concat()).collect()
 }
 
 /// Prints a figure and asserts that it is within a limit.
@@ -83,39 +81,53 @@ fn report(name: &str, bytes: usize, most_kib: usize) {
     assert!(bytes <= most_kib * KIB, "{name} uses {bytes} bytes of stack");
 }
 
-#[test]
-fn find_plan() {
+/// The most stack of a search that goes as deep as can be, by none or three further maps, each to one abstract label.
+fn used_by_searches(maps: &[u8]) -> usize {
     // With a cost limit of 0 there is but one round.
     let limits = Limits { steps: 64, cost: 0, visits: 10_000 };
     let used = |side: Side| {
         let block = deep_frames(side).concat();
         let mut plan = [0; PLAN_LENGTH];
-        let expected = calls::find_plan(&block, &DEEP_START, limits, &[0], &mut plan);
+        let expected = calls::find_plan(&block, maps, &DEEP_START, limits, &[0; 4], &mut plan);
         let mut answer = None;
-        let exercise = Exercise::new(&block);
-        let used = used_by(|| answer = Some(exercise.find_plan(&DEEP_START, limits, &[0], &mut plan)));
+        let exercise = Exercise::new(&block).with_maps(maps);
+        let used = used_by(|| answer = Some(exercise.find_plan(&DEEP_START, limits, &[0; 4], &mut plan)));
         assert_eq!(answer.map(|told| told.map(Search::from)), Some(expected));
         println!("stack: find_plan with side extensions {side:?}: {} KiB, {expected:?}", used.div_ceil(KIB));
         used
     };
-    report("find_plan", SIDES.map(used).into_iter().max().expect("there are sides"), 256);
+    SIDES.map(used).into_iter().max().expect("there are sides")
+}
+
+#[test]
+fn find_plan() {
+    report("find_plan", used_by_searches(&[]), 320);
+    report("find_plan with three further maps", used_by_searches(&[1, 0, 0, 0].repeat(3)), 320);
+}
+
+/// Large exercises with further maps: one map and 16,384 abstract states, and four maps with 4,096 each.
+fn large_mapped_blocks() -> impl Iterator<Item = (Vec<u8>, Vec<u8>)> {
+    let four = large_blocks(12).into_iter().map(|block| (block, [2, 0, 1, 2, 1, 0, 2, 0, 0].to_vec()));
+    large_blocks(14).into_iter().map(|block| (block, Vec::new())).chain(four)
 }
 
 #[test]
 fn fill_table() {
-    let used = large_blocks().into_iter().map(|block| {
+    let used = large_mapped_blocks().map(|(block, maps)| {
         let mut table = vec![0; TABLE_LENGTH];
-        used_by(move || Exercise::new(&block).fill_table(&mut table).expect("the exercise is accepted"))
+        let exercise = Exercise::new(&block).with_maps(&maps);
+        used_by(|| exercise.fill_table(&mut table).expect("the exercise is accepted"))
     });
     report("fill_table", used.max().expect("there are blocks"), 235);
 }
 
 #[test]
 fn test_table() {
-    let used = large_blocks().into_iter().map(|block| {
+    let used = large_mapped_blocks().map(|(block, maps)| {
         let mut table = vec![0; TABLE_LENGTH];
-        Exercise::new(&block).fill_table(&mut table).expect("the exercise is accepted");
-        used_by(move || assert_eq!(Exercise::new(&block).test_table(&table), Ok(true)))
+        let exercise = Exercise::new(&block).with_maps(&maps);
+        exercise.fill_table(&mut table).expect("the exercise is accepted");
+        used_by(|| assert_eq!(exercise.test_table(&table), Ok(true)))
     });
     report("test_table", used.max().expect("there are blocks"), 96);
 }
@@ -134,7 +146,7 @@ fn other_calls() {
     let block = deep_frames(Side::Visited).concat();
     let exercise = Exercise::new(&block);
     let (state, last) = (DEEP_START, 63);
-    let large = large_blocks().remove(0);
+    let (large, maps) = (large_blocks(12).remove(0), [2, 0, 1].repeat(3));
     let table = vec![0; TABLE_LENGTH];
     let list = [last as u8; LIST_LENGTH];
     let (mut long, mut out) = ([0; BLOCK_LENGTH], [0; 16]);
@@ -147,7 +159,10 @@ fn other_calls() {
         used_by(|| assert_eq!(exercise.next_predecessor(last, &state, &[0; 16], &mut out), Ok(true))),
         used_by(|| assert_eq!(exercise.test_reversible(last), Ok(true))),
         used_by(|| assert!(exercise.replay_run(&state, &list, &mut out).is_ok())),
-        used_by(|| assert_eq!(Exercise::new(&large).look_up_estimate(&[1; 14], &table), Ok(Some(0)))),
+        used_by(|| {
+            let exercise = Exercise::new(&large).with_maps(&maps);
+            assert_eq!(exercise.look_up_estimate(&[1; 12], &table), Ok(Some(0)));
+        }),
     ];
     report("the largest of the other calls", used.into_iter().max().expect("there are calls"), 64);
 }

@@ -56,6 +56,11 @@ fn goals() {
     check_all("goals", 340);
 }
 
+#[test]
+fn maps() {
+    check_all("maps", 2300);
+}
+
 /// A line with another answer, or another buffer, is noticed.
 #[test]
 fn faults() {

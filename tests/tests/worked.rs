@@ -21,7 +21,7 @@ const C: u8 = 0x12;
 
 /// What a search of input E answers, and its plan.
 fn find_in_e(start: &[u8], limits: Limits, table: &[u32]) -> (Result<Search, Refusal>, Vec<u8>) {
-    let (answer, plan) = compare::find_plan(&mut Random::new(1), &e_block(), start, limits, table, limits.steps);
+    let (answer, plan) = compare::find_plan(&mut Random::new(1), &e_block(), &[], start, limits, table, limits.steps);
     (answer, plan[..answer.map_or(0, Search::steps)].to_vec())
 }
 
@@ -56,13 +56,13 @@ fn text_of_e_is_its_block() {
 #[test]
 fn table_of_e() {
     let random = &mut Random::new(4);
-    let (answer, table) = compare::fill_table(random, &e_block(), 8);
+    let (answer, table) = compare::fill_table(random, &e_block(), &[], 8);
     assert_eq!((answer, table.as_slice()), (Ok(()), E_TABLE.as_slice()));
-    assert_eq!(compare::test_table(random, &e_block(), &E_TABLE), Ok(true));
-    assert_eq!(compare::test_table(random, &e_block(), &[0; 8]), Ok(true));
-    assert_eq!(compare::look_up_estimate(random, &e_block(), &E_START, &E_TABLE), Ok(Some(0)));
-    assert_eq!(compare::look_up_estimate(random, &e_block(), &[0, 1, 2], &E_TABLE), Ok(Some(2)));
-    assert_eq!(compare::look_up_estimate(random, &e_block(), &[0, 0, 0], &E_TABLE), Ok(None));
+    assert_eq!(compare::test_table(random, &e_block(), &[], &E_TABLE), Ok(true));
+    assert_eq!(compare::test_table(random, &e_block(), &[], &[0; 8]), Ok(true));
+    assert_eq!(compare::look_up_estimate(random, &e_block(), &[], &E_START, &E_TABLE), Ok(Some(0)));
+    assert_eq!(compare::look_up_estimate(random, &e_block(), &[], &[0, 1, 2], &E_TABLE), Ok(Some(2)));
+    assert_eq!(compare::look_up_estimate(random, &e_block(), &[], &[0, 0, 0], &E_TABLE), Ok(None));
 }
 
 #[test]
@@ -151,9 +151,10 @@ fn relabelling_twice_changes_nothing_more() {
 
 #[test]
 fn numbers_of_refusals() {
-    let names = "Character Line Head Length Map Term Unbound State Rule Limit Buffer TableShort TableFails";
+    let names =
+        "Character Line Head Length Map Term Unbound State Rule Limit Buffer TableShort TableFails Maps MapRange";
     let numbers: Vec<u32> = Refusal::ALL.iter().map(|refusal| refusal.number()).collect();
-    assert_eq!(numbers, (1..=13).collect::<Vec<u32>>());
+    assert_eq!(numbers, (1..=15).collect::<Vec<u32>>());
     let shown: Vec<String> = Refusal::ALL.iter().map(|refusal| format!("{refusal:?}")).collect();
     assert_eq!(shown.join(" "), names);
 }

@@ -3,6 +3,8 @@
 pub mod Truth
 pub mod Bounded
 pub mod Lists
+pub mod Placing
+pub mod Sums
 pub mod ByteLists
 pub mod Digits
 pub mod Comparing

@@ -3,16 +3,20 @@
 -- bytes of a relabelled block, rest on these.
 use mathlib.Core.Path.{_≡_, refl, sym, ap, ap₂, _∙_}
 use mathlib.Core.Logic.{⊎-elim}
-use mathlib.Core.List.{List, [], _∷_, _++_, append-nil}
-use Prim.Native.Nat.{ℕ, zero, suc, _+_, _*_, _≤_, _<_}
+use mathlib.Core.List.{List, [], _∷_, _++_, append-nil, append-assoc}
+use Prim.Native.Nat.{ℕ, zero, suc, _+_, _*_, _-_, _≤_, _<_}
 use native.Mathlib.Nat.{eq-or-lt-of-le, le-of-suc-le-suc, not-suc-le-zero, add-zero, suc-add, add-suc, zero-add}
-use native.Mathlib.Nat.{suc-mul, zero-mul, mul-le-mul-right}
 use native.Mathlib.Omega.{arith}
 use native.Mathlib.Numerals.{add-one}
 use lib.ListN.{length, getD, set, take, drop, length-append, List·getD-append, length-drop, drop-of-length-le}
-use lib.Seq.{ext-getD, getD-append-add, getD-set-same, getD-set-other, take-length, take-at, sets, sets-eq}
+use lib.ListN.{length-set}
+use lib.Seq.{ext-getD, getD-append-add, getD-set-same, getD-set-other, set-append-left, take-length, take-at}
+use lib.Seq.{sets, sets-eq, take-all, take-append-seam, drop-append-seam, drop-append-add, drop-drop}
 use borrow.Author.Count.{below-more}
+use borrow.Rule.Slice.PartMut.{midOf, putMid}
 use Rattle.basics.specs.Lists.{tabulateFrom, tabulate, joined, atFront}
+use Rattle.basics.specs.Sums.{sumTo}
+use Rattle.basics.proofs.Sums.{sum-same, sum-rises}
 
 length-from : (n i : ℕ) (f : ℕ → ℕ) → length (tabulateFrom i n f) ≡ n
 length-from zero i f = refl
@@ -52,31 +56,38 @@ tabulate-ext n f g h =
     same-list n (tabulate n f) (tabulate n g) (length-tabulate n f) (length-tabulate n g) (λ k l.
     getD-tabulate n f k l ∙ h k l ∙ sym (getD-tabulate n g k l))
 
--- lists of one length w behind one another
-module _ (f : ℕ → List ℕ) (w : ℕ) where
-  pub length-joined : (n : ℕ) → ((r : ℕ) → r < n → length (f r) ≡ w) → length (joined n f) ≡ n * w
-  length-joined zero h = sym (zero-mul w)
-  length-joined (suc n) h =
+-- lists of the lengths g 0, g 1, .. behind one another
+module _ (f : ℕ → List ℕ) (g : ℕ → ℕ) where
+  pub length-joined-sum : (n : ℕ) → ((r : ℕ) → r < n → length (f r) ≡ g r) → length (joined n f) ≡ sumTo g n
+  length-joined-sum zero h = refl
+  length-joined-sum (suc n) h =
       length-append (joined n f) (f n)
-      ∙ ap₂ _+_ (length-joined n (λ r l. h r (omega arith))) (h n (omega arith))
-      ∙ sym (suc-mul n w)
+      ∙ ap₂ _+_ (length-joined-sum n (λ r l. h r (omega arith))) (h n (omega arith))
 
-  pub getD-joined :
-      (n : ℕ) → ((r : ℕ) → r < n → length (f r) ≡ w)
-      → (r k : ℕ) → r < n → k < w → getD (joined n f) (r * w + k) 0 ≡ getD (f r) k 0
-  getD-joined zero h r k l m = absurd (not-suc-le-zero l)
-  getD-joined (suc n) h r k l m =
-      let len = length-joined n (λ r l. h r (omega arith)) in
+  pub getD-joined-sum :
+      (n : ℕ) → ((r : ℕ) → r < n → length (f r) ≡ g r)
+      → (r k : ℕ) → r < n → k < g r → getD (joined n f) (sumTo g r + k) 0 ≡ getD (f r) k 0
+  getD-joined-sum zero h r k l m = absurd (not-suc-le-zero l)
+  getD-joined-sum (suc n) h r k l m =
+      let len = length-joined-sum n (λ r l. h r (omega arith)) in
       ⊎-elim
       (λ e.
       rw e
       (ap (λ (i : ℕ). getD (joined n f ++ f n) (i + k) 0) (sym len) ∙ getD-append-add (joined n f) (f n) k 0))
       (λ j.
-      let a = suc-mul r w in
-      let b = mul-le-mul-right w j in
-      List·getD-append (joined n f) (f n) 0 (r * w + k) (omega arith)
-      ∙ getD-joined n (λ r l. h r (omega arith)) r k j m)
+      let a = sum-rises g (suc r) n j in
+      List·getD-append (joined n f) (f n) 0 (sumTo g r + k) (omega arith)
+      ∙ getD-joined-sum n (λ r l. h r (omega arith)) r k j m)
       (eq-or-lt-of-le (le-of-suc-le-suc l))
+
+-- lists of one length w behind one another
+module _ (f : ℕ → List ℕ) (w : ℕ) (n : ℕ) (h : (r : ℕ) → r < n → length (f r) ≡ w) where
+  pub length-joined : length (joined n f) ≡ n * w
+  length-joined = length-joined-sum f (λ r. w) n h ∙ sum-same w n
+
+  pub getD-joined : (r k : ℕ) → r < n → k < w → getD (joined n f) (r * w + k) 0 ≡ getD (f r) k 0
+  getD-joined r k l m =
+      ap (λ (i : ℕ). getD (joined n f) (i + k) 0) (sym (sum-same w r)) ∙ getD-joined-sum f (λ r. w) n h r k l m
 
 -- one list more, within all of them
 pub joined-more : (f : ℕ → List ℕ) (r : ℕ) → joined (r + 1) f ≡ joined r f ++ f r
@@ -142,9 +153,63 @@ front-longer new old = omega (arith, length-append new (drop (length new) old), 
 pub front-fits : (new old : List ℕ) → length new ≤ length (atFront new old)
 front-fits new old = omega (arith, length-append new (drop (length new) old))
 
+-- an element of the list at the front replaced
+pub set-front : (new old : List ℕ) (i x : ℕ) → i < length new → set (atFront new old) i x ≡ atFront (set new i x) old
+set-front new old i x l =
+    set-append-left new (drop (length new) old) i x l
+    ∙ ap (λ (k : ℕ). set new i x ++ drop k old) (sym (length-set new i x))
+
 -- what is read back of a list at the front
 pub front-taken : (new old : List ℕ) (n : ℕ) → n ≡ length new → take n (atFront new old) ≡ new
 front-taken new old n e = take-at new (drop (length new) old) n (sym e)
+
+-- a list at the front of one that has a shorter list at its front
+pub front-over :
+    (new first old : List ℕ) → length first ≤ length new → atFront new (atFront first old) ≡ atFront new old
+front-over new first old l =
+    let d = length new - length first in
+    let e : length new ≡ length first + d = omega arith in
+    ap (λ (rest : List ℕ). new ++ rest)
+    (ap (λ (k : ℕ). drop k (atFront first old)) e
+    ∙ drop-append-add first (drop (length first) old) d
+    ∙ drop-drop d (length first) old
+    ∙ ap (λ (k : ℕ). drop k old) (sym e))
+
+-- one list more in the part of a list behind what stands at its front
+module _ (front more old : List ℕ) where
+  abbrev whole : List ℕ
+  whole = atFront front old
+
+  abbrev rest : List ℕ
+  rest = drop (length front) old
+
+  laid-behind :
+      (k : ℕ) → k ≡ length whole - length front
+      → putMid (length front) k whole (atFront more (midOf (length front) k whole)) ≡ atFront (front ++ more) old
+  laid-behind k e =
+      let n = length front in
+      let m : length rest ≤ k = omega (arith, e, length-append front rest) in
+      let behind : drop n whole ≡ rest = drop-append-seam front rest in
+      let mid : midOf n k whole ≡ rest = ap (take k) behind ∙ take-all k rest m in
+      let post : drop k (drop n whole) ≡ [] = ap (drop k) behind ∙ drop-of-length-le rest m in
+      ap₂ (λ (a b : List ℕ). a ++ (atFront more b ++ drop k (drop n whole))) (take-append-seam front rest) mid
+      ∙ ap (λ (l : List ℕ). front ++ (atFront more rest ++ l)) post
+      ∙ ap (λ (l : List ℕ). front ++ l) (append-nil (atFront more rest))
+      ∙ sym (append-assoc front more (drop (length more) rest))
+      ∙ ap (λ (l : List ℕ). (front ++ more) ++ l) (drop-drop (length more) n old)
+      ∙ ap (λ (i : ℕ). (front ++ more) ++ drop i old) (sym (length-append front more))
+
+  pub front-behind :
+      {list new : List ℕ} {at k : ℕ} → at ≡ length front → list ≡ whole → k ≡ length list - at
+      → new ≡ atFront more (midOf at k list) → putMid at k list new ≡ atFront (front ++ more) old
+  front-behind {list} {at = at} {k = k} a l e n =
+      ap (putMid at k list) n
+      ∙ ap₂ (λ (t : ℕ) (o : List ℕ). putMid t k o (atFront more (midOf t k o))) a l
+      ∙ laid-behind k (omega (arith, a, e, ap length l))
+
+-- all that stands from a place on
+pub rest-whole : (at : ℕ) (l : List ℕ) → take (length l - at) (drop at l) ≡ drop at l
+rest-whole at l = take-all (length l - at) (drop at l) (omega (arith, length-drop at l))
 
 -- what is written where all elements of a list are copied
 pub copied-whole : (s l : List ℕ) → atFront (take (length s) s) l ≡ atFront s l

@@ -1,8 +1,10 @@
 -- The definitions that every layer uses, a file for each idea.
--- They know nothing of exercises: bounded tests, lists by index, digits, parts of arrays, sets of small numbers, the
--- mark of tables.
+-- They know nothing of exercises: bounded tests, lists by index, elements replaced, sums, digits, parts of arrays,
+-- sets of small numbers, the mark of tables.
 pub mod Bounded
 pub mod Lists
+pub mod Placing
+pub mod Sums
 pub mod Digits
 pub mod Parts
 pub mod Sets

@@ -1,8 +1,8 @@
-// What every layer uses: two tests joined, a byte as an index, bytes copied and looked for; sets of small numbers as
-// words.
+// What every layer uses: two tests joined, a byte as an index, powers, bytes copied and looked for; sets of small
+// numbers as words.
 ghost use mathlib.Core.Path.{_≡_};
 ghost use mathlib.Core.Bool.{_&&_};
-ghost use Prim.Native.Nat.{_+_, _≤_};
+ghost use Prim.Native.Nat.{_+_, _^_, _≤_, min};
 ghost use lib.Dec.{eqb};
 ghost use lib.ListN.{length, getD, take};
 ghost use Rattle.basics.specs.Bounded.{first};
@@ -25,6 +25,23 @@ pub fn wide(x: u8) -> usize
     ensures { λ r. ⌜ (r ≡ x) × (r ≤ 255) ⌝ }
 {
     x as usize
+}
+
+// k to the power n, or one more than `most` where it is above that.
+pub fn power_within(k: usize, n: usize, most: usize) -> usize
+    requires { ⌜ (1 ≤ k) × (k ≤ 255) × (most ≤ 65535) ⌝ }
+    ensures { λ r. ⌜ r ≡ min (k ^ n) (most + 1) ⌝ }
+{
+    let mut power: usize = 1;
+    let mut i: usize = 0;
+    while i < n {
+        power = power * k;
+        if most < power {
+            return most + 1;
+        }
+        i += 1;
+    }
+    power
 }
 
 // Writes the first n bytes of `from` at the front of `to`.

@@ -5,3 +5,4 @@ pub mod Offsets
 pub mod FrameLaws
 pub mod Accepted
 pub mod StateLaws
+pub mod RemappingLaws

@@ -1,12 +1,15 @@
--- The four cases of `termOf`, each from a fact about the byte, and that every byte falls into one (`view`); a dash is
--- one byte (`dash-byte`). The proofs of decoding, matching, relabelling and stepping back go by these cases.
+-- The four cases of `termOf`, each from a fact about the byte, and that every byte falls into one (`view`); a label is
+-- below 16 (`label-lt`), and a dash is one byte (`dash-byte`). The proofs of decoding, matching, relabelling, stepping
+-- back and compiling go by these cases.
 use mathlib.Core.Path.{_≡_, refl, sym, ap, _∙_}
 use mathlib.Core.Bool.{Bool, true, false}
 use Prim.Native.Nat.{ℕ, _≤_, _<_}
 use native.Mathlib.Omega.{arith}
-use lib.Dec.{ltb, eqb}
+use lib.Dec.{ltb, eqb, lit<}
 use borrow.Author.Tests.{lt-ltb, le-ltb, eq-eqb, ne-eqb, ltb-true, ltb-false, eqb-true, eqb-false}
 use Rattle.blocks.specs.Terms.{termOf, isDash}
+use Rattle.blocks.specs.declared.labels.ConcreteLabel.{ConcreteLabel}
+use Rattle.blocks.specs.declared.terms.Term.{Term}
 use Rattle.blocks.specs.declared.terms.Term.the-variants.{Label, Variable, Dash, Refused}
 
 pub is-label : (t : ℕ) → t < 16 → termOf t ≡ Label (record { 0 = t })
@@ -36,6 +39,22 @@ view t = go (ltb t 16) refl (ltb t 32) refl (eqb t 255) refl
     go false e true f c g = variable (ltb-false t 16 e) (ltb-true t 32 f)
     go false e false f true g = dash (eqb-true t 255 g)
     go false e false f false g = refused (ltb-false t 32 f) (eqb-false t 255 g)
+
+-- a label decoded is below 16
+abbrev labelIn : Term → ℕ
+labelIn (Label c) = c .0
+labelIn (Variable v) = 0
+labelIn Dash = 0
+labelIn Refused = 0
+
+pub label-lt : (byte : ℕ) (c : ConcreteLabel) → termOf byte ≡ Label c → c .0 < 16
+label-lt byte c e = rw (sym (ap labelIn e)) (go (view byte))
+  where
+    go : View byte → labelIn (termOf byte) < 16
+    go (label a) = rw (ap labelIn (is-label byte a)) a
+    go (variable a b) = rw (ap labelIn (is-variable byte a b)) (lit< tt)
+    go (dash a) = rw (ap labelIn (is-dash byte a)) (lit< tt)
+    go (refused a b) = rw (ap labelIn (is-refused byte a b)) (lit< tt)
 
 pub dash-byte : (t : ℕ) → isDash (termOf t) ≡ eqb t 255
 dash-byte t = go (view t)

@@ -4,3 +4,4 @@ pub mod Terms
 pub mod Layout
 pub mod Validity
 pub mod States
+pub mod Remapping

@@ -12,6 +12,8 @@ ghost use Rattle.blocks.specs.Validity.{Headed, Sized};
 use super::labels::AbstractLabel;
 use super::labels::ConcreteLabel;
 use super::labels::mapped;
+use super::validity::MOST_STATES;
+use basics::power_within;
 use basics::wide;
 
 // How many bytes the head has.
@@ -97,15 +99,7 @@ pub fn abstract_states(block: &[u8]) -> usize
     requires { ⌜ Headed (now block) ⌝ }
     ensures { λ r. ⌜ (r ≡ abstractStates (now (block .entry))) × (r ≤ 16384) ⌝ }
 {
-    let n = positions(block);
-    let k = abstracts(block);
-    let mut power: usize = 1;
-    let mut i: usize = 0;
-    while i < n {
-        power = power * k;
-        i += 1;
-    }
-    power
+    power_within(abstracts(block), positions(block), MOST_STATES)
 }
 
 // Byte x of the map.

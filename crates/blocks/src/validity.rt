@@ -1,7 +1,6 @@
 // Whether a block is accepted: conditions 3 to 7, in this order, each over the whole block.
 ghost use mathlib.Core.Path.{_≡_};
-ghost use Prim.Native.Nat.{_+_, _^_, _≤_, _<_};
-ghost use lib.Dec.{leb};
+ghost use Prim.Native.Nat.{_+_, _≤_, _<_};
 ghost use lib.ListN.{length};
 ghost use Rattle.refusals.specs.Answers.{verdict};
 ghost use Rattle.refusals.specs.Refusals.{verdictOf};
@@ -16,6 +15,7 @@ use super::terms::decode;
 use super::terms::term_ok;
 use basics::and;
 use basics::first_of;
+use basics::power_within;
 use refusals::Refusal;
 use refusals::Verdict;
 
@@ -27,7 +27,7 @@ pub const MOST_STATES: usize = 16384;
 pub type Entries = [u32; MOST_STATES];
 
 // Whether x lies from low to high.
-fn lies_within(low: usize, x: usize, high: usize) -> bool
+pub fn lies_within(low: usize, x: usize, high: usize) -> bool
     ensures { λ r. ⌜ r ≡ within low x high ⌝ }
 {
     and(low <= x, x <= high)
@@ -53,24 +53,6 @@ fn sizes_ok(block: &[u8]) -> bool
     )
 }
 
-// Whether k to the power n is at most the number of abstract states that an exercise may have. The product never passes
-// 16 times the limit.
-fn power_ok(k: usize, n: usize) -> bool
-    requires { ⌜ (1 ≤ k) × (k ≤ 16) × (n ≤ 16) ⌝ }
-    ensures { λ r. ⌜ r ≡ leb (k ^ n) 16384 ⌝ }
-{
-    let mut power: usize = 1;
-    let mut i: usize = 0;
-    while i < n {
-        power = power * k;
-        if MOST_STATES < power {
-            return false;
-        }
-        i += 1;
-    }
-    true
-}
-
 // Condition 3.
 pub fn head_ok(block: &[u8]) -> bool
     ensures { λ r. ⌜ r ≡ headOk (now (block .entry)) ⌝ }
@@ -79,7 +61,12 @@ pub fn head_ok(block: &[u8]) -> bool
         return false;
     }
     if sizes_ok(block) {
-        return power_ok(layout::abstracts(block), layout::positions(block));
+        let states = power_within(
+            layout::abstracts(block),
+            layout::positions(block),
+            MOST_STATES,
+        );
+        return states <= MOST_STATES;
     }
     false
 }

@@ -64,6 +64,8 @@ refused-told a refusal.Limit = refl
 refused-told a refusal.Buffer = refl
 refused-told a refusal.TableShort = refl
 refused-told a refusal.TableFails = refl
+refused-told a refusal.Maps = refl
+refused-told a refusal.MapRange = refl
 
 -- one number
 pub verdict-told : (x : Verdict) → doneTold (refusalOf (verdictOf x)) ≡ verdictOf x

@@ -14,7 +14,7 @@ use Rattle.blocks.specs.Layout.{positions, costOf, sideAt, leftOf, rightOf, goa
 use Rattle.blocks.specs.Validity.{Valid}
 use Rattle.words.specs.Sides.{leftPlace, rightPlace, goalPlace, costWord}
 use Rattle.words.specs.Code.{codeLength}
-use Rattle.words.specs.Compiled.{Sided, RuleAt, Weighted, Compiled}
+use Rattle.words.specs.Compiled.{Sided, RuleAt, Compiled}
 use Rattle.compiling.specs.PlacingSides.{SidePlaced, SidesPlaced, RulePlaced, RulesPlaced, GoalsPlaced}
 use Rattle.compiling.specs.PlacingSides.{CountsPlaced}
 use Rattle.compiling.proofs.SidePlaced.{sided-kept}
@@ -112,10 +112,9 @@ goal-kept {n} {goal} {l} {s} {code} {code′} g k h p q =
     sided-kept n goal goal code code′ (goalPlace k) q (λ j a c. p .code .before j (omega arith))
 
 pub compiled :
-    {b code₀ code₁ code₂ code₃ weights : List ℕ} → Valid b → length code₀ ≡ codeLength
-    → RulesPlaced b code₀ code₁ → GoalsPlaced b code₁ code₂ → CountsPlaced b code₂ code₃ → Weighted b weights
-    → Compiled b code₃ weights × (length code₃ ≡ codeLength)
-compiled {b} {code₀} {code₁} {code₂} {code₃} valid len rs gs cs w = (
+    {b code₀ code₁ code₂ code₃ : List ℕ} → Valid b → length code₀ ≡ codeLength → RulesPlaced b code₀ code₁
+    → GoalsPlaced b code₁ code₂ → CountsPlaced b code₂ code₃ → Compiled b code₃ × (length code₃ ≡ codeLength)
+compiled {b} {code₀} {code₁} {code₂} {code₃} valid len rs gs cs = (
   record {
     valid = valid;
     counted = cs .counted;
@@ -128,7 +127,6 @@ compiled {b} {code₀} {code₁} {code₂} {code₃} valid len rs gs cs w = (
         let few : g < 8 = omega (arith, valid .sized .headed .sizes .g-high) in
         sided-kept (positions b) (goalOf b g) (goalOf b g) code₂ code₃ (goalPlace g) (gs .goal g l)
         (λ j a c. cs .code .before j (omega arith));
-    weighted = w;
   },
   cs .code .len ∙ gs .code .len ∙ rs .code ∙ len,
 )

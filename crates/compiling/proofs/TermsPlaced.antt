@@ -1,7 +1,7 @@
 -- Where a term takes its label from (`taken-variable`, `taken-dash`, `taken-refused`), and one term more of a side on
 -- the way, in four cases: a constant (`constant-more`), a position that keeps its label (`kept-more`), a move
 -- (`move-more`), and a variable that stands nowhere on the left (`unbound-more`). The functions that add a term rest on
--- these, and on `label-lt`.
+-- these.
 use mathlib.Core.Path.{_≡_, refl, sym, ap, ap₂, _∙_}
 use mathlib.Core.Logic.{_⊎_, ⊎-elim}
 use Prim.Native.Nat.{ℕ, zero, suc, _+_, _*_, _%_, _^_, _≤_, _<_}
@@ -16,10 +16,8 @@ use Rattle.basics.specs.Bounded.{first}
 use Rattle.basics.proofs.Bits.{or-assoc}
 use Rattle.blocks.specs.Terms.{termOf}
 use Rattle.blocks.specs.declared.labels.ConcreteLabel.{ConcreteLabel}
-use Rattle.blocks.specs.declared.terms.Term.{Term}
 use Rattle.blocks.specs.declared.terms.Term.the-variants.{Label, Variable, Dash, Refused}
-use Rattle.blocks.proofs.TermCases.{is-label, is-variable, is-dash, is-refused, View, label, variable, dash, refused}
-use Rattle.blocks.proofs.TermCases.{view}
+use Rattle.blocks.proofs.TermCases.{label-lt}
 use Rattle.psvn.specs.Rules.{bound, given}
 use Rattle.words.specs.Packing.{digit, unpack}
 use Rattle.words.specs.Sides.{moved, joinMoves}
@@ -40,22 +38,6 @@ module _ (n : ℕ) (left : ℕ → ℕ) (i byte : ℕ) where
 
   pub taken-refused : termOf byte ≡ Refused → TakenFrom n left i byte i
   taken-refused e = record { label = λ s. ap (given n left s i) e }
-
--- a label decoded is below 16
-abbrev labelIn : Term → ℕ
-labelIn (Label c) = c .0
-labelIn (Variable v) = 0
-labelIn Dash = 0
-labelIn Refused = 0
-
-pub label-lt : (byte : ℕ) (c : ConcreteLabel) → termOf byte ≡ Label c → c .0 < 16
-label-lt byte c e = rw (sym (ap labelIn e)) (go (view byte))
-  where
-    go : View byte → labelIn (termOf byte) < 16
-    go (label a) = rw (ap labelIn (is-label byte a)) a
-    go (variable a b) = rw (ap labelIn (is-variable byte a b)) (lit< tt)
-    go (dash a) = rw (ap labelIn (is-dash byte a)) (lit< tt)
-    go (refused a b) = rw (ap labelIn (is-refused byte a b)) (lit< tt)
 
 or-swap : (a b c : ℕ) → bitOr (bitOr a b) c ≡ bitOr (bitOr a c) b
 or-swap a b c = or-assoc a b c ∙ ap (bitOr a) (or-comm b c) ∙ sym (or-assoc a c b)

@@ -1,4 +1,5 @@
-// Compiles a block: its rules, goals and map, once, into arrays that the functions on words read.
+// Compiles a block: its rules and goals, and the weights of its labels, once, into arrays that the functions on words
+// read.
 ghost use mathlib.Core.Path.{_≡_};
 ghost use lib.ListN.{length};
 ghost use Rattle.blocks.specs.Validity.{Valid};
@@ -15,18 +16,16 @@ pub use placing_sides::place_sides;
 pub use placing_weights::SINGLES;
 pub use placing_weights::Singles;
 pub use placing_weights::place_singles;
-use placing_weights::place_weights;
+pub use placing_weights::place_weights;
 use words::code::Code;
-use words::ranking::Weights;
 
-// Compiles an accepted block.
-pub fn compile(block: &[u8], code: &mut Code, weights: &mut Weights)
-    requires { ⌜ Valid (now block) × (length (now code) ≡ codeLength) × (length (now weights) ≡ 2048) ⌝ }
-    ensures { λ _. ⌜ Compiled (now (block .entry)) (now (code .exit)) (now (weights .exit)) ×
+// Compiles the rules and goals of an accepted block.
+pub fn compile(block: &[u8], code: &mut Code)
+    requires { ⌜ Valid (now block) × (length (now code) ≡ codeLength) ⌝ }
+    ensures { λ _. ⌜ Compiled (now (block .entry)) (now (code .exit)) ×
         (length (now (code .exit)) ≡ codeLength) ⌝ }
 {
     place_rules(block, code);
     place_goals(block, code);
     place_counts(block, code);
-    place_weights(block, weights);
 }

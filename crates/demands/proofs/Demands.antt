@@ -4,10 +4,9 @@ use mathlib.Core.Path.{_≡_, refl, subst}
 use mathlib.Core.Logic.{_↔_}
 use mathlib.Core.Bool.{Bool, true, false, cond}
 use mathlib.Core.List.{List}
-use Prim.Native.Nat.{ℕ, _≤_, _<_}
-use lib.ListN.{getD}
+use Prim.Native.Nat.{ℕ, _<_}
+use native.Mathlib.Omega.{arith}
 use Rattle.basics.specs.Lists.{Bytes}
-use Rattle.basics.specs.Marks.{mark}
 use Rattle.refusals.specs.Answers.{Answer, refused, told, verdict, answered, Outcome}
 use Rattle.blocks.specs.Layout.{positions, rules, leftOf, rightOf, goalOf}
 use Rattle.blocks.specs.Validity.{shapeConditions, contentConditions, blockConditions, Valid}
@@ -23,8 +22,11 @@ use Rattle.psvn.proofs.GoalLaws.{lowest-met, none-met}
 use Rattle.psvn.proofs.Homomorphism.{applies-relabelled, step-relabelled, meets-relabelled}
 use Rattle.psvn.proofs.RelabelTwice.{relabel-twice}
 use Rattle.psvn.proofs.RelabelledValid.{relabelled-valid}
-use Rattle.tables.specs.Tables.{passesTest}
-use Rattle.tables.proofs.Promises.{lower-bound, estimate-bound, zeros-pass-test}
+use Rattle.tables.proofs.Promises.{never-too-high, zeros-pass-test}
+use Rattle.maps.specs.Maps.{mapConditions, exerciseConditions}
+use Rattle.map_tables.specs.MapTables.{largestEntry}
+use Rattle.map_tables.proofs.Largest.{all-low}
+use Rattle.map_fills.proofs.AllFilled.{all-filled-front}
 use Rattle.backward.specs.Predecessors.{from-first}
 use Rattle.backward.proofs.Keeping.{valid-proper}
 use Rattle.backward.proofs.Leading.{leads-exactly}
@@ -35,14 +37,15 @@ use Rattle.runs.proofs.ReplayLaws.{done-in-turn, stuck-at}
 use Rattle.frames.specs.Reading.{frameConditions, readConditions, readExercise}
 use Rattle.frames.proofs.WrittenExercises.{read-written}
 use Rattle.queries.specs.declared.Limits.{Limits}
+use Rattle.rounds.specs.Systems.{Estimate}
 use Rattle.rounds.specs.Rounds.{free}
 use Rattle.rounds.specs.Logs.{Log, log, listsOf, Member, Rising, roundLog, Logged}
 use Rattle.rounds.specs.Thresholds.{RoundAt}
 use Rattle.rounds.proofs.LogLaws.{log-at-round}
 use Rattle.rounds.proofs.Thresholds as thresholds
 use Rattle.queries.specs.Queries.{queryConditions}
-use Rattle.search.specs.Exercises.{systemOf, estimateOf}
-use Rattle.search.proofs.Demand.{exercise-lawful, low-estimates, kept, visits-counted, thresholds-follow, same-found}
+use Rattle.search.specs.Exercises.{systemOf, Passes, estimateOf}
+use Rattle.search.proofs.Demand.{exercise-lawful, tables-passing, kept, visits-counted, thresholds-follow, same-found}
 use Rattle.search.proofs.Demand.{goal-kept}
 use Rattle.psvn_calls.specs.Checking.{checkBlock, stateConditions}
 use Rattle.psvn_calls.specs.Applying.{done, does-not-apply, applyConditions, applyRule}
@@ -53,11 +56,12 @@ use Rattle.backward_calls.specs.Reversing.{reversibleConditions, testReversible
 use Rattle.run_calls.specs.Replaying.{replayConditions, replayRun}
 use Rattle.table_calls.specs.WholeTables.{tableConditions, fillTable, testTable}
 use Rattle.table_calls.specs.Estimating.{lookUpConditions, lookUpEstimate}
-use Rattle.table_calls.proofs.Promises.{filled-front}
+use Rattle.table_calls.proofs.OneTable.{one-fill, one-test, one-look-up}
 use Rattle.search_calls.specs.Searching.{lentConditions, searchConditions, findPlan}
+use Rattle.search_calls.proofs.OneTable.{one-plan}
 use Rattle.par_queries.specs.QueryLines.{queryLineConditions}
 use Rattle.par_outputs.proofs.Meaning.{par-means}
-use Rattle.demands.specs.Demands.{Demand1, Demand2, Demand3, Demands}
+use Rattle.demands.specs.Demands.{Demand1, Demand2, Demand3, OneTable, Demands}
 use Rattle.demands.proofs.TurnedBack.{refuses, refuses-answer}
 
 -- a verdict as an answer that tells nothing more
@@ -76,7 +80,8 @@ demand1 : Demand1
 unfolding
     readConditions frameConditions readExercise blockConditions shapeConditions contentConditions checkBlock
     relabelConditions relabelExercise stateConditions applyConditions applyRule testGoals stepBackConditions
-    stepBackFrom reversibleConditions testReversible replayConditions replayRun tableConditions fillTable testTable
+    stepBackFrom reversibleConditions testReversible replayConditions replayRun mapConditions
+    exerciseConditions tableConditions fillTable testTable
     lookUpConditions lookUpEstimate searchConditions queryConditions lentConditions findPlan queryLineConditions
 demand1 =
     record {
@@ -91,10 +96,10 @@ demand1 =
       stepping-back = λ b r s earlier. refuses _ _ _ _ (λ room. refl) (λ out. refl) (λ out. (_, refl));
       reversibility = λ b r. refuses-answer _ _ _ _ refl refl;
       replaying = λ b s rs. refuses _ _ _ _ (λ room. refl) (λ out. refl) (λ out. (_, refl));
-      filling = λ b. refuses _ _ _ _ (λ room. refl) (λ out. refl) (λ out. (_, refl));
-      testing = λ b t. refuses-answer _ _ _ _ refl refl;
-      looking-up = λ b s t. refuses-answer _ _ _ _ refl refl;
-      searching = λ b s l t. refuses _ _ _ _ (λ room. refl) (λ out. refl) (λ out. (_, refl));
+      filling = λ b maps. refuses _ _ _ _ (λ room. refl) (λ out. refl) (λ out. (_, refl));
+      testing = λ b maps t. refuses-answer _ _ _ _ refl refl;
+      looking-up = λ b maps s t. refuses-answer _ _ _ _ refl refl;
+      searching = λ b maps s l t. refuses _ _ _ _ (λ room. refl) (λ out. refl) (λ out. (_, refl));
       query = λ b line. refl;
       valid = λ b. (accepted-valid b, valid-accepted b);
       written-read = read-written;
@@ -148,31 +153,29 @@ module _ (b : List ℕ) (v : Valid b) where
         relabelled-twice = relabel-twice b v;
         relabelled-applies = λ r s l h. (applies-relabelled b v r l s h, step-relabelled b v r l s);
         relabelled-meets = meets-relabelled b v;
-        filled-least = λ t. filled-front b bytes t v;
+        filled-least = λ maps t k. all-filled-front b maps t bytes k;
         zeros-pass = zeros-pass-test b v;
-        passing-low = estimate-bound b v;
+        passing-low = λ maps t k passes small.
+            never-too-high b v (largestEntry b maps t) (all-low b maps t k small passes);
         replay-done = λ s rs. done-in-turn b s rs v;
         replay-stuck = stuck-at b;
       }
 
--- the search, by a table that passes
-module _ (b t : List ℕ) (v : Valid b) (passing : passesTest b t ≡ true) (small : (k : ℕ) → getD t k 0 ≤ mark) where
+-- the search, by an estimate that passes
+module _ (b : List ℕ) (h : List ℕ → Estimate) (v : Valid b) (passing : Passes b h) where
   -- the lists of a round that is made
-  module _ (s : List ℕ) (l : Limits) (T u : ℕ) (made : RoundAt (systemOf b) (estimateOf b t) (l .steps) (l .cost) s free T u) where
+  module _ (s : List ℕ) (l : Limits) (T u : ℕ) (made : RoundAt (systemOf b) h (l .steps) (l .cost) s free T u) where
     abbrev Says : Log → Type 0
     Says x =
-        ((p : List ℕ) → Member p (listsOf x) ↔ Logged (systemOf b) (estimateOf b t) T (l .steps) s p)
-        × Rising (listsOf x)
+        ((p : List ℕ) → Member p (listsOf x) ↔ Logged (systemOf b) h T (l .steps) s p) × Rising (listsOf x)
 
-    visited : (x : Log) → roundLog (systemOf b) (estimateOf b t) T (l .steps) s ≡ x → Says x
+    visited : (x : Log) → roundLog (systemOf b) h T (l .steps) s ≡ x → Says x
     visited (log xs ended) e =
-        log-at-round (systemOf b) (estimateOf b t) (exercise-lawful v) (l .steps) (l .cost) s free T u made xs ended e
+        log-at-round (systemOf b) h (exercise-lawful v) (l .steps) (l .cost) s free T u made xs ended e
 
-  demand3 : (s : List ℕ) → stateOk b s ≡ true → (l : Limits) → Demand3 b s l t
+  demand3 : (s : List ℕ) → stateOk b s ≡ true → (l : Limits) → Demand3 b h s l
   demand3 s ok l =
-      let low = lower-bound b v t passing in
-      let entries = low-estimates b t small in
-      let k = kept v low entries s l ok in
+      let k = kept v passing s l ok in
       record {
         spent = k .spent-iff;
         otherwise = k .otherwise;
@@ -182,17 +185,28 @@ module _ (b t : List ℕ) (v : Valid b) (passing : passesTest b t ≡ true) (sma
         first-cheapest = k .best;
         cheapest = k .cheapest;
         goal = goal-kept k v;
-        first-threshold = thresholds.first-threshold (systemOf b) (estimateOf b t) (l .steps) (l .cost) s;
-        next-threshold = thresholds-follow v t s l;
+        first-threshold = thresholds.first-threshold (systemOf b) h (l .steps) (l .cost) s;
+        next-threshold = thresholds-follow v h s l;
         visited =
             λ T m.
-            let made = thresholds.member-round-at (systemOf b) (estimateOf b t) (l .steps) (l .cost) s T m .1 in
+            let made = thresholds.member-round-at (systemOf b) h (l .steps) (l .cost) s T m .1 in
             visited s l T (made .0) (made .1) _ refl;
-        visits = visits-counted v t low entries s l ok;
+        visits = visits-counted v h passing s l ok;
+        every-estimate = λ h′ passing′. same-found h h′ v passing passing′ s l ok;
         every-table =
-            λ t′ passing′ small′ u c p e.
-            same-found t t′ v low (lower-bound b v t′ passing′) entries (low-estimates b t′ small′) s l ok u c p e;
+            λ maps t k passes small.
+            same-found h (estimateOf b maps t) v passing (tables-passing b maps t k small passes) s l ok;
       }
+
+-- with no map lent
+one-table : (b : List ℕ) → OneTable b
+one-table b =
+    record {
+      filling = one-fill b;
+      testing = one-test b;
+      looking-up = λ s t. one-look-up b t s;
+      searching = one-plan b;
+    }
 
 pub demands : Demands
 demands =
@@ -200,5 +214,8 @@ demands =
       turned-back = demand1;
       language = demand2;
       search = demand3;
+      search-by-tables = λ b maps t k passes small.
+          demand3 b (estimateOf b maps t) (k .valid 0 (omega arith)) (tables-passing b maps t k small passes);
+      one-table = one-table;
       program = par-means;
     }

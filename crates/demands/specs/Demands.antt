@@ -1,5 +1,6 @@
--- The three demands of the order, a record for each (`Demand1`, `Demand2`, `Demand3`), and all of them with what `par`
--- prints (`Demands`). Each field is a sentence of the order or of document 01, in the definitions of the crates below.
+-- The three demands of the order, a record for each (`Demand1`, `Demand2`, `Demand3`), what stays with no map lent
+-- (`OneTable`), and all of them with what `par` prints (`Demands`). Each field is a sentence of the order or of the
+-- documents, in the definitions of the crates below.
 -- The contract of every public call is an equation with the value that is named here; proofs/Demands.antt shows
 -- `Demands` by the theorems of those crates.
 use mathlib.Core.Path.{_≡_}
@@ -8,10 +9,12 @@ use mathlib.Core.Bool.{true, false}
 use mathlib.Core.List.{List, [], _∷_, _++_}
 use mathlib.Core.Option.{none, some}
 use Prim.Native.Nat.{ℕ, _≤_, _<_}
+use lib.Dec.{leb}
 use lib.ListN.{length, getD}
 use Rattle.basics.specs.Marks.{mark}
 use Rattle.basics.specs.Lists.{atFront, Bytes}
-use Rattle.refusals.specs.Answers.{Answer, refused, told, Condition, _unless_, verdict, Outcome, outcome}
+use Rattle.refusals.specs.Answers.{Answer, refused, told, Condition, _unless_, verdict, answered}
+use Rattle.refusals.specs.Answers.{Outcome, outcome, guarded}
 use Rattle.blocks.specs.Layout.{positions, labels, rules, leftOf, rightOf, goalOf, abstractStates}
 use Rattle.blocks.specs.Validity.{blockConditions, Valid}
 use Rattle.blocks.specs.States.{stateOk}
@@ -22,6 +25,9 @@ use Rattle.psvn.specs.Relabelling.{relabelBlock, relabelState}
 use Rattle.psvn.specs.Ranks.{stateCount}
 use Rattle.tables.specs.Tables.{estimate, passesTest, NeverTooHigh}
 use Rattle.filling.specs.FilledTables.{filled}
+use Rattle.maps.specs.Maps.{Mapped}
+use Rattle.map_tables.specs.MapTables.{largestEntry, allPass}
+use Rattle.figures.specs.Figures.{entryEstimate}
 use Rattle.backward.specs.Predecessors.{Earlier, from-first, found, none-further, stepBack, call}
 use Rattle.backward.specs.Predecessors.{NextPredecessor, NoPredecessor}
 use Rattle.backward.specs.Reversible.{reversible, OneToOne}
@@ -31,13 +37,14 @@ use Rattle.runs.specs.declared.replay.Replayed.the-variants.{Done, Stuck}
 use Rattle.frames.specs.Lines.{linesOf}
 use Rattle.frames.specs.Reading.{readConditions, readExercise}
 use Rattle.frames.specs.Writing.{textOf}
+use Rattle.queries.specs.Queries.{queryConditions}
 use Rattle.queries.specs.declared.Limits.{Limits}
 use Rattle.rounds.specs.Rounds as rounds
-use Rattle.rounds.specs.Systems.{at}
+use Rattle.rounds.specs.Systems.{Estimate, at}
 use Rattle.rounds.specs.Promises.{BestPlan}
 use Rattle.rounds.specs.Logs.{listsOf, Member, Rising, roundLog, Logged}
 use Rattle.rounds.specs.Thresholds.{Consecutive, VisitsCounted}
-use Rattle.search.specs.Exercises.{systemOf, estimateOf, searchFrom, unlimited, thresholdsOf, planGoal}
+use Rattle.search.specs.Exercises.{systemOf, Passes, estimateOf, searchFrom, unlimited, thresholdsOf, planGoal}
 use Rattle.search.specs.Promises.{WithinLimits, GoalKept}
 use Rattle.psvn_calls.specs.Checking.{checkBlock, stateConditions}
 use Rattle.psvn_calls.specs.Applying.{applyConditions, applyRule}
@@ -46,9 +53,10 @@ use Rattle.psvn_calls.specs.Relabelling.{relabelConditions, relabelExercise}
 use Rattle.backward_calls.specs.Predecessors.{stepBackConditions, stepBackFrom}
 use Rattle.backward_calls.specs.Reversing.{reversibleConditions, testReversible}
 use Rattle.run_calls.specs.Replaying.{replayConditions, replayRun}
-use Rattle.table_calls.specs.WholeTables.{tableConditions, fillTable, testTable, LeastEntries}
+use Rattle.map_fills.specs.MapFills.{allFilled, LeastEntries}
+use Rattle.table_calls.specs.WholeTables.{tableConditions, fillTable, testTable}
 use Rattle.table_calls.specs.Estimating.{lookUpConditions, lookUpEstimate}
-use Rattle.search_calls.specs.Searching.{searchConditions, findPlan}
+use Rattle.search_calls.specs.Searching.{reported, searchConditions, findPlan}
 use Rattle.par_queries.specs.QueryLines.{queryLineConditions}
 use Rattle.par_outputs.specs.Output.{parOutput}
 use Rattle.par_outputs.specs.Promises.{Means}
@@ -105,16 +113,21 @@ pub record Demand1 : Type 0 where
   pub replaying :
       (b s rs : List ℕ)
       → Refuses (3 ∷ 4 ∷ 5 ∷ 6 ∷ 7 ∷ 8 ∷ 9 ∷ 10 ∷ 11 ∷ []) (replayConditions b s rs) (replayRun b s rs)
-  pub filling : (b : List ℕ) → Refuses (3 ∷ 4 ∷ 5 ∷ 6 ∷ 7 ∷ 12 ∷ []) (tableConditions b) (fillTable b)
+  -- with further maps: "It refuses with 14 when .., then with 15 when .., both after 7" (F-2)
+  pub filling :
+      (b maps : List ℕ)
+      → Refuses (3 ∷ 4 ∷ 5 ∷ 6 ∷ 7 ∷ 14 ∷ 15 ∷ 12 ∷ []) (tableConditions b maps) (fillTable b maps)
   pub testing :
-      (b t : List ℕ)
-      → RefusesAnswer (3 ∷ 4 ∷ 5 ∷ 6 ∷ 7 ∷ 12 ∷ []) (tableConditions b (length t)) (testTable b t)
+      (b maps t : List ℕ)
+      → RefusesAnswer (3 ∷ 4 ∷ 5 ∷ 6 ∷ 7 ∷ 14 ∷ 15 ∷ 12 ∷ []) (tableConditions b maps (length t)) (testTable b maps t)
   pub looking-up :
-      (b s t : List ℕ)
-      → RefusesAnswer (3 ∷ 4 ∷ 5 ∷ 6 ∷ 7 ∷ 8 ∷ 12 ∷ []) (lookUpConditions b s (length t)) (lookUpEstimate b s t)
+      (b maps s t : List ℕ)
+      → RefusesAnswer (3 ∷ 4 ∷ 5 ∷ 6 ∷ 7 ∷ 14 ∷ 15 ∷ 8 ∷ 12 ∷ []) (lookUpConditions b maps s (length t))
+      (lookUpEstimate b maps s t)
   pub searching :
-      (b s : List ℕ) (l : Limits) (t : List ℕ)
-      → Refuses (3 ∷ 4 ∷ 5 ∷ 6 ∷ 7 ∷ 8 ∷ 10 ∷ 11 ∷ 12 ∷ 13 ∷ []) (searchConditions b s l t) (findPlan b s l t)
+      (b maps s : List ℕ) (l : Limits) (t : List ℕ)
+      → Refuses (3 ∷ 4 ∷ 5 ∷ 6 ∷ 7 ∷ 14 ∷ 15 ∷ 8 ∷ 10 ∷ 11 ∷ 12 ∷ 13 ∷ []) (searchConditions b maps s l t)
+      (findPlan b maps s l t)
   -- "A query is checked for 1, 2 (its length), 8, 10"
   pub query : (b line : List ℕ) → numbers (queryLineConditions b line) ≡ 1 ∷ 2 ∷ 8 ∷ 10 ∷ []
   -- nothing is refused that is right: a block is accepted exactly where it is valid
@@ -174,11 +187,16 @@ pub record Demand2 (b : List ℕ) : Type 0 where
       × (relabelState b (step b r s) ≡ step (relabelBlock b) r (relabelState b s))
   pub relabelled-meets : (s : List ℕ) → meets b s ≡ true → meets (relabelBlock b) (relabelState b s) ≡ true
   -- "Entry r is the least total cost of a list of relabelled rules, of any length, from the state of rank r to a
-  -- relabelled goal; the mark if there is none. A filled table passes the test", whatever stands behind it in t
-  pub filled-least : (t : List ℕ) → LeastEntries b (atFront (filled b) t)
-  -- "The all-zero table passes"; the estimates of a table that passes are lower bounds
+  -- relabelled goal; the mark if there is none. A filled table passes the test", under each map (F-2), whatever stands
+  -- behind the tables in t
+  pub filled-least :
+      (maps t : List ℕ) → Mapped b maps → LeastEntries b maps (atFront (allFilled b maps) t)
+  -- "The all-zero table passes"; the estimates of tables that pass, each under its own map, are lower bounds: "the
+  -- largest of its entries, the mark above all" (F-2)
   pub zeros-pass : (t : List ℕ) → ((k : ℕ) → k < abstractStates b → getD t k 0 ≡ 0) → passesTest b t ≡ true
-  pub passing-low : (t : List ℕ) → passesTest b t ≡ true → NeverTooHigh b (estimate b t)
+  pub passing-low :
+      (maps t : List ℕ) → Mapped b maps → allPass b maps t ≡ true → ((k : ℕ) → getD t k 0 ≤ mark)
+      → NeverTooHigh b (largestEntry b maps t)
   -- "'done', or 'stuck' at the first index whose rule does not apply; either way the cost so far, and the state there";
   -- "Replay, when done, reports the final state's goal, or hexadecimal FF for none" (F-1)
   pub replay-done :
@@ -186,67 +204,108 @@ pub record Demand2 (b : List ℕ) : Type 0 where
   pub replay-stuck :
       (s rs : List ℕ) (end : RunEnd) → replayEnding b s rs ≡ Stuck end → StuckAt b s rs end (replayState b s rs)
 
--- ---- demand 3: the search from s within the limits l, by a table t that passes the lower-bound test
+-- ---- demand 3: the search from s within the limits l, by an estimate h that passes, as that of every table does that
+-- passes the lower-bound test
 
 -- the lists that the round at T visits, in the order of the visits
-abbrev pub visitedAt : List ℕ → List ℕ → Limits → List ℕ → ℕ → List (List ℕ)
-visitedAt b s l t T = listsOf (roundLog (systemOf b) (estimateOf b t) T (l .steps) s)
+abbrev pub visitedAt : List ℕ → (List ℕ → Estimate) → List ℕ → Limits → ℕ → List (List ℕ)
+visitedAt b h s l T = listsOf (roundLog (systemOf b) h T (l .steps) s)
 
-pub record Demand3 (b s : List ℕ) (l : Limits) (t : List ℕ) : Type 0 where
+pub record Demand3 (b : List ℕ) (h : List ℕ → Estimate) (s : List ℕ) (l : Limits) : Type 0 where
   -- 'spent' exactly when the rounds with no allowance make more visits than are allowed; in every other case the answer
   -- is theirs, its visits included
-  pub spent : (searchFrom b s l t ≡ rounds.spent (l .visits)) ↔ (l .visits < rounds.visits (unlimited b s l t))
-  pub otherwise : rounds.visits (unlimited b s l t) ≤ l .visits → searchFrom b s l t ≡ unlimited b s l t
+  pub spent : (searchFrom b h s l ≡ rounds.spent (l .visits)) ↔ (l .visits < rounds.visits (unlimited b h s l))
+  pub otherwise : rounds.visits (unlimited b h s l) ≤ l .visits → searchFrom b h s l ≡ unlimited b h s l
   -- then a plan is given exactly when some list within both limits reaches a goal, and 'no plan' exactly when none does
   pub plan-exactly :
-      rounds.visits (unlimited b s l t) ≤ l .visits
-      → ((u : ℕ) × (p : List ℕ) × (c : ℕ) × (searchFrom b s l t ≡ rounds.found u p c)) ↔
+      rounds.visits (unlimited b h s l) ≤ l .visits
+      → ((u : ℕ) × (p : List ℕ) × (c : ℕ) × (searchFrom b h s l ≡ rounds.found u p c)) ↔
       ((q : List ℕ) × WithinLimits b s l q)
   pub no-plan-exactly :
-      rounds.visits (unlimited b s l t) ≤ l .visits
-      → ((u : ℕ) × (searchFrom b s l t ≡ rounds.noPlan u)) ↔ ((q : List ℕ) → WithinLimits b s l q → ⊥)
+      rounds.visits (unlimited b h s l) ≤ l .visits
+      → ((u : ℕ) × (searchFrom b h s l ≡ rounds.noPlan u)) ↔ ((q : List ℕ) → WithinLimits b s l q → ⊥)
   -- a plan given reaches a goal within both limits, and its cost is told
   pub plan :
-      (u c : ℕ) (p : List ℕ) → searchFrom b s l t ≡ rounds.found u p c
+      (u c : ℕ) (p : List ℕ) → searchFrom b h s l ≡ rounds.found u p c
       → WithinLimits b s l p × (c ≡ totalCost b p)
   -- "The plan found is, of all cheapest open lists that reach a goal, the first by rule numbers, a prefix before its
   -- extensions"
   pub first-cheapest :
-      (u c : ℕ) (p : List ℕ) → searchFrom b s l t ≡ rounds.found u p c
+      (u c : ℕ) (p : List ℕ) → searchFrom b h s l ≡ rounds.found u p c
       → BestPlan (systemOf b) (l .steps) s (l .cost) p
   -- no list within the step limit that reaches a goal is cheaper, though it may pass a state twice
   pub cheapest :
-      (u c : ℕ) (p : List ℕ) → searchFrom b s l t ≡ rounds.found u p c
+      (u c : ℕ) (p : List ℕ) → searchFrom b h s l ≡ rounds.found u p c
       → (q : List ℕ) → reaches b s q ≡ true → length q ≤ l .steps → c ≤ totalCost b q
   -- the goal told is the lowest that the plan's last state meets, and FF exactly where there is no plan (F-1)
-  pub goal : GoalKept b s (searchFrom b s l t) (planGoal b s (searchFrom b s l t))
+  pub goal : GoalKept b s (searchFrom b h s l) (planGoal b s (searchFrom b h s l))
   -- "Rounds have a threshold T, first the start's estimate"; "the next T is the least figure above T among open lists
   -- whose proper prefixes were all visited"
   pub first-threshold :
-      (T : ℕ) → estimateOf b t s ≡ at T → T ≤ l .cost → (ts : List ℕ) × (thresholdsOf b s l t ≡ T ∷ ts)
-  pub next-threshold : Consecutive (systemOf b) (estimateOf b t) (l .steps) s (thresholdsOf b s l t)
+      (T : ℕ) → h s ≡ at T → T ≤ l .cost → (ts : List ℕ) × (thresholdsOf b h s l ≡ T ∷ ts)
+  pub next-threshold : Consecutive (systemOf b) h (l .steps) s (thresholdsOf b h s l)
   -- "it visits an open list only if it and all its prefixes have a figure of at most T", up to the first of them that
   -- reaches a goal, in the order of rule numbers
   pub visited :
-      (T : ℕ) → Member T (thresholdsOf b s l t)
-      → ((p : List ℕ) → Member p (visitedAt b s l t T) ↔ Logged (systemOf b) (estimateOf b t) T (l .steps) s p)
-      × Rising (visitedAt b s l t T)
+      (T : ℕ) → Member T (thresholdsOf b h s l)
+      → ((p : List ℕ) → Member p (visitedAt b h s l T) ↔ Logged (systemOf b) h T (l .steps) s p)
+      × Rising (visitedAt b h s l T)
   -- "Visits are counted over all rounds up to the answer, a list anew in each round, the plan's own last visit
   -- included"
-  pub visits : VisitsCounted (systemOf b) (estimateOf b t) (l .steps) (l .cost) s (l .visits) (searchFrom b s l t)
-  -- "Every passing table gives it, if the allowance suffices"
+  pub visits : VisitsCounted (systemOf b) h (l .steps) (l .cost) s (l .visits) (searchFrom b h s l)
+  -- "Every passing table gives it, if the allowance suffices", and so does every estimate that passes
+  pub every-estimate :
+      (h′ : List ℕ → Estimate) → Passes b h′ → (u c : ℕ) (p : List ℕ) → searchFrom b h s l ≡ rounds.found u p c
+      → (v : ℕ) × (unlimited b h′ s l ≡ rounds.found v p c)
   pub every-table :
-      (t′ : List ℕ) → passesTest b t′ ≡ true → ((k : ℕ) → getD t′ k 0 ≤ mark)
-      → (u c : ℕ) (p : List ℕ) → searchFrom b s l t ≡ rounds.found u p c
-      → (v : ℕ) × (unlimited b s l t′ ≡ rounds.found v p c)
+      (maps t : List ℕ) → Mapped b maps → allPass b maps t ≡ true → ((k : ℕ) → getD t k 0 ≤ mark)
+      → (u c : ℕ) (p : List ℕ) → searchFrom b h s l ≡ rounds.found u p c
+      → (v : ℕ) × (unlimited b (estimateOf b maps t) s l ≡ rounds.found v p c)
+
+-- ---- with no map lent each call gives what it gives by the block's own table alone, and refuses as before
+
+-- what turns a call on one table back, behind the block: its own conditions, then 12
+abbrev pub byOneTable : List ℕ → List Condition → ℕ → List Condition
+byOneTable b own room = blockConditions b ++ (own ++ (12 unless leb (abstractStates b) room ∷ []))
+
+pub record OneTable (b : List ℕ) : Type 0 where
+  pub filling :
+      (t : List ℕ)
+      → fillTable b [] t
+      ≡ guarded (verdict (byOneTable b [] (length t))) t (outcome (told tt) (atFront (filled b) t))
+  pub testing :
+      (t : List ℕ) → testTable b [] t ≡ answered (verdict (byOneTable b [] (length t))) (passesTest b t)
+  pub looking-up :
+      (s t : List ℕ)
+      → lookUpEstimate b [] s t
+      ≡ answered (verdict (byOneTable b (8 unless stateOk b s ∷ []) (length t))) (estimate b t s)
+  pub searching :
+      (s : List ℕ) (l : Limits) (t buffer : List ℕ)
+      → (let a = searchFrom b (λ u. entryEstimate (estimate b t u)) s l in
+      findPlan b [] s l t buffer
+      ≡ guarded
+      (verdict
+      (blockConditions b
+      ++ (queryConditions b s l
+      ++ (11 unless leb (l .steps) (length buffer)
+      ∷ 12 unless leb (abstractStates b) (length t)
+      ∷ 13 unless passesTest b t
+      ∷ []))))
+      buffer (outcome (told (reported (planGoal b s a) a)) (atFront (rounds.plan a) buffer)))
 
 -- ---- all of them, and what `par` prints
 
 pub record Demands : Type 0 where
   pub turned-back : Demand1
   pub language : (b : List ℕ) → Valid b → Bytes b → Demand2 b
+  -- by every estimate that passes, and so by every set of tables that pass the lower-bound test: "Cheapest and 'no
+  -- plan' hold for any such set; visits follow the new estimate" (F-2)
   pub search :
-      (b t : List ℕ) → Valid b → passesTest b t ≡ true → ((k : ℕ) → getD t k 0 ≤ mark)
-      → (s : List ℕ) → stateOk b s ≡ true → (l : Limits) → Demand3 b s l t
+      (b : List ℕ) (h : List ℕ → Estimate) → Valid b → Passes b h
+      → (s : List ℕ) → stateOk b s ≡ true → (l : Limits) → Demand3 b h s l
+  pub search-by-tables :
+      (b maps t : List ℕ) → Mapped b maps → allPass b maps t ≡ true → ((k : ℕ) → getD t k 0 ≤ mark)
+      → (s : List ℕ) → stateOk b s ≡ true → (l : Limits) → Demand3 b (estimateOf b maps t) s l
+  pub one-table : (b : List ℕ) → OneTable b
   -- for every input, what is printed means what it should, demand 3 included
   pub program : (x : List ℕ) → Means x (parOutput x)

@@ -17,7 +17,7 @@ use Rattle.words.specs.Code.{positionCount}
 use Rattle.words.specs.Packing.{digit, unpack}
 use Rattle.words.specs.Sides.{rewrittenWord}
 use Rattle.words.specs.Ranking.{rankWord}
-use Rattle.words.specs.Compiled.{Sided, Compiled}
+use Rattle.words.specs.Compiled.{Sided, Weighted, Compiled}
 use Rattle.words.proofs.WordDigits.{digit-lt, digit-high, digit-before, placed-below, digit-placed, unpack-length}
 use Rattle.words.proofs.WordDigits.{unpack-at}
 use Rattle.words.proofs.WordRanks.{labelsRank, labels-rank}
@@ -146,14 +146,14 @@ module _ (n k : ℕ) (some : 0 < k) where
         rw (side .makes a (la .0), side .makes b (lb .0), side .makes c (lc .0), side .makes d (ld .0))
         (exchanged-rewritten n k left right some terms (unpack n a) (unpack n b) (unpack n c) (unpack n d) e)
 
-module _ {b code weights : List ℕ} (c : Compiled b code weights) (some : 0 < labels b) where
+module _ {b code weights : List ℕ} (c : Compiled b code) (t : Weighted b weights) (some : 0 < labels b) where
   ranks :
       (w : ℕ) → Low (positions b) (labels b) w
       → rankWord weights (positions b) w ≡ labelsRank b (unpack (positions b) w) (positions b)
   unfolding labelCount
   ranks w l =
       let s = unpack (positions b) w in
-      rank-word c w (labelled-intro (positions b) (labelCount b) s (unpack-length (positions b) w) (λ i h. l .1 i))
+      rank-word t w (labelled-intro (positions b) (labelCount b) s (unpack-length (positions b) w) (λ i h. l .1 i))
       ∙ sym (labels-rank b s)
 
   sums :

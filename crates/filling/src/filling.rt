@@ -21,6 +21,7 @@ use super::sweeping::settle;
 use blocks::layout;
 use blocks::validity::MOST_STATES;
 use compiling::compile;
+use compiling::place_weights;
 use edge_ranks::LISTS;
 use psvn::relabelling::relabel_block;
 use tables::edges::MARK;
@@ -69,7 +70,8 @@ fn fill_relabelled(block: &[u8], sweeps: bool, table: &mut [u32])
     let mut weights = [0u16; WEIGHTS];
     let mut ranked = [0u64; MOST_STATES];
     let mut links = [END; LISTS];
-    compile(block, &mut code, &mut weights);
+    compile(block, &mut code);
+    place_weights(block, &mut weights);
     clear(block, &code, &weights, &mut ranked, table);
     spread(block, &code, &weights, &ranked, table, &mut links);
     if sweeps {

@@ -24,20 +24,22 @@ pub extern "C" fn mikjuqan_replay_run(
     c_answers::replayed(replay)
 }
 
-// The answer of a search; a plan that is found then stands at the front of `plan`.
+// The answer of a search by the tables of all maps; a plan that is found then stands at the front of `plan`.
 #[no_mangle]
 pub extern "C" fn mikjuqan_find_plan(
     block: &[u8],
+    maps: &[u8],
     start: &[u8],
     limits: Limits,
     table: &[u32],
     plan: &mut [u8],
 ) -> SearchNumbers
-    ensures { λ r. ⌜ (let o = findPlan (now (block .entry)) (now (start .entry)) limits (now (table .entry))
-        (now (plan .entry)) in (r ≡ searchNumbersOf (o .answer)) × (now (plan .exit) ≡ o .out)) ⌝ }
-    ensures { λ r. ⌜ PlanKept (now (block .entry)) (now (start .entry)) limits (now (table .entry))
-        (searchTold r) (now (plan .exit)) ⌝ }
+    ensures { λ r. ⌜ (let o = findPlan (now (block .entry)) (now (maps .entry)) (now (start .entry)) limits
+        (now (table .entry)) (now (plan .entry))
+        in (r ≡ searchNumbersOf (o .answer)) × (now (plan .exit) ≡ o .out)) ⌝ }
+    ensures { λ r. ⌜ PlanKept (now (block .entry)) (now (maps .entry)) (now (start .entry)) limits
+        (now (table .entry)) (searchTold r) (now (plan .exit)) ⌝ }
 {
-    let search = engine::find_plan(block, start, limits, table, plan);
+    let search = engine::find_plan(block, maps, start, limits, table, plan);
     c_answers::searched(search)
 }

@@ -1,4 +1,4 @@
-// The calls on a table: filling it, testing it, looking an estimate up.
+// The calls on the tables of all maps: filling them, testing them, looking an estimate up.
 ghost use mathlib.Core.Path.{_≡_};
 ghost use Rattle.table_calls.specs.Estimating.{lookUpEstimate, EstimateKept};
 ghost use Rattle.table_calls.specs.WholeTables.{fillTable, FillingKept, testTable, TableTestKept};
@@ -6,33 +6,40 @@ ghost use Rattle.c_answers.specs.Numbers.{refusalOf, decisionOf, entryOf, doneT
 use c_answers::Decision;
 use c_answers::Entry;
 
-// 0 where the table was filled, or the number that the call is refused with.
+// 0 where the tables were filled, or the number that the call is refused with.
 #[no_mangle]
-pub extern "C" fn mikjuqan_fill_table(block: &[u8], table: &mut [u32]) -> u32
-    ensures { λ r. ⌜ (let o = fillTable (now (block .entry)) (now (table .entry))
+pub extern "C" fn mikjuqan_fill_table(block: &[u8], maps: &[u8], table: &mut [u32]) -> u32
+    ensures { λ r. ⌜ (let o = fillTable (now (block .entry)) (now (maps .entry)) (now (table .entry))
         in (r ≡ refusalOf (o .answer)) × (now (table .exit) ≡ o .out)) ⌝ }
-    ensures { λ r. ⌜ FillingKept (now (block .entry)) (doneTold r) (now (table .exit)) ⌝ }
+    ensures { λ r. ⌜ FillingKept (now (block .entry)) (now (maps .entry)) (doneTold r) (now (table .exit)) ⌝ }
 {
-    let filling = engine::fill_table(block, table);
+    let filling = engine::fill_table(block, maps, table);
     c_answers::filled(filling)
 }
 
-// Yes where the table passes the lower-bound test.
+// Yes where every table passes the lower-bound test under its own map.
 #[no_mangle]
-pub extern "C" fn mikjuqan_test_table(block: &[u8], table: &[u32]) -> Decision
-    ensures { λ r. ⌜ r ≡ decisionOf (testTable (now (block .entry)) (now (table .entry))) ⌝ }
-    ensures { λ r. ⌜ TableTestKept (now (block .entry)) (now (table .entry)) (decisionTold r) ⌝ }
+pub extern "C" fn mikjuqan_test_table(block: &[u8], maps: &[u8], table: &[u32]) -> Decision
+    ensures { λ r. ⌜ r ≡ decisionOf (testTable (now (block .entry)) (now (maps .entry)) (now (table .entry))) ⌝ }
+    ensures { λ r. ⌜ TableTestKept (now (block .entry)) (now (maps .entry)) (now (table .entry)) (decisionTold r) ⌝ }
 {
-    let test = engine::test_table(block, table);
+    let test = engine::test_table(block, maps, table);
     c_answers::passes(test)
 }
 
-// The entry of the table for a state; the table is not tested.
+// The largest of a state's entries in the tables of all maps; the tables are not tested.
 #[no_mangle]
-pub extern "C" fn mikjuqan_look_up_estimate(block: &[u8], state: &[u8], table: &[u32]) -> Entry
-    ensures { λ r. ⌜ r ≡ entryOf (lookUpEstimate (now (block .entry)) (now (state .entry)) (now (table .entry))) ⌝ }
-    ensures { λ r. ⌜ EstimateKept (now (block .entry)) (now (state .entry)) (now (table .entry)) (entryTold r) ⌝ }
+pub extern "C" fn mikjuqan_look_up_estimate(
+    block: &[u8],
+    maps: &[u8],
+    state: &[u8],
+    table: &[u32],
+) -> Entry
+    ensures { λ r. ⌜ r ≡ entryOf
+        (lookUpEstimate (now (block .entry)) (now (maps .entry)) (now (state .entry)) (now (table .entry))) ⌝ }
+    ensures { λ r. ⌜ EstimateKept (now (block .entry)) (now (maps .entry)) (now (state .entry)) (now (table .entry))
+        (entryTold r) ⌝ }
 {
-    let estimate = engine::look_up_estimate(block, state, table);
+    let estimate = engine::look_up_estimate(block, maps, state, table);
     c_answers::looked_up(estimate)
 }

@@ -1,8 +1,8 @@
--- The output of `par` means what specs/Promises.antt says: `par-means`. A query that is not refused keeps demand 3 since
--- the filled table of an exercise that is read from text passes the lower-bound test; and its plan's goal is the lowest.
--- The contract of a session promises this of what it prints.
+-- The output of `par` means what specs/Promises.antt says: `par-means`. A query that is not refused keeps demand 3
+-- since the estimates of the filled table of an exercise that is read from text pass; and its plan's goal is the
+-- lowest. The contract of a session promises this of what it prints.
 use mathlib.Core.Path.{_≡_, ap, subst, _∙_}
-use mathlib.Core.List.{List}
+use mathlib.Core.List.{List, []}
 use Prim.Native.Nat.{ℕ, _+_, _≤_, _<_}
 use native.Mathlib.Omega.{arith}
 use lib.ListN.{length, drop}
@@ -13,10 +13,11 @@ use Rattle.refusals.proofs.Verdicts.{verdict-parts}
 use Rattle.blocks.specs.Layout.{positions}
 use Rattle.blocks.specs.Validity.{Valid}
 use Rattle.filling.specs.FilledTables.{filled, CostBytes}
-use Rattle.filling.proofs.LeastEntries.{cost-bytes, filled-low, filled-small}
+use Rattle.filling.proofs.LeastEntries.{cost-bytes}
 use Rattle.rounds.specs.Rounds as rounds
 use Rattle.queries.specs.Queries.{longestPlan}
 use Rattle.queries.proofs.QueryLaws.{QueryAccepted, query-accepted}
+use Rattle.search.specs.Exercises.{estimateOf}
 use Rattle.search.specs.Promises.{SearchKept, GoalKept}
 use Rattle.search.proofs.Demand.{kept, visits-within, cost-within, plan-reaching, goal-kept}
 use Rattle.records.specs.Records.{numberOf, startOf, limitsOf, recordConditions, searchAsked}
@@ -28,6 +29,7 @@ use Rattle.frames.proofs.AcceptedText.{read-valid}
 use Rattle.frames.proofs.ReadBytes.{line-small, block-small}
 use Rattle.frames.proofs.WrittenLines.{written-bytes}
 use Rattle.par_queries.specs.QueryLines.{lineConditions, queryLineConditions, searchFor, answerLine}
+use Rattle.par_queries.proofs.QueryLineLaws.{filled-passing}
 use Rattle.par_openings.specs.Openings.{blockRoom, exerciseLines, exerciseBlock, openConditions}
 use Rattle.par_openings.proofs.OpeningLaws.{too-long-refused, reader-decides}
 use Rattle.par_outputs.specs.Output.{printedFor, parOutput}
@@ -59,10 +61,9 @@ module _
   unfolding queryLineConditions
   content = query-accepted b (startOf b q) (limitsOf b q) (verdict-parts (lineConditions b line) (recordConditions b q) h .1)
 
-  promised : SearchKept b (startOf b q) (limitsOf b q) (filled b) answer
+  promised : SearchKept b (estimateOf b [] (filled b)) (startOf b q) (limitsOf b q) answer
   unfolding searchAsked
-  promised =
-      kept valid (filled-low b valid bytes) (filled-small b valid bytes) (startOf b q) (limitsOf b q) (content .state)
+  promised = kept valid (filled-passing b valid bytes) (startOf b q) (limitsOf b q) (content .state)
 
   -- the limits are numbers of four bytes
   limit-below : (k : ℕ) → numberOf (drop k q) < 4294967296

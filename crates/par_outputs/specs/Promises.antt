@@ -2,13 +2,14 @@
 -- for each query that is not refused demand 3 and the goal reached (`QueryMeans`). It is shown of `parOutput` in
 -- proofs/Meaning.antt.
 use mathlib.Core.Path.{_≡_}
-use mathlib.Core.List.{List, flatMap}
+use mathlib.Core.List.{List, [], flatMap}
 use Prim.Native.Nat.{ℕ, _≤_, _<_}
 use lib.ListN.{length}
 use Rattle.refusals.specs.Answers.{refused, told, verdict}
 use Rattle.blocks.specs.Validity.{Valid}
 use Rattle.filling.specs.FilledTables.{filled}
 use Rattle.rounds.specs.Rounds as rounds
+use Rattle.search.specs.Exercises.{estimateOf}
 use Rattle.search.specs.Promises.{SearchKept, GoalKept}
 use Rattle.frames.specs.Lines.{linesOf, lineBytes, lineOf}
 use Rattle.frames.specs.Reading.{readConditions}
@@ -25,8 +26,8 @@ pub record AnswerMeans (b q : List ℕ) (a : rounds.Answer) (line : List ℕ) : 
   pub shown : line ≡ lineOf (answerBytes (goalAsked b q a) a)
   -- what is printed reads back as the answer's bytes, the goal's among them
   pub read-back : lineBytes line ≡ answerBytes (goalAsked b q a) a
-  -- demand 3, for the query's own start and limits
-  pub kept : SearchKept b (startOf b q) (limitsOf b q) (filled b) a
+  -- demand 3, by the filled table, for the query's own start and limits
+  pub kept : SearchKept b (estimateOf b [] (filled b)) (startOf b q) (limitsOf b q) a
   -- the goal printed is the lowest that the plan's last state meets
   pub goal : GoalKept b (startOf b q) a (goalAsked b q a)
   pub cost-whole : FourBytes (rounds.planCost a)

@@ -1,5 +1,5 @@
--- The theorems on the language.
--- Matching and applying in words, what a side makes, relabelling, the homomorphism, states that stay states, ranks, runs of rules, the goal met.
+-- The theorems on the language. Matching and applying in words, what a side makes, relabelling, the homomorphism,
+-- states that stay states, ranks, runs of rules, the goal met, exercises that differ in their maps alone.
 pub mod Matching
 pub mod Making
 pub mod Successors
@@ -11,3 +11,4 @@ pub mod RelabelledValid
 pub mod RankLaws
 pub mod RunLaws
 pub mod GoalLaws
+pub mod AlikeLaws

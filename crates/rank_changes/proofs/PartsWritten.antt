@@ -11,13 +11,14 @@ use native.Mathlib.Omega.{arith}
 use lib.Dec.{eqb}
 use lib.ListN.{getD}
 use borrow.Author.Tests.{eqb-true, eqb-false, not-false}
+use Rattle.basics.specs.Sums.{sumTo}
 use Rattle.basics.proofs.Truth.{or-false}
 use Rattle.basics.proofs.Bounded.{all-at}
 use Rattle.basics.proofs.Parts.{outside-none, outside-then, outside-within}
 use Rattle.words.specs.Packing.{digit}
 use Rattle.words.specs.Changes.{changePlace, partPlace, partAdds, addedTo}
 use Rattle.words.proofs.WordDigits.{digit-shift, digit-lt}
-use Rattle.rank_changes.specs.Rows.{total, entry}
+use Rattle.rank_changes.specs.Rows.{entry}
 use Rattle.rank_changes.specs.Parts.{isPart, PartPlaced, PartsPlaced}
 
 -- what the first j parts add stays where they stay
@@ -76,7 +77,7 @@ module _ {rows : List ℕ} {lead r : ℕ} where
               ∙ ap₂ _+_
               (added-kept changes₁ changes₂ r w count (λ k a c. part .changes .before k (omega arith)) ∙ parts .added w)
               (part-adds l part w)
-              ∙ ap (total (λ k. entry rows k (digit w k))) (sym (add-one p));
+              ∙ ap (sumTo (λ k. entry rows k (digit w k))) (sym (add-one p));
           changes =
               outside-then (parts .changes)
               (outside-within (changePlace r + 1) (changePlace r + 273) (omega arith) (omega (arith, parts .few))
@@ -93,7 +94,7 @@ module _ {rows : List ℕ} {lead r : ℕ} where
               let none =
               eqb-true (entry rows p (digit w p)) 0
               (all-at (λ x. eqb (entry rows p x) 0) 16 (not-false _ (parted .1)) (digit w p) (digit-lt w p)) in
-              let sum : ℕ → ℕ = total (λ k. entry rows k (digit w k)) in
+              let sum : ℕ → ℕ = sumTo (λ k. entry rows k (digit w k)) in
               parts .added w ∙ sym (add-zero (sum p)) ∙ ap (λ (y : ℕ). sum p + y) (sym none) ∙ ap sum (sym (add-one p));
           changes = parts .changes;
         }

@@ -1,81 +1,68 @@
--- The rank after a rule: the weights of a state's labels are its rank (`weight-sum`), so rows that are `Balanced`, and
--- then `Folded` with no constant left, give the rank of the state that the rule makes (`rank-after`). The change of a
--- rule so written is right (`change-placed`) and stays while others are written (`change-kept`); together they are
--- `Changed` (`changed`).
-use mathlib.Core.Path.{_≡_, sym, ap, ap₂, _∙_, refl}
+-- The ranks after a rule: rows that are `Balanced`, and then `Folded` with no constant left, give the ranks of the
+-- state that the rule makes (`ranks-after`). The change of a rule so written is right (`change-placed`) and stays while
+-- others are written (`change-kept`); together they are `Changed` (`changed`), by the weights at the front
+-- (`singles-kept`).
+use mathlib.Core.Path.{_≡_, sym, ap, _∙_}
 use mathlib.Core.Bool.{true}
 use mathlib.Core.List.{List}
-use Prim.Native.Nat.{ℕ, zero, suc, _+_, _%_, _≤_, _<_}
-use native.Mathlib.Nat.{mod-eq-of-lt}
+use Prim.Native.Nat.{ℕ, _+_, _*_, _%_, _≤_, _<_}
+use native.Mathlib.Nat.{mod-add-mod}
 use native.Mathlib.Omega.{arith}
 use lib.ListN.{length, getD, set}
 use lib.Seq.{getD-set-same, getD-set-other}
+use Rattle.basics.specs.Sums.{sumTo}
 use Rattle.basics.proofs.Parts.{outside-set, outside-within}
+use Rattle.basics.proofs.Sums.{sum-ext}
 use Rattle.blocks.specs.Terms.{termOf}
-use Rattle.blocks.specs.Layout.{positions, rules, leftOf, rightOf}
+use Rattle.blocks.specs.Layout.{positions, rules, leftAt, rightAt, sideAt, leftOf, rightOf}
 use Rattle.blocks.specs.Validity.{Valid}
 use Rattle.blocks.specs.States.{stateOk}
-use Rattle.blocks.proofs.StateLaws.{state-label, label-below}
+use Rattle.blocks.proofs.StateLaws.{label-below}
 use Rattle.psvn.specs.Rules.{given, applies, step}
-use Rattle.psvn.specs.Relabelling.{relabelState}
-use Rattle.psvn.specs.Ranks.{rank}
 use Rattle.psvn.proofs.Making.{rewritten-at}
-use Rattle.psvn.proofs.Stepping.{step-state, relabelled-state}
-use Rattle.psvn.proofs.RankLaws.{rank-below}
+use Rattle.psvn.proofs.Stepping.{step-state}
 use Rattle.words.specs.Packing.{unpack}
-use Rattle.words.specs.Changes.{changesLength, changePlace, partCount, addedTo, nextRank, Changed}
+use Rattle.words.specs.Changes.{wordSpan, changesLength, ranksOf, ranksWord, changePlace, partCount, addedTo, nextRanks}
+use Rattle.words.specs.Changes.{Changed}
 use Rattle.words.proofs.WordDigits.{unpack-at}
-use Rattle.words.proofs.WordRanks.{labelsRank, labels-rank}
-use Rattle.compiling.specs.PlacingWeights.{SinglesPlaced}
-use Rattle.rank_changes.specs.Rows.{total, entry, entryOf, Balanced}
+use Rattle.rank_changes.specs.Rows.{entry, entryOf, Balanced}
 use Rattle.rank_changes.specs.Folds.{Folded}
 use Rattle.rank_changes.specs.Parts.{PartsPlaced}
-use Rattle.rank_changes.specs.Changes.{ChangeAt, ChangePlaced, ChangesPlaced}
-use Rattle.rank_changes.proofs.RowSums.{total-ext}
+use Rattle.rank_changes.specs.Changes.{SinglesCopied, ChangeAt, ChangePlaced, ChangesPlaced}
 use Rattle.rank_changes.proofs.RowFolds.{balanced-folded}
 use Rattle.rank_changes.proofs.PartsWritten.{added-kept}
 
-module _ (b : List ℕ) (valid : Valid b) {singles : List ℕ} (single : SinglesPlaced b singles) where
-  -- the weights of a state's labels
-  weights-to :
-      (s : List ℕ) → stateOk b s ≡ true → (j : ℕ) → j ≤ positions b → total (entryOf singles s) j ≡ labelsRank b s j
-  weights-to s ok zero l = refl
-  weights-to s ok (suc j) l =
-      ap₂ _+_ (weights-to s ok j (omega arith)) (single .weight j (getD s j 0) l (state-label b s ok j l))
+-- the weights stay at the front
+pub singles-kept :
+    {b singles changes changes₀ changes₁ : List ℕ} → SinglesCopied singles changes changes₀
+    → ChangesPlaced b singles changes₀ changes₁ → (k : ℕ) → k < 256 → getD changes₁ k 0 ≡ getD singles k 0
+singles-kept copied placed k l = placed .front k (omega arith) ∙ copied .single k l
 
-  weight-sum : (s : List ℕ) → stateOk b s ≡ true → total (entryOf singles s) (positions b) ≡ rank b (relabelState b s)
-  weight-sum s ok = weights-to s ok (positions b) (omega arith) ∙ labels-rank b s
-
-  rank-low : (s : List ℕ) → stateOk b s ≡ true → rank b (relabelState b s) < 16384
-  rank-low s ok =
-      omega (arith, rank-below b (relabelState b s) (relabelled-state b valid s ok), valid .sized .headed .few)
-
+module _ (b : List ℕ) (valid : Valid b) where
   module _
-      {r : ℕ} (lr : r < rules b) {rows₀ rows : List ℕ} {constant₀ : ℕ}
+      {singles : List ℕ} {r : ℕ} (lr : r < rules b) {rows₀ rows : List ℕ} {constant₀ : ℕ}
       (balanced : Balanced (positions b) (leftOf b r) (rightOf b r) singles rows₀ constant₀ (positions b))
       (folded : Folded (positions b) (leftOf b r) rows₀ constant₀ rows 0) where
     -- what the right side gives are the labels of the state that the rule makes
     made :
         (s : List ℕ)
-        → total (λ k. entry singles k (given (positions b) (leftOf b r) s k (termOf (rightOf b r k)))) (positions b)
-        ≡ total (entryOf singles (step b r s)) (positions b)
+        → sumTo (λ k. entry singles k (given (positions b) (leftOf b r) s k (termOf (rightOf b r k)))) (positions b)
+        ≡ sumTo (entryOf singles (step b r s)) (positions b)
     unfolding step
     made s =
-        total-ext _ _ (positions b)
+        sum-ext _ _ (positions b)
         (λ k l. ap (entry singles k) (sym (rewritten-at (positions b) (leftOf b r) (rightOf b r) s k l)))
 
-    pub rank-after :
+    ranks-after :
         (s : List ℕ) → stateOk b s ≡ true → applies b r s ≡ true
-        → (rank b (relabelState b s) + total (entryOf rows s) (positions b)) % 16384
-        ≡ rank b (relabelState b (step b r s))
-    unfolding applies
-    rank-after s ok can =
+        → (ranksOf singles (positions b) s + sumTo (entryOf rows s) (positions b)) % wordSpan
+        ≡ ranksOf singles (positions b) (step b r s)
+    unfolding applies ranksOf
+    ranks-after s ok can =
         let n = positions b in
-        let after = step-state b valid r lr s ok in
-        ap (λ (y : ℕ). (y + total (entryOf rows s) n) % 16384) (sym (weight-sum s ok))
+        mod-add-mod (sumTo (entryOf singles s) n) wordSpan (sumTo (entryOf rows s) n)
         ∙ balanced-folded n (leftOf b r) balanced folded s (label-below b (valid .sized .headed) s ok) can
-        ∙ ap (λ (y : ℕ). y % 16384) (made s ∙ weight-sum (step b r s) after)
-        ∙ mod-eq-of-lt (rank-low (step b r s) after)
+        ∙ ap (λ (y : ℕ). y % wordSpan) (made s)
 
     module _
         {lead count : ℕ} {changes₀ changes₁ : List ℕ} (below : lead < positions b)
@@ -89,25 +76,25 @@ module _ (b : List ℕ) (valid : Valid b) {singles : List ℕ} (single : Singles
           getD-set-same changes₁ (changePlace r) count 0
           (omega (arith, valid .sized .headed .sizes .r-high, parts .changes .len))
 
-      added-is : (w : ℕ) → addedTo written r w count ≡ total (entryOf rows (unpack (positions b) w)) (positions b)
+      added-is : (w : ℕ) → addedTo written r w count ≡ sumTo (entryOf rows (unpack (positions b) w)) (positions b)
       added-is w =
           added-kept changes₁ written r w count
           (λ k a c. getD-set-other changes₁ (changePlace r) k count 0 (λ e. omega arith))
           ∙ parts .added w
-          ∙ total-ext _ _ (positions b) (λ k l. ap (entry rows k) (sym (unpack-at (positions b) w k l)))
+          ∙ sum-ext _ _ (positions b) (λ k l. ap (entry rows k) (sym (unpack-at (positions b) w k l)))
 
       next-is :
           (w : ℕ) → stateOk b (unpack (positions b) w) ≡ true → applies b r (unpack (positions b) w) ≡ true
-          → nextRank written r (rank b (relabelState b (unpack (positions b) w))) w
-          ≡ rank b (relabelState b (step b r (unpack (positions b) w)))
-      unfolding nextRank
+          → nextRanks written r (ranksWord singles (positions b) w) w
+          ≡ ranksOf singles (positions b) (step b r (unpack (positions b) w))
+      unfolding nextRanks
       next-is w ok can =
-          let k = rank b (relabelState b (unpack (positions b) w)) in
-          ap (λ (a : ℕ). (k + a) % 16384) (ap (addedTo written r w) count-is ∙ added-is w)
-          ∙ rank-after (unpack (positions b) w) ok can
+          let k = ranksWord singles (positions b) w in
+          ap (λ (a : ℕ). (k + a) % wordSpan) (ap (addedTo written r w) count-is ∙ added-is w)
+          ∙ ranks-after (unpack (positions b) w) ok can
 
-      pub change-placed : ChangePlaced b r changes₀ written
-      change-placed =
+      change-right : ChangePlaced b singles r changes₀ written
+      change-right =
           record {
             change = record {
               some-part = omega (arith, count-is, parts .some-part below);
@@ -119,19 +106,57 @@ module _ (b : List ℕ) (valid : Valid b) {singles : List ℕ} (single : Singles
                 (outside-within (changePlace r) (changePlace r + 273) (omega arith) (omega arith) (parts .changes));
           }
 
+  -- the change of rule r, its numbers by other names
+  pub change-placed :
+      {singles rows₀ rows changes₀ changes₁ : List ℕ} {r n left right constant₀ lead count : ℕ} → r < rules b
+      → n ≡ positions b → left ≡ leftAt b r → right ≡ rightAt b r
+      → Balanced n (sideAt b left) (sideAt b right) singles rows₀ constant₀ n
+      → Folded n (sideAt b left) rows₀ constant₀ rows 0
+      → lead < n → PartsPlaced rows lead r n count changes₀ changes₁
+      → length changes₀ ≡ changesLength → ChangePlaced b singles r changes₀ (set changes₁ (changePlace r) count)
+  change-placed lr e f g balanced folded below parts room =
+      change-right lr (rw (e, f, g) at balanced) (rw (e, f) at folded) (omega arith) (rw e at parts) room
+
+  -- the ranks go by the weights at the front
+  pub ranks-front :
+      (singles changes : List ℕ) → ((k : ℕ) → k < 256 → getD changes k 0 ≡ getD singles k 0) → (s : List ℕ)
+      → stateOk b s ≡ true → ranksOf changes (positions b) s ≡ ranksOf singles (positions b) s
+  unfolding ranksOf
+  ranks-front singles changes same s ok =
+      ap (λ (x : ℕ). x % wordSpan)
+      (sum-ext (entryOf changes s) (entryOf singles s) (positions b)
+      (λ p l.
+      let x = label-below b (valid .sized .headed) s ok p l in
+      same (16 * p + getD s p 0) (omega (arith, valid .sized .headed .sizes .n-high))))
+
+  pub changed :
+      {singles changes changes₀ changes₁ : List ℕ} → SinglesCopied singles changes changes₀
+      → ChangesPlaced b singles changes₀ changes₁ → Changed b changes₁
+  changed {singles} {changes₁ = changes₁} copied placed =
+      record {
+        some-part = λ r l. placed .change r l .some-part;
+        few = λ r l. placed .change r l .few;
+        next = λ r w l ok can.
+            let s = unpack (positions b) w in
+            let same = singles-kept copied placed in
+            ap (λ (k : ℕ). nextRanks changes₁ r k w) (ranks-front singles changes₁ same s ok)
+            ∙ placed .change r l .next w ok can
+            ∙ sym (ranks-front singles changes₁ same (step b r s) (step-state b valid r l s ok));
+      }
+
 -- a change stays where its elements stay
 pub change-kept :
-    {b changes changes′ : List ℕ} (r : ℕ)
+    {b singles changes changes′ : List ℕ} (r : ℕ)
     → ((k : ℕ) → changePlace r ≤ k → k < changePlace r + 273 → getD changes′ k 0 ≡ getD changes k 0)
-    → ChangeAt b changes r → ChangeAt b changes′ r
-unfolding nextRank
-change-kept {b} {changes} {changes′} r same change =
+    → ChangeAt b singles changes r → ChangeAt b singles changes′ r
+unfolding nextRanks
+change-kept {b} {singles} {changes} {changes′} r same change =
     record {
       some-part = omega (arith, counted, change .some-part);
       few = omega (arith, counted, change .few);
       next = λ w ok can.
-          let k = rank b (relabelState b (unpack (positions b) w)) in
-          ap (λ (a : ℕ). (k + a) % 16384)
+          let k = ranksWord singles (positions b) w in
+          ap (λ (a : ℕ). (k + a) % wordSpan)
           (ap (addedTo changes′ r w) counted
           ∙ added-kept changes changes′ r w (partCount changes r)
           (λ k a c. same k (omega arith) (omega (arith, change .few))))
@@ -140,11 +165,3 @@ change-kept {b} {changes} {changes′} r same change =
   where
     counted : partCount changes′ r ≡ partCount changes r
     counted = same (changePlace r) (omega arith) (omega arith)
-
-pub changed : {b changes₀ changes₁ : List ℕ} → ChangesPlaced b changes₀ changes₁ → Changed b changes₁
-changed placed =
-    record {
-      some-part = λ r l. placed .change r l .some-part;
-      few = λ r l. placed .change r l .few;
-      next = λ r w l ok can. placed .change r l .next w ok can;
-    }

@@ -1,7 +1,7 @@
 -- Rows folded into the constant: none of them (`folded-none`), some after others (`folded-then`), and the row of a
 -- position whose left term is a constant (`row-folded`); and the constant folded into a row, which leaves none
 -- (`constant-folded`). Folded rows with no constant left are balanced for the states that match the left side
--- (`balanced-folded`). The functions that fold, and the rank after a rule, rest on these.
+-- (`balanced-folded`). The functions that fold, and the ranks after a rule, rest on these.
 use mathlib.Core.Path.{_≡_, refl, sym, ap, _∙_}
 use mathlib.Core.Logic.{⊎-elim}
 use mathlib.Core.Bool.{true}
@@ -9,52 +9,50 @@ use mathlib.Core.List.{List}
 use Prim.Native.Nat.{ℕ, _+_, _*_, _%_, _<_}
 use native.Mathlib.Omega.{arith}
 use lib.ListN.{getD}
+use Rattle.basics.specs.Sums.{sumTo}
 use Rattle.basics.proofs.Comparing.{below?}
 use Rattle.blocks.specs.Terms.{termOf}
-use Rattle.blocks.specs.Layout.{sideAt}
 use Rattle.blocks.specs.declared.labels.ConcreteLabel.{ConcreteLabel}
 use Rattle.blocks.specs.declared.terms.Term.the-variants.{Label}
 use Rattle.psvn.specs.Rules.{given, matches}
 use Rattle.psvn.proofs.Matching.{at-position}
-use Rattle.compiling.proofs.RulesPlaced.{named}
-use Rattle.rank_changes.specs.Rows.{total, entry, entryOf, Low, RowAdded, Balanced}
+use Rattle.words.specs.Changes.{wordSpan}
+use Rattle.rank_changes.specs.Rows.{entry, entryOf, RowAdded, Balanced}
 use Rattle.rank_changes.specs.Folds.{RowCleared, Folded}
-use Rattle.rank_changes.proofs.RowSums.{total-one, total-added}
+use Rattle.rank_changes.proofs.RowSums.{sum-one, sum-added}
 
 -- the rows fall by d, by which the constant grows
 moved :
-    (constant rows rows′ d : ℕ) → rows % 16384 ≡ (rows′ + d) % 16384
-    → ((constant + d) % 16384 + rows′) % 16384 ≡ (constant + rows) % 16384
+    (constant rows rows′ d : ℕ) → rows % wordSpan ≡ (rows′ + d) % wordSpan
+    → ((constant + d) % wordSpan + rows′) % wordSpan ≡ (constant + rows) % wordSpan
 moved constant rows rows′ d e = omega arith
 
 -- the weights with what is added
 with-weights :
-    (weights constant rows rows′ : ℕ) → (0 + rows′) % 16384 ≡ (constant + rows) % 16384
-    → (weights + rows′) % 16384 ≡ (weights + constant + rows) % 16384
+    (weights constant rows rows′ : ℕ) → (0 + rows′) % wordSpan ≡ (constant + rows) % wordSpan
+    → (weights + rows′) % wordSpan ≡ (weights + constant + rows) % wordSpan
 with-weights weights constant rows rows′ e = omega arith
 
 module _ (n : ℕ) (left : ℕ → ℕ) where
-  pub folded-none :
-      {rows : List ℕ} {constant : ℕ} → Low rows → constant < 16384 → Folded n left rows constant rows constant
-  folded-none low l = record { summed = λ s small m. refl; low = low; constant-low = l }
+  pub folded-none : {rows : List ℕ} {constant : ℕ} → Folded n left rows constant rows constant
+  folded-none = record { summed = λ s small m. refl; len = refl }
 
   pub folded-then :
       {rows₀ rows₁ rows₂ : List ℕ} {constant₀ constant₁ constant₂ : ℕ} → Folded n left rows₀ constant₀ rows₁ constant₁
       → Folded n left rows₁ constant₁ rows₂ constant₂ → Folded n left rows₀ constant₀ rows₂ constant₂
   folded-then f g =
-      record { summed = λ s small m. g .summed s small m ∙ f .summed s small m; low = g .low; constant-low = g .constant-low }
+      record { summed = λ s small m. g .summed s small m ∙ f .summed s small m; len = g .len ∙ f .len }
 
   pub row-folded :
       {rows rows′ : List ℕ} (constant p : ℕ) → p < n → (c : ConcreteLabel) (x : ℕ) → termOf (left p) ≡ Label c
       → x ≡ c .0 → RowCleared p rows rows′
-      → Folded n left rows constant rows′ ((constant + entry rows p x) % 16384)
+      → Folded n left rows constant rows′ ((constant + entry rows p x) % wordSpan)
   row-folded {rows} {rows′} constant p l c x e f cleared =
       record {
         summed = λ s small m.
-            moved constant (total (entryOf rows s) n) (total (entryOf rows′ s) n) (entry rows p x)
-            (total-one (entryOf rows′ s) (entryOf rows s) p (entry rows p x) n l (kept s small) (fell s small m));
-        low = cleared .low;
-        constant-low = omega arith;
+            moved constant (sumTo (entryOf rows s) n) (sumTo (entryOf rows′ s) n) (entry rows p x)
+            (sum-one (entryOf rows′ s) (entryOf rows s) p (entry rows p x) n l (kept s small) (fell s small m));
+        len = cleared .rows .len;
       }
     where
       -- the label of a state that matches
@@ -63,7 +61,7 @@ module _ (n : ℕ) (left : ℕ → ℕ) where
 
       fell :
           (s : List ℕ) → ((p : ℕ) → p < n → getD s p 0 < 16) → matches n left s ≡ true
-          → entryOf rows s p % 16384 ≡ (entryOf rows′ s p + entry rows p x) % 16384
+          → entryOf rows s p % wordSpan ≡ (entryOf rows′ s p + entry rows p x) % wordSpan
       fell s small m =
           omega (arith, ap (entry rows p) (label-is s m), cleared .zeros (getD s p 0) (small p l))
 
@@ -83,9 +81,8 @@ module _ (n : ℕ) (left : ℕ → ℕ) where
       → RowAdded (λ _. constant₁) p 16 rows₁ rows₂ → Folded n left rows₀ constant₀ rows₂ 0
   constant-folded p l folded added =
       record {
-        summed = λ s small m. omega (arith, folded .summed s small m, total-added added n l s small);
-        low = added .low;
-        constant-low = omega arith;
+        summed = λ s small m. omega (arith, folded .summed s small m, sum-added added n l s small);
+        len = added .rows .len ∙ folded .len;
       }
 
   -- the weights of the labels that the right side's terms give, for a state that matches
@@ -93,16 +90,9 @@ module _ (n : ℕ) (left : ℕ → ℕ) where
       {right : ℕ → ℕ} {singles rows₀ rows₁ : List ℕ} {constant₀ i : ℕ} → Balanced n left right singles rows₀ constant₀ i
       → Folded n left rows₀ constant₀ rows₁ 0 → (s : List ℕ) → ((p : ℕ) → p < n → getD s p 0 < 16)
       → matches n left s ≡ true
-      → (total (entryOf singles s) n + total (entryOf rows₁ s) n) % 16384
-      ≡ total (λ k. entry singles k (given n left s k (termOf (right k)))) i % 16384
+      → (sumTo (entryOf singles s) n + sumTo (entryOf rows₁ s) n) % wordSpan
+      ≡ sumTo (λ k. entry singles k (given n left s k (termOf (right k)))) i % wordSpan
   balanced-folded {singles = singles} {rows₀ = rows₀} {rows₁ = rows₁} {constant₀ = constant₀} balanced folded s low m =
-      with-weights (total (entryOf singles s) n) constant₀ (total (entryOf rows₀ s) n) (total (entryOf rows₁ s) n)
+      with-weights (sumTo (entryOf singles s) n) constant₀ (sumTo (entryOf rows₀ s) n) (sumTo (entryOf rows₁ s) n)
       (folded .summed s low m)
       ∙ balanced .summed s low
-
--- the same by other names
-pub folded-as :
-    {n n′ l l′ constant₀ constant₁ : ℕ} {rows₀ rows₁ : List ℕ} (b : List ℕ) → n ≡ n′ → l ≡ l′
-    → Folded n (sideAt b l) rows₀ constant₀ rows₁ constant₁ → Folded n′ (sideAt b l′) rows₀ constant₀ rows₁ constant₁
-folded-as {constant₀ = constant₀} {constant₁ = constant₁} {rows₀ = rows₀} {rows₁ = rows₁} b e f =
-    named (λ n l r. Folded n l rows₀ constant₀ rows₁ constant₁) b e f f

@@ -9,9 +9,10 @@ use lib.Dec.{eqb}
 use lib.ListN.{getD}
 use Rattle.basics.specs.Bounded.{all}
 use Rattle.basics.specs.Parts.{Outside}
+use Rattle.basics.specs.Sums.{sumTo}
 use Rattle.words.specs.Packing.{digit}
 use Rattle.words.specs.Changes.{changePlace, addedTo}
-use Rattle.rank_changes.specs.Rows.{total, entry}
+use Rattle.rank_changes.specs.Rows.{entry}
 
 -- no label at position p adds anything
 abbrev pub plainRow : List ℕ → ℕ → Bool
@@ -31,5 +32,5 @@ pub record PartPlaced (rows : List ℕ) (p at : ℕ) (changes₀ changes₁ : Li
 pub record PartsPlaced (rows : List ℕ) (lead r p count : ℕ) (changes₀ changes₁ : List ℕ) : Type 0 where
   pub some-part : lead < p → 0 < count
   pub few : count ≤ p
-  pub added : (w : ℕ) → addedTo changes₁ r w count ≡ total (λ k. entry rows k (digit w k)) p
+  pub added : (w : ℕ) → addedTo changes₁ r w count ≡ sumTo (λ k. entry rows k (digit w k)) p
   pub changes : Outside (changePlace r + 1) (changePlace r + 273) changes₀ changes₁

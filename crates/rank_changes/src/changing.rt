@@ -1,61 +1,59 @@
-// Writes the change of each rule behind the weights of pairs (see `words::changes`).
+// Writes the weights of single labels, and the change of each rule (see `words::changes`).
 ghost use mathlib.Core.Path.{_≡_};
 ghost use Prim.Native.Nat.{_<_};
 ghost use lib.ListN.{length};
 ghost use Rattle.blocks.specs.Layout.{rules};
 ghost use Rattle.blocks.specs.Validity.{Valid};
 ghost use Rattle.words.specs.Changes.{changesLength};
-ghost use Rattle.compiling.specs.PlacingWeights.{SinglesPlaced};
-ghost use Rattle.rank_changes.specs.Changes.{PairsCopied, ChangePlaced, ChangesPlaced};
+ghost use Rattle.rank_changes.specs.Changes.{SinglesCopied, ChangePlaced, ChangesPlaced};
 use super::folding::fold_terms;
 use super::parts::add_constant;
 use super::parts::first_part;
 use super::parts::place_parts;
 use super::rows::ROWS;
+use super::rows::SINGLES;
+use super::rows::Singles;
 use super::rows::add_terms;
 use blocks::layout;
-use compiling::Singles;
 use words::changes::CHANGE;
 use words::changes::Changes;
 use words::changes::FIRST_CHANGE;
-use words::ranking::WEIGHTS;
-use words::ranking::Weights;
 
-// Copies the weights of pairs to the front.
-pub fn copy_pairs(pairs: &Weights, changes: &mut Changes)
+// Copies the weights of single labels to the front.
+pub fn copy_singles(singles: &Singles, changes: &mut Changes)
     requires { ⌜ length (now changes) ≡ changesLength ⌝ }
-    ensures { λ _. ⌜ PairsCopied (now (pairs .entry)) (now (changes .exit)) ⌝ }
+    ensures { λ _. ⌜ SinglesCopied (now (singles .entry)) (now (changes .entry)) (now (changes .exit)) ⌝ }
 {
     let mut k: usize = 0;
-    while k < WEIGHTS {
-        changes[k] = pairs[k];
+    while k < SINGLES {
+        changes[k] = singles[k];
         k += 1;
     }
 }
 
 // Writes the change of rule r.
 fn place_change(block: &[u8], singles: &Singles, changes: &mut Changes, r: usize)
-    requires { ⌜ Valid (now block) × (r < rules (now block)) × SinglesPlaced (now block) (now singles) ×
-        (length (now changes) ≡ changesLength) ⌝ }
-    ensures { λ _. ⌜ ChangePlaced (now (block .entry)) r (now (changes .entry)) (now (changes .exit)) ⌝ }
+    requires { ⌜ Valid (now block) × (r < rules (now block)) × (length (now changes) ≡ changesLength) ⌝ }
+    ensures { λ _. ⌜ ChangePlaced (now (block .entry)) (now (singles .entry)) r (now (changes .entry))
+        (now (changes .exit)) ⌝ }
 {
     let n = layout::positions(block);
     let left = layout::left_at(block, r);
     let right = layout::right_at(block, r);
-    let mut rows = [0u16; ROWS];
+    let mut rows = [0u64; ROWS];
     let added = add_terms(block, left, right, n, singles, &mut rows);
     let constant = fold_terms(block, left, n, &mut rows, added);
     let lead = first_part(&rows, n);
     add_constant(&mut rows, lead, constant);
     let count = place_parts(&rows, n, lead, changes, r);
-    changes[FIRST_CHANGE + CHANGE * r] = count as u16;
+    changes[FIRST_CHANGE + CHANGE * r] = count as u64;
 }
 
 // Writes the changes of all rules.
 pub fn place_rule_changes(block: &[u8], singles: &Singles, changes: &mut Changes)
-    requires { ⌜ Valid (now block) × SinglesPlaced (now block) (now singles) ×
-        (length (now changes) ≡ changesLength) ⌝ }
-    ensures { λ _. ⌜ ChangesPlaced (now (block .entry)) (now (changes .entry)) (now (changes .exit)) ⌝ }
+    requires { ⌜ Valid (now block) × (length (now changes) ≡ changesLength) ⌝ }
+    ensures { λ _. ⌜ ChangesPlaced (now (block .entry)) (now (singles .entry)) (now (changes .entry))
+        (now (changes .exit)) ⌝ }
 {
     let count = layout::rules(block);
     let mut r: usize = 0;

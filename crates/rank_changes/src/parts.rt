@@ -3,9 +3,10 @@ ghost use mathlib.Core.Path.{_≡_};
 ghost use Prim.Native.Nat.{_+_, _≤_, _<_};
 ghost use lib.ListN.{length};
 ghost use Rattle.words.specs.Changes.{changesLength};
-ghost use Rattle.rank_changes.specs.Rows.{Low, RowAdded};
+ghost use Rattle.rank_changes.specs.Rows.{RowAdded};
 ghost use Rattle.rank_changes.specs.Parts.{plainRow, isPart, PartPlaced, PartsPlaced};
 use super::rows::Rows;
+use std::num::wrapping_add_u64;
 use words::changes::CHANGE;
 use words::changes::Changes;
 use words::changes::FIRST_CHANGE;
@@ -43,14 +44,13 @@ pub fn first_part(rows: &Rows, n: usize) -> usize
 }
 
 // Adds a rule's constant to what each label at position p adds: a state has one label there, and so it is added once.
-pub fn add_constant(rows: &mut Rows, p: usize, constant: u16)
-    requires { ⌜ (p < 16) × Low (now rows) × (constant < 16384) ⌝ }
+pub fn add_constant(rows: &mut Rows, p: usize, constant: u64)
+    requires { ⌜ (p < 16) × (length (now rows) ≡ 256) ⌝ }
     ensures { λ _. ⌜ RowAdded (λ _. constant) p 16 (now (rows .entry)) (now (rows .exit)) ⌝ }
 {
     let mut x: usize = 0;
     while x < 16 {
-        let sum = rows[16 * p + x] + constant;
-        rows[16 * p + x] = sum % 16384;
+        rows[16 * p + x] = wrapping_add_u64(rows[16 * p + x], constant);
         x += 1;
     }
 }
@@ -71,7 +71,7 @@ fn place_part(rows: &Rows, p: usize, changes: &mut Changes, at: usize)
     requires { ⌜ (p < 16) × (at + 17 ≤ changesLength) × (length (now changes) ≡ changesLength) ⌝ }
     ensures { λ _. ⌜ PartPlaced (now (rows .entry)) p at (now (changes .entry)) (now (changes .exit)) ⌝ }
 {
-    changes[at] = 4 * p as u16;
+    changes[at] = 4 * p as u64;
     let mut x: usize = 0;
     while x < 16 {
         changes[at + 1 + x] = rows[16 * p + x];

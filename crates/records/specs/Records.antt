@@ -12,7 +12,7 @@ use Rattle.blocks.specs.Layout.{positions}
 use Rattle.queries.specs.Queries.{queryConditions}
 use Rattle.queries.specs.declared.Limits.{Limits}
 use Rattle.rounds.specs.Rounds as rounds
-use Rattle.search.specs.Exercises.{searchFrom, statusOf, planGoal}
+use Rattle.search.specs.Exercises.{estimateOf, searchFrom, statusOf, planGoal}
 
 -- four bytes, the highest first: the number that a list begins with, and the bytes of a number
 abbrev pub numberOf : List ℕ → ℕ
@@ -42,7 +42,7 @@ recordConditions b q = queryConditions b (startOf b q) (limitsOf b q)
 
 -- the search that a query asks for, by the table t
 unfoldable pub searchAsked : List ℕ → List ℕ → List ℕ → rounds.Answer
-searchAsked b q t = searchFrom b (startOf b q) (limitsOf b q) t
+searchAsked b q t = searchFrom b (estimateOf b [] t) (startOf b q) (limitsOf b q)
 
 -- how many bytes hold every answer
 abbrev pub recordRoom : ℕ

@@ -7,8 +7,8 @@ ghost use Rattle.basics.specs.Lists.{atFront};
 ghost use Rattle.refusals.specs.Refusals.{refusalNumber};
 ghost use Rattle.blocks.specs.Layout.{abstractStates};
 ghost use Rattle.blocks.specs.Validity.{Valid};
-ghost use Rattle.tables.specs.Tables.{LowerBound, estimate};
 ghost use Rattle.queries.specs.Queries.{longestPlan};
+ghost use Rattle.search.specs.Exercises.{Passes, estimateOf};
 ghost use Rattle.search.specs.Parts.{FoundWithin, answerOf, endingGoal};
 ghost use Rattle.records.specs.Records.{queryLength, recordRoom, planFront, planBytes, answerBytes, refusalBytes};
 ghost use Rattle.records.specs.Records.{answerRecord, Written};
@@ -104,11 +104,12 @@ fn write_answer(ending: Ending, rules: &Rules, out: &mut [u8]) -> usize
     }
 }
 
-// Answers a query at the front of `out`, and gives the answer's length. The table is one that passes.
+// Answers a query at the front of `out`, and gives the answer's length, by the table of the block's own map alone,
+// whose estimates are known to pass.
 pub fn answer_query(block: &[u8], query: &[u8], table: &[u32], out: &mut [u8]) -> usize
     requires { ⌜ Valid (now block) × (length (now query) ≡ queryLength (now block)) ×
         (abstractStates (now block) ≤ length (now table)) × (recordRoom ≤ length (now out)) ⌝ }
-    requires { ⌜ LowerBound (now block) (estimate (now block) (now table)) ⌝ }
+    requires { ⌜ Passes (now block) (estimateOf (now block) [] (now table)) ⌝ }
     ensures { λ n. ⌜ Written (answerRecord (now (block .entry)) (now (query .entry)) (now (table .entry)))
         (now (out .entry)) n (now (out .exit)) ⌝ }
 {
@@ -119,6 +120,6 @@ pub fn answer_query(block: &[u8], query: &[u8], table: &[u32], out: &mut [u8]) -
         return put_refusal(refusal, out);
     }
     let mut rules = [0u8; LONGEST_PLAN];
-    let ending = search::find_plan(block, &query[..n], limits, table, &mut rules);
+    let ending = search::find_plan(block, &block[..0], &query[..n], limits, table, &mut rules);
     write_answer(ending, &rules, out)
 }

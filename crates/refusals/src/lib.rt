@@ -17,6 +17,8 @@ pub enum Refusal {
     Buffer,
     TableShort,
     TableFails,
+    Maps,
+    MapRange,
 }
 
 // What the conditions of a call give: nothing against it, or the refusal.
@@ -43,5 +45,7 @@ pub fn number(refusal: Refusal) -> u8
         Refusal::Buffer => 11,
         Refusal::TableShort => 12,
         Refusal::TableFails => 13,
+        Refusal::Maps => 14,
+        Refusal::MapRange => 15,
     }
 }

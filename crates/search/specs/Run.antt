@@ -14,7 +14,7 @@ use Rattle.tallies.specs.declared.Tally.{Tally}
 abbrev pub runLength : ℕ
 runLength = 265
 
--- the state after i rules, its rank, and the cost of the i rules
+-- the state after i rules, its ranks under all maps, and the cost of the i rules
 abbrev pub stateAt : List ℕ → ℕ → ℕ
 stateAt run i = getD run i 0
 

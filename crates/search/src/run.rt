@@ -54,14 +54,14 @@ pub fn carry(run: &mut Run, tally: Tally)
     run[LEAST] = tally.least;
 }
 
-// Puts the list with one rule more behind the list at depth: its rule, its last state with the rank of that, and its
+// Puts the list with one rule more behind the list at depth: its rule, its last state with the ranks of that, and its
 // cost.
-pub fn put(run: &mut Run, depth: usize, rule: usize, word: u64, rank: usize, cost: u64)
+pub fn put(run: &mut Run, depth: usize, rule: usize, word: u64, ranks: u64, cost: u64)
     requires { ⌜ (length (now run) ≡ runLength) × (depth < 64) × (rule < 64) ⌝ }
-    ensures { λ _. ⌜ Put depth rule word rank cost (now (run .entry)) (now (run .exit)) ⌝ }
+    ensures { λ _. ⌜ Put depth rule word ranks cost (now (run .entry)) (now (run .exit)) ⌝ }
 {
     run[RULES + depth] = rule as u64;
     run[depth + 1] = word;
-    run[RANKS + (depth + 1)] = rank as u64;
+    run[RANKS + (depth + 1)] = ranks;
     run[COSTS + (depth + 1)] = cost;
 }

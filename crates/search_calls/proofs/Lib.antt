@@ -3,3 +3,4 @@
 -- call tells.
 pub mod Conditions
 pub mod SearchAnswers
+pub mod OneTable

@@ -12,7 +12,7 @@ use Rattle.basics.proofs.Lists.{front-longer}
 use Rattle.refusals.specs.Answers.{told, Outcome, outcome}
 use Rattle.blocks.specs.Validity.{Valid}
 use Rattle.rounds.specs.Rounds as rounds
-use Rattle.search.specs.Exercises.{searchFrom, planGoal}
+use Rattle.search.specs.Exercises.{estimateOf, searchFrom, planGoal}
 use Rattle.search.specs.Promises.{SearchKept, GoalKept}
 use Rattle.search.specs.Parts.{Answers, answerOf, endingGoal}
 use Rattle.search.proofs.Demand.{goal-kept}
@@ -33,13 +33,16 @@ givenAs (ending.Spent u) = call.Spent u
 abbrev answering : SearchAnswer → List ℕ → Outcome SearchAnswer
 answering a out = outcome (told a) out
 
-module _ (b s : List ℕ) (l : Limits) (t buffer buffer′ : List ℕ) where
-  -- the answer of the search, as the rounds have it
+module _ (b maps s : List ℕ) (l : Limits) (t buffer buffer′ : List ℕ) where
+  -- the answer of the search, as the rounds have it, and an ending of the search layer
   abbrev whole : rounds.Answer
-  whole = searchFrom b s l t
+  whole = searchFrom b (estimateOf b maps t) s l
+
+  abbrev Ended : Ending → Type 0
+  Ended r = Answers b (estimateOf b maps t) s l buffer buffer′ r
 
   pub answered-by :
-      l .steps ≤ length buffer → (r : Ending) → Answers b s l t buffer buffer′ r
+      l .steps ≤ length buffer → (r : Ending) → Ended r
       → outcome (searchOf (givenAs r)) buffer′ ≡ answering (reported (planGoal b s whole) whole) (atFront (rounds.plan whole) buffer)
   unfolding rounds.visits
   answered-by room (ending.Found p) h =
@@ -53,15 +56,15 @@ module _ (b s : List ℕ) (l : Limits) (t buffer buffer′ : List ℕ) where
 
   -- what is promised, of an answer and the goal told with it
   abbrev Promised : rounds.Answer → ℕ → Type 0
-  Promised a goal = SearchKept b s l t a × GoalKept b s a goal
+  Promised a goal = SearchKept b (estimateOf b maps t) s l a × GoalKept b s a goal
 
   module _ (v : Valid b) where
-    promised-by : (r : Ending) → Answers b s l t buffer buffer′ r → Promised (answerOf buffer′ r) (endingGoal r)
+    promised-by : (r : Ending) → Ended r → Promised (answerOf buffer′ r) (endingGoal r)
     promised-by r h =
         subst (Promised (answerOf buffer′ r)) (sym (h .goal))
         (subst (λ (a : rounds.Answer). Promised a (planGoal b s whole)) (sym (h .told)) (h .kept, goal-kept (h .kept) v))
 
-    pub kept-by : (r : Ending) → Answers b s l t buffer buffer′ r → PlanKept b s l t (searchOf (givenAs r)) buffer′
+    pub kept-by : (r : Ending) → Ended r → PlanKept b maps s l t (searchOf (givenAs r)) buffer′
     kept-by (ending.Found p) h = promised-by (ending.Found p) h
     kept-by (ending.NoPlan u) h = promised-by (ending.NoPlan u) h
     kept-by (ending.Spent u) h = promised-by (ending.Spent u) h

@@ -8,12 +8,11 @@ use lib.ListN.{length, take}
 use Rattle.basics.specs.Lists.{atFront}
 use Rattle.refusals.specs.Answers.{Answer, refused, told, Condition, _unless_, verdict, Outcome, outcome, guarded}
 use Rattle.refusals.specs.Refusals.{refusalNumber}
-use Rattle.blocks.specs.Layout.{abstractStates}
-use Rattle.blocks.specs.Validity.{blockConditions}
-use Rattle.tables.specs.Tables.{passesTest}
+use Rattle.maps.specs.Maps.{allEntries, exerciseConditions}
+use Rattle.map_tables.specs.MapTables.{allPass}
 use Rattle.rounds.specs.Rounds as rounds
 use Rattle.queries.specs.Queries.{queryConditions}
-use Rattle.search.specs.Exercises.{searchFrom, statusOf, planGoal}
+use Rattle.search.specs.Exercises.{estimateOf, searchFrom, statusOf, planGoal}
 use Rattle.search.specs.Parts.{planless}
 use Rattle.search.specs.Promises.{SearchKept, GoalKept}
 use Rattle.queries.specs.declared.Limits.{Limits}
@@ -41,20 +40,21 @@ searchOf (Refused refusal) = refused (refusalNumber refusal)
 abbrev pub reported : ℕ → rounds.Answer → SearchAnswer
 reported goal a = searchAnswer (statusOf a) (rounds.steps a) (rounds.planCost a) (rounds.visits a) goal
 
--- 11 to 13, of a plan buffer of the length `room` for a plan of D steps, and of a table
-unfoldable pub lentConditions : List ℕ → ℕ → List ℕ → ℕ → List Condition
-lentConditions b D t room =
-    11 unless leb D room ∷ 12 unless leb (abstractStates b) (length t) ∷ 13 unless passesTest b t ∷ []
+-- 11 to 13, of a plan buffer of the length `room` for a plan of D steps, and of the tables of all maps
+unfoldable pub lentConditions : List ℕ → List ℕ → ℕ → List ℕ → ℕ → List Condition
+lentConditions b maps D t room =
+    11 unless leb D room ∷ 12 unless leb (allEntries b maps) (length t) ∷ 13 unless allPass b maps t ∷ []
 
--- 3 to 7, then 8 and 10, then 11 to 13
-unfoldable pub searchConditions : List ℕ → List ℕ → Limits → List ℕ → ℕ → List Condition
-searchConditions b s l t room = blockConditions b ++ (queryConditions b s l ++ lentConditions b (l .steps) t room)
+-- 3 to 7, 14 and 15, then 8 and 10, then 11 to 13
+unfoldable pub searchConditions : List ℕ → List ℕ → List ℕ → Limits → List ℕ → ℕ → List Condition
+searchConditions b maps s l t room =
+    exerciseConditions b maps ++ (queryConditions b s l ++ lentConditions b maps (l .steps) t room)
 
 -- a plan stands at the front of the buffer, and nothing is written without one
-unfoldable pub findPlan : List ℕ → List ℕ → Limits → List ℕ → List ℕ → Outcome SearchAnswer
-findPlan b s l t buffer =
-    let a = searchFrom b s l t in
-    guarded (verdict (searchConditions b s l t (length buffer))) buffer
+unfoldable pub findPlan : List ℕ → List ℕ → List ℕ → Limits → List ℕ → List ℕ → Outcome SearchAnswer
+findPlan b maps s l t buffer =
+    let a = searchFrom b (estimateOf b maps t) s l in
+    guarded (verdict (searchConditions b maps s l t (length buffer))) buffer
     (outcome (told (reported (planGoal b s a) a)) (atFront (rounds.plan a) buffer))
 
 -- the answer of the rounds that an answer tells, with its plan read from the front of the buffer
@@ -64,8 +64,8 @@ toldByStatus (suc zero) plan buffer = rounds.noPlan (plan .visits)
 toldByStatus (suc (suc k)) plan buffer = rounds.spent (plan .visits)
 
 -- demand 3, and the goal told is the lowest that the plan's last state meets
-abbrev pub PlanKept : List ℕ → List ℕ → Limits → List ℕ → Answer SearchAnswer → List ℕ → Type 0
-PlanKept b s l t (told a) buffer =
+abbrev pub PlanKept : List ℕ → List ℕ → List ℕ → Limits → List ℕ → Answer SearchAnswer → List ℕ → Type 0
+PlanKept b maps s l t (told a) buffer =
     let x = toldByStatus (a .status) (a .plan) buffer in
-    SearchKept b s l t x × GoalKept b s x (a .plan .goal)
-PlanKept b s l t (refused number) buffer = Unit {0}
+    SearchKept b (estimateOf b maps t) s l x × GoalKept b s x (a .plan .goal)
+PlanKept b maps s l t (refused number) buffer = Unit {0}

@@ -2,7 +2,7 @@
 ghost use mathlib.Core.Path.{_≡_};
 ghost use Rattle.refusals.specs.Answers.{verdict, outcome};
 ghost use Rattle.refusals.specs.Refusals.{verdictOf};
-ghost use Rattle.blocks.specs.Validity.{Valid};
+ghost use Rattle.maps.specs.Maps.{Mapped};
 ghost use Rattle.search_calls.specs.Searching.{searchOf, lentConditions, searchConditions, findPlan, PlanKept};
 use queries::Limits;
 use refusals::Refusal;
@@ -19,30 +19,39 @@ pub enum Search {
     Refused(Refusal),
 }
 
-// The room for a plan of so many steps, and the table: 11, 12, 13.
-fn check_lent(block: &[u8], steps: usize, table: &[u32], room: usize) -> Verdict
-    requires { ⌜ Valid (now block) ⌝ }
-    ensures { λ r. ⌜ verdictOf r ≡ verdict (lentConditions (now (block .entry)) steps (now (table .entry)) room) ⌝ }
+// The room for a plan of so many steps, and the tables of all maps: 11, 12, 13.
+fn check_lent(block: &[u8], maps: &[u8], steps: usize, table: &[u32], room: usize) -> Verdict
+    requires { ⌜ Mapped (now block) (now maps) ⌝ }
+    ensures { λ r. ⌜ verdictOf r ≡
+        verdict (lentConditions (now (block .entry)) (now (maps .entry)) steps (now (table .entry)) room) ⌝ }
 {
     if room < steps {
         return Verdict::Refused(Refusal::Buffer);
     }
-    if table.len() < blocks::layout::abstract_states(block) {
+    if table.len() < maps::all_entries(block, maps) {
         return Verdict::Refused(Refusal::TableShort);
     }
-    if tables::lower_bound::passes(block, table) {
+    if map_tables::all_pass(block, maps, table) {
         return Verdict::Accepted;
     }
     Verdict::Refused(Refusal::TableFails)
 }
 
-// Checks what a search is handed: the block, then what is asked, then what is lent; `room` is the length of the plan
-// buffer.
-fn check_search(block: &[u8], start: &[u8], limits: Limits, table: &[u32], room: usize) -> Verdict
+// Checks what a search is handed: the block with its further maps, then what is asked, then what is lent; `room` is the
+// length of the plan buffer.
+fn check_search(
+    block: &[u8],
+    maps: &[u8],
+    start: &[u8],
+    limits: Limits,
+    table: &[u32],
+    room: usize,
+) -> Verdict
     ensures { λ r. ⌜ verdictOf r ≡
-        verdict (searchConditions (now (block .entry)) (now (start .entry)) limits (now (table .entry)) room) ⌝ }
+        verdict (searchConditions (now (block .entry)) (now (maps .entry)) (now (start .entry)) limits
+        (now (table .entry)) room) ⌝ }
 {
-    let checked = blocks::validity::check(block);
+    let checked = maps::check(block, maps);
     if let Verdict::Refused(refusal) = checked {
         return Verdict::Refused(refusal);
     }
@@ -50,28 +59,31 @@ fn check_search(block: &[u8], start: &[u8], limits: Limits, table: &[u32], room:
     if let Verdict::Refused(refusal) = asked {
         return Verdict::Refused(refusal);
     }
-    check_lent(block, limits.steps, table, room)
+    check_lent(block, maps, limits.steps, table, room)
 }
 
 // Searches from a start within limits: a plan found is written at the front of `plan`, which otherwise keeps its
-// contents. Refused with 3 to 7, 8, 10, 11, 12, 13.
+// contents. The estimate of a state is the largest of its entries in the tables of all maps. Refused with 3 to 7, 14,
+// 15, 8, 10, 11, 12, 13.
 pub fn find_plan(
     block: &[u8],
+    maps: &[u8],
     start: &[u8],
     limits: Limits,
     table: &[u32],
     plan: &mut [u8],
 ) -> Search
     ensures { λ r. ⌜ outcome (searchOf r) (now (plan .exit)) ≡
-        findPlan (now (block .entry)) (now (start .entry)) limits (now (table .entry)) (now (plan .entry)) ⌝ }
-    ensures { λ r. ⌜ PlanKept (now (block .entry)) (now (start .entry)) limits (now (table .entry))
-        (searchOf r) (now (plan .exit)) ⌝ }
+        findPlan (now (block .entry)) (now (maps .entry)) (now (start .entry)) limits (now (table .entry))
+        (now (plan .entry)) ⌝ }
+    ensures { λ r. ⌜ PlanKept (now (block .entry)) (now (maps .entry)) (now (start .entry)) limits
+        (now (table .entry)) (searchOf r) (now (plan .exit)) ⌝ }
 {
-    let checked = check_search(block, start, limits, table, plan.len());
+    let checked = check_search(block, maps, start, limits, table, plan.len());
     if let Verdict::Refused(refusal) = checked {
         return Search::Refused(refusal);
     }
-    let ending = search::find_plan(block, start, limits, table, plan);
+    let ending = search::find_plan(block, maps, start, limits, table, plan);
     match ending {
         Ending::Found(found) => Search::Found(found),
         Ending::NoPlan { visits } => Search::NoPlan { visits },

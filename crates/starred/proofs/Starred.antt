@@ -1,7 +1,6 @@
--- The starred exercises, proved together: `starred`.
--- antt computes what can be computed from the definitions, which `computing`, `searching` and `printing` open; that
--- there is no other predecessor follows from the rule's form, and that no list costs less than input E's table says from
--- the certificate.
+-- The starred exercises, proved together: `starred`. antt computes what can be computed from the definitions, which
+-- `computing`, `searching` and `printing` open; that there is no other predecessor follows from the rule's form, and
+-- that no list costs less than input E's table says from the certificate.
 use mathlib.Core.Path.{_≡_, refl, sym, ap}
 use mathlib.Core.Bool.{true, false}
 use mathlib.Core.List.{List, flatMap}
@@ -30,6 +29,9 @@ use Rattle.distances.proofs.Certificate.{certified}
 use Rattle.tables.specs.Abstraction.{stepRank, graphOf}
 use Rattle.tables.specs.Tables.{entry, estimate, passesTest}
 use Rattle.tables.proofs.Promises.{zeros-pass-test}
+use Rattle.maps.specs.Maps.{furtherMaps, mapsWhole, furtherOk, mapsOk, mapConditions, exerciseConditions}
+use Rattle.map_tables.specs.MapTables.{largestEntry, allPass}
+use Rattle.map_fills.specs.MapFills.{allFilled}
 use Rattle.filling.specs.FilledTables.{filled, LeastCost}
 use Rattle.filling.proofs.LeastEntries.{least-entry}
 use Rattle.rounds.specs.Systems.{lower}
@@ -66,13 +68,13 @@ unfolding exampleBlock exampleState exampleImage pairBlock blockE tableE headByt
     lengthOk mapOk sideOk ruleTermsOk goalTermsOk termsOk ruleBound boundOk shapeConditions contentConditions
     blockConditions labelled bound matches rewritten applies step leads stateConditions applyConditions applyRule stepBackConditions stepBackFrom reversible
     reversibleConditions testReversible goalMet meets metGoal relabelSide relabelRule relabelGoal relabelBlock rank unrank
-    stepRank passesAt passes certifies passesTest leastBy leastWithin leastCosts filled tableConditions fillTable
-    testTable
+    stepRank passesAt passes certifies passesTest leastBy leastWithin leastCosts filled furtherMaps mapsWhole furtherOk
+    mapsOk mapConditions exerciseConditions allFilled allPass tableConditions fillTable testTable
 computing = tt
 
 -- and those for a search
 searching : Unit {0}
-unfolding relabelState entry estimate lower andThen behind takeUp conclude capped begin arrive offer extend visit
+unfolding relabelState entry estimate largestEntry lower andThen behind takeUp conclude capped begin arrive offer extend visit
     round rounds roundsFrom search logThen logBehind logTake logArrive logExtend logVisit roundLog thresholdsFrom
     thresholds visits searchFrom queryConditions lentConditions searchConditions findPlan
 searching = tt

@@ -24,7 +24,7 @@ use Rattle.backward_calls.specs.Predecessors.{stepBackFrom}
 use Rattle.backward_calls.specs.Reversing.{testReversible}
 use Rattle.table_calls.specs.WholeTables.{fillTable, testTable}
 use Rattle.queries.specs.declared.Limits.{Limits}
-use Rattle.search.specs.Exercises.{thresholdsOf, roundVisitsOf}
+use Rattle.search.specs.Exercises.{estimateOf, thresholdsOf, roundVisitsOf}
 use Rattle.search_calls.specs.Searching.{searchAnswer, findPlan}
 use Rattle.par_outputs.specs.Output.{parOutput}
 
@@ -132,40 +132,43 @@ pub record Starred : Type 0 where
   pub pair-not-one-to-one : OneToOne pairBlock 1 → ⊥
   -- the table of input E: filling writes it, and leaves what stands behind it
   pub table-filled :
-      fillTable blockE (7 ∷ 7 ∷ 7 ∷ 7 ∷ 7 ∷ 7 ∷ 7 ∷ 7 ∷ 7 ∷ 8 ∷ [])
+      fillTable blockE [] (7 ∷ 7 ∷ 7 ∷ 7 ∷ 7 ∷ 7 ∷ 7 ∷ 7 ∷ 7 ∷ 8 ∷ [])
       ≡ outcome (told tt) (mark ∷ mark ∷ mark ∷ 2 ∷ mark ∷ 1 ∷ 0 ∷ mark ∷ 7 ∷ 8 ∷ [])
   -- each entry is the least total cost of a list of relabelled rules from its state to a relabelled goal, or the mark
   -- and there is none
   pub table-least : (k : ℕ) → k < 8 → LeastCost (relabelBlock blockE) (unrank blockE k) (getD tableE k 0)
-  pub table-passes : testTable blockE tableE ≡ told true
+  pub table-passes : testTable blockE [] tableE ≡ told true
   -- the table of zeros passes, of input E and of every exercise
-  pub zeros-pass : testTable blockE (0 ∷ 0 ∷ 0 ∷ 0 ∷ 0 ∷ 0 ∷ 0 ∷ 0 ∷ []) ≡ told true
+  pub zeros-pass : testTable blockE [] (0 ∷ 0 ∷ 0 ∷ 0 ∷ 0 ∷ 0 ∷ 0 ∷ 0 ∷ []) ≡ told true
   pub zeros-always-pass :
       (b : List ℕ) → Valid b → (t : List ℕ) → ((k : ℕ) → k < abstractStates b → getD t k 0 ≡ 0) → passesTest b t ≡ true
   -- the search of input E from <1,2,0> with its table, step limit 8, cost limit 100 and allowance 100: found, 3 steps,
   -- cost 5, 10 visits, plan 2, 0, 5, which reaches goal 0
   pub search-found :
-      findPlan blockE startE (limits 8 100 100) tableE roomE
+      findPlan blockE [] startE (limits 8 100 100) tableE roomE
       ≡ outcome (told (searchAnswer 0 3 5 10 0)) (2 ∷ 0 ∷ 5 ∷ 9 ∷ 9 ∷ 9 ∷ 9 ∷ 9 ∷ [])
   -- its rounds are at the thresholds 0, 2, 4 and 5, with 1, 2, 3 and 4 visits
-  pub search-thresholds : thresholdsOf blockE startE (limits 8 100 100) tableE ≡ 0 ∷ 2 ∷ 4 ∷ 5 ∷ []
+  pub search-thresholds :
+      thresholdsOf blockE (estimateOf blockE [] tableE) startE (limits 8 100 100) ≡ 0 ∷ 2 ∷ 4 ∷ 5 ∷ []
   pub search-round-visits :
-      map (roundVisitsOf blockE startE (limits 8 100 100) tableE) (0 ∷ 2 ∷ 4 ∷ 5 ∷ []) ≡ 1 ∷ 2 ∷ 3 ∷ 4 ∷ []
+      map (roundVisitsOf blockE (estimateOf blockE [] tableE) startE (limits 8 100 100)) (0 ∷ 2 ∷ 4 ∷ 5 ∷ [])
+      ≡ 1 ∷ 2 ∷ 3 ∷ 4 ∷ []
   -- an allowance of 9 is spent; without a plan the goal is FF
   pub search-spent :
-      findPlan blockE startE (limits 8 100 9) tableE roomE ≡ outcome (told (searchAnswer 2 0 0 9 noGoal)) roomE
+      findPlan blockE [] startE (limits 8 100 9) tableE roomE ≡ outcome (told (searchAnswer 2 0 0 9 noGoal)) roomE
   -- with cost limit 4, or with step limit 2, there is no plan
   pub search-cost-limit :
-      findPlan blockE startE (limits 8 4 100) tableE roomE ≡ outcome (told (searchAnswer 1 0 0 6 noGoal)) roomE
+      findPlan blockE [] startE (limits 8 4 100) tableE roomE ≡ outcome (told (searchAnswer 1 0 0 6 noGoal)) roomE
   pub search-step-limit :
-      findPlan blockE startE (limits 2 100 100) tableE roomE ≡ outcome (told (searchAnswer 1 0 0 11 noGoal)) roomE
+      findPlan blockE [] startE (limits 2 100 100) tableE roomE ≡ outcome (told (searchAnswer 1 0 0 11 noGoal)) roomE
   -- the table of zeros gives the same plan, after 19 visits
   pub search-zeros :
-      findPlan blockE startE (limits 8 100 100) (0 ∷ 0 ∷ 0 ∷ 0 ∷ 0 ∷ 0 ∷ 0 ∷ 0 ∷ []) roomE
+      findPlan blockE [] startE (limits 8 100 100) (0 ∷ 0 ∷ 0 ∷ 0 ∷ 0 ∷ 0 ∷ 0 ∷ 0 ∷ []) roomE
       ≡ outcome (told (searchAnswer 0 3 5 19 0)) (2 ∷ 0 ∷ 5 ∷ 9 ∷ 9 ∷ 9 ∷ 9 ∷ 9 ∷ [])
   -- from the goal itself the plan has no steps, after one visit
   pub search-at-goal :
-      findPlan blockE (2 ∷ 1 ∷ 0 ∷ []) (limits 8 100 100) tableE roomE ≡ outcome (told (searchAnswer 0 0 0 1 0)) roomE
+      findPlan blockE [] (2 ∷ 1 ∷ 0 ∷ []) (limits 8 100 100) tableE roomE
+      ≡ outcome (told (searchAnswer 0 0 0 1 0)) roomE
   -- what `par` prints for these queries: found, goal 0, with 3 steps, cost 5, 10 visits and plan 2, 0, 5; spent after 9
   -- visits; no plan after 6, and after 11; found, goal 0, with no steps after 1
   pub par-prints :

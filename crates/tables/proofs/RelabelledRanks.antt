@@ -1,6 +1,6 @@
 -- The rank of a relabelled state, label by label: the number of the first i labels (`partRank`), one label more
--- (`part-more`), and that it stays small (`part-small`). The code of an estimate rests on these, and the search's
--- look-ups on `whole-below`.
+-- (`part-more`), and that it stays small (`part-small`, `whole-below`).
+-- The code of an estimate rests on these.
 use mathlib.Core.Path.{_≡_, ap, _∙_}
 use mathlib.Core.Bool.{true}
 use mathlib.Core.List.{List}

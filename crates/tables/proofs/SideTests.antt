@@ -58,12 +58,12 @@ module _ (a code weights : List ℕ) (ready : Ready a code weights) where
 
     pub rule-first : Additive (positionCount code) (labels a) (firstRank code weights (leftPlace r))
     rule-first =
-        additive-first (ready .compiled) some (leftPlace r) (leftOf a r) (leftOf a r) (ready .compiled .rule r l .left)
+        additive-first (ready .compiled) (ready .weighted) some (leftPlace r) (leftOf a r) (leftOf a r) (ready .compiled .rule r l .left)
         left-terms
 
     pub rule-second : Additive (positionCount code) (labels a) (secondRank code weights (leftPlace r) (rightPlace r))
     rule-second =
-        additive-second (ready .compiled) some (leftPlace r) (leftOf a r) (leftOf a r) (ready .compiled .rule r l .left)
+        additive-second (ready .compiled) (ready .weighted) some (leftPlace r) (leftOf a r) (leftOf a r) (ready .compiled .rule r l .left)
         left-terms (rightPlace r) (leftOf a r) (rightOf a r) (ready .compiled .rule r l .right) right-terms
 
   module _ (g : ℕ) (l : g < goals a) where
@@ -73,12 +73,12 @@ module _ (a code weights : List ℕ) (ready : Ready a code weights) where
 
     pub goal-first : Additive (positionCount code) (labels a) (firstRank code weights (goalPlace g))
     goal-first =
-        additive-first (ready .compiled) some (goalPlace g) (goalOf a g) (goalOf a g) (ready .compiled .goal g l)
+        additive-first (ready .compiled) (ready .weighted) some (goalPlace g) (goalOf a g) (goalOf a g) (ready .compiled .goal g l)
         goal-terms
 
     pub goal-second : Additive (positionCount code) (labels a) (secondRank code weights (goalPlace g) (goalPlace g))
     goal-second =
-        additive-second (ready .compiled) some (goalPlace g) (goalOf a g) (goalOf a g) (ready .compiled .goal g l)
+        additive-second (ready .compiled) (ready .weighted) some (goalPlace g) (goalOf a g) (goalOf a g) (ready .compiled .goal g l)
         goal-terms (goalPlace g) (goalOf a g) (goalOf a g) (ready .compiled .goal g l) goal-terms
 
   -- the word of a rank
@@ -99,7 +99,7 @@ module _ (a code weights : List ℕ) (ready : Ready a code weights) where
         let h = headed a code weights ready in
         let e = unpack-word-of h u in
         let ok = unranked a code weights ready u in
-        rank-word (ready .compiled) (wordOf a u) (ap (stateOk a) e ∙ ok)
+        rank-word (ready .weighted) (wordOf a u) (ap (stateOk a) e ∙ ok)
         ∙ ap (λ (s : List ℕ). rank a (relabelState a s)) e
         ∙ ap (rank a) (ready .relabelled .same (unrank a u) ok) ∙ rank-unrank a h u i
 

@@ -70,7 +70,7 @@ module _ (a code weights : List ℕ) (ready : Ready a code weights) where
           → rankWord weights (positions a) (stepWord code r (wordOf a u)) ≡ stepRank a u r
       word-leads h =
           let s = step a r (unrank a u) in
-          rank-word (ready .compiled) (stepWord code r (wordOf a u)) (ap (stateOk a) made ∙ made-state)
+          rank-word (ready .weighted) (stepWord code r (wordOf a u)) (ap (stateOk a) made ∙ made-state)
           ∙ ap (λ (t : List ℕ). rank a (relabelState a t)) made ∙ ap (rank a) (ready .relabelled .same s made-state)
           ∙ sym (step-applied h)
 

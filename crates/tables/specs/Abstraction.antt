@@ -11,7 +11,7 @@ use Rattle.blocks.specs.States.{stateOk, abstractOk}
 use Rattle.psvn.specs.Rules.{applies, step, meets}
 use Rattle.psvn.specs.Relabelling.{relabelState}
 use Rattle.psvn.specs.Ranks.{rank, unrank}
-use Rattle.words.specs.Compiled.{Compiled}
+use Rattle.words.specs.Compiled.{Weighted, Compiled}
 use Rattle.distances.specs.Graphs.{Graph}
 
 -- the rank of the state that rule r takes the state of rank u to; no rank where it does not apply
@@ -37,4 +37,5 @@ pub record Relabelled (a : List ℕ) : Type 0 where
 -- and the arrays are compiled from it
 pub record Ready (a code weights : List ℕ) : Type 0 where
   pub relabelled : Relabelled a
-  pub compiled : Compiled a code weights
+  pub compiled : Compiled a code
+  pub weighted : Weighted a weights

@@ -15,6 +15,7 @@ use super::edges::best;
 use super::edges::wide_entry;
 use blocks::layout;
 use compiling::compile;
+use compiling::place_weights;
 use edge_ranks::LISTS;
 use psvn::relabelling::relabel_block;
 use words::code::CODE;
@@ -79,7 +80,8 @@ fn passes_relabelled(block: &[u8], table: &[u32]) -> bool
     let mut code = [0u64; CODE];
     let mut weights = [0u16; WEIGHTS];
     let mut lists = [0u16; LISTS];
-    compile(block, &mut code, &mut weights);
+    compile(block, &mut code);
+    place_weights(block, &mut weights);
     if passes_by_sides(block, &code, &weights, table, &mut lists) {
         return true;
     }

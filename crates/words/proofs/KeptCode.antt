@@ -57,8 +57,7 @@ module _ {old new : List ℕ} (o : Outside setsPlace countsPlace old new) where
       }
 
 pub compiled-kept :
-    {b old new weights : List ℕ} → Compiled b old weights → Outside setsPlace countsPlace old new
-    → Compiled b new weights
+    {b old new : List ℕ} → Compiled b old → Outside setsPlace countsPlace old new → Compiled b new
 compiled-kept {b} {old} {new} c o =
     let sizes = c .valid .sized .headed .sizes in
     record {
@@ -71,5 +70,4 @@ compiled-kept {b} {old} {new} c o =
           };
       rule = λ r l. rule-kept o (omega arith) (c .rule r l);
       goal = λ g l. sided-kept o (goalPlace g) (omega arith) (c .goal g l);
-      weighted = c .weighted;
     }

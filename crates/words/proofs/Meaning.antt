@@ -1,6 +1,7 @@
 -- What compiled arrays mean: a rule applies to a word, and what it makes of it, as the language says of the word's
--- state (`applies-word`, `step-word`, `step-small`, `cost-word`), goals likewise (`meets-word`, `met-goal-word`), and the
--- rank of the relabelled state (`rank-word`). The words of states and of ranks hold those states (`state-word`, `unpack-word-of`).
+-- state (`applies-word`, `step-word`, `step-small`, `cost-word`), goals likewise (`meets-word`, `met-goal-word`), and
+-- the rank of the relabelled state (`rank-word`). The words of states and of ranks hold those states (`state-word`,
+-- `unpack-word-of`).
 -- The tables and the search rest on these, and on `unpack-injective`.
 use mathlib.Core.Path.{_≡_, refl, sym, ap, ap₂, _∙_}
 use mathlib.Core.Logic.{_⊎_, inl, inr, ⊎-elim}
@@ -30,7 +31,7 @@ use Rattle.words.specs.Packing.{digit, digitPair, pack, unpack}
 use Rattle.words.specs.Sides.{maskAt, valueAt, goalPlace, rewrittenWord, matchesWord, appliesWord, stepWord}
 use Rattle.words.specs.Sides.{costWord, meetsWord, metGoalWord}
 use Rattle.words.specs.Ranking.{rankPairs, rankWord, wordOf, weightOf}
-use Rattle.words.specs.Compiled.{Sided, Compiled}
+use Rattle.words.specs.Compiled.{Sided, Weighted, Compiled}
 use Rattle.words.proofs.WordDigits.{Small, digit-lt, pack-below, unpack-pack, unpack-injective, unpack-length}
 use Rattle.words.proofs.WordDigits.{unpack-at}
 use Rattle.words.proofs.WordRanks.{labelsRank, labels-rank}
@@ -60,7 +61,7 @@ matches-word n side code x s w l = go (matches n side (unpack n w)) refl
         true-false (itself-matches n side (unpack n w) (sym (s .makes w l) ∙ ap (unpack n) same)) e)
         ∙ sym e
 
-module _ {b code weights : List ℕ} (c : Compiled b code weights) where
+module _ {b code : List ℕ} (c : Compiled b code) where
   pub applies-word :
       (r w : ℕ) → r < rules b → w < 16 ^ positions b → appliesWord code r w ≡ applies b r (unpack (positions b) w)
   unfolding applies
@@ -93,6 +94,7 @@ module _ {b code weights : List ℕ} (c : Compiled b code weights) where
       (λ g. matches (positions b) (goalOf b g) (unpack (positions b) w)) (goals b) (λ g lg.
       matches-word (positions b) (goalOf b g) code (goalPlace g) (c .goal g lg) w l)
 
+module _ {b weights : List ℕ} (t : Weighted b weights) where
   module _ (w : ℕ) (ok : stateOk b (unpack (positions b) w) ≡ true) where
     digit-low : (j : ℕ) → j < positions b → digit w j < labelCount b j
     digit-low j l =
@@ -111,7 +113,7 @@ module _ {b code weights : List ℕ} (c : Compiled b code weights) where
         let first = weight-at (2 * k) (omega arith) in
         let second = weight-at (suc (2 * k)) (omega arith) in
         let pair =
-        c .weighted .pair k (digit w (2 * k)) (digit w (suc (2 * k))) (omega arith) (digit-low (2 * k) (omega arith))
+        t .pair k (digit w (2 * k)) (digit w (suc (2 * k))) (omega arith) (digit-low (2 * k) (omega arith))
         (digit-low (suc (2 * k)) (omega arith)) in
         ap₂ _+_ (pairs-sum k (omega arith)) (pair ∙ ap₂ _+_ first second) ∙ sym (add-assoc (sum (2 * k)) _ _)
         ∙ ap sum two
@@ -128,7 +130,7 @@ module _ {b code weights : List ℕ} (c : Compiled b code weights) where
         let half : (positions b + 1) / 2 ≡ suc k = omega arith in
         ap (λ (j : ℕ). rankPairs weights j w) half
         ∙ ap₂ _+_ (pairs-sum k (omega arith))
-        (c .weighted .final k (digit w (2 * k)) (digit w (suc (2 * k))) e (digit-low (2 * k) (omega arith))
+        (t .final k (digit w (2 * k)) (digit w (suc (2 * k))) e (digit-low (2 * k) (omega arith))
         (digit-lt w (suc (2 * k)))
         ∙ weight-at (2 * k) (omega arith))
         ∙ ap (labelsRank b (unpack (positions b) w)) e

@@ -1,7 +1,6 @@
 -- Ranks by words: one digit more of the word of a rank (`word-more`); place values, from the last position on
--- (`place-last`, `place-more`), stay within the number of states (`place-below`); a state's weights add up to
--- the rank of its relabelled state (`labels-rank`), and weights of pairs mean the same at the front of a
--- longer array (`weighted-front`). The word of a rank, the weights, and what rules add to ranks rest on these.
+-- (`place-last`, `place-more`), stay within the number of states (`place-below`); a state's weights add up to the rank
+-- of its relabelled state (`labels-rank`). The word of a rank, the rank of a word, and the weights rest on these.
 use mathlib.Core.Path.{_≡_, sym, ap, ap₂, _∙_}
 use mathlib.Core.List.{List}
 use Prim.Native.Nat.{ℕ, zero, suc, _+_, _-_, _*_, _/_, _%_, _^_, _≤_, _<_}
@@ -12,14 +11,11 @@ use lib.ListN.{getD}
 use Rattle.basics.specs.Digits.{valueTo, digits, span}
 use Rattle.basics.proofs.Digits.{length-digits}
 use Rattle.blocks.specs.Layout.{positions, abstractCount}
-use Rattle.blocks.specs.Validity.{Headed}
-use Rattle.blocks.proofs.StateLaws.{label-count-low}
 use Rattle.psvn.specs.Relabelling.{relabelState}
 use Rattle.psvn.specs.Ranks.{rank}
 use Rattle.psvn.proofs.Relabelled.{relabelled-label}
 use Rattle.words.specs.Packing.{pack}
 use Rattle.words.specs.Ranking.{placeValue, weightOf}
-use Rattle.words.specs.Compiled.{Weighted}
 use Rattle.words.proofs.WordDigits.{pack-last}
 
 -- the digits from i on stand in the word, and those of the rest are still to come: one digit more
@@ -95,17 +91,3 @@ module _ (b s : List ℕ) where
       let n = positions b in
       let value = valueTo (abstractCount b) (relabelState b s) n in
       sum-placed n (omega arith) ∙ ap (λ (y : ℕ). value * y) (place-last (abstractCount b) n) ∙ mul-one value
-
--- the weights of pairs at the front of a longer array
-pub weighted-front :
-    {b pairs weights : List ℕ} → Headed b → Weighted b pairs → ((k : ℕ) → k < 2048 → getD weights k 0 ≡ getD pairs k 0)
-    → Weighted b weights
-weighted-front {b} h w same =
-    let n = h .sizes .n-high in
-    record {
-      pair = λ j x y l lx ly.
-          same (256 * j + (y * 16 + x)) (omega (arith, label-count-low b h (2 * j), label-count-low b h (suc (2 * j))))
-          ∙ w .pair j x y l lx ly;
-      final = λ j x y e lx ly.
-          same (256 * j + (y * 16 + x)) (omega (arith, label-count-low b h (2 * j))) ∙ w .final j x y e lx ly;
-    }

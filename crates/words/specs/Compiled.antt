@@ -1,6 +1,6 @@
--- What the arrays say of the block that they are compiled from (`Compiled`):
--- each side makes of every word what the language's side makes of its state. The
--- parts of compiling leave these; `Meaning` and the layers above rest on them.
+-- What the arrays say of the block that they are compiled from: each side makes of every word what the language's side
+-- makes of its state (`Compiled`), and pairs of labels have their weights (`Weighted`). The parts of compiling leave
+-- these; `Meaning` and the layers above rest on them.
 use mathlib.Core.Path.{_≡_}
 use mathlib.Core.List.{List}
 use Prim.Native.Nat.{ℕ, suc, _+_, _*_, _^_, _<_}
@@ -45,9 +45,8 @@ pub record Counted (b code : List ℕ) : Type 0 where
   pub rules-told : ruleCount code ≡ rules b
   pub goals-told : goalCount code ≡ goals b
 
-pub record Compiled (b code weights : List ℕ) : Type 0 where
+pub record Compiled (b code : List ℕ) : Type 0 where
   pub valid : Valid b
   pub counted : Counted b code
   pub rule : (r : ℕ) → r < rules b → RuleAt b code r
   pub goal : (g : ℕ) → g < goals b → Sided (positions b) (goalOf b g) (goalOf b g) code (goalPlace g)
-  pub weighted : Weighted b weights

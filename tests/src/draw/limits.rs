@@ -8,7 +8,7 @@ use mikjuqan::{Limits, PLAN_LENGTH};
 const ANY: u32 = u32::MAX;
 
 /// Limits for a search, which need not be one that is accepted.
-pub fn draw_limits(random: &mut Random, block: &[u8], start: &[u8], table: &[u32]) -> Limits {
+pub fn draw_limits(random: &mut Random, block: &[u8], maps: &[u8], start: &[u8], table: &[u32]) -> Limits {
     if random.one_in(16) {
         let steps = random.pick(&[65, 65, 66, 128, 255, 256, (1 << 32) + 3, usize::MAX]);
         return Limits { steps, cost: ANY, visits: 100 };
@@ -17,7 +17,7 @@ pub fn draw_limits(random: &mut Random, block: &[u8], start: &[u8], table: &[u32
     // Most searches are stopped early, so that many can be tried.
     let visits = if random.one_in(64) { 10_000 } else { random.pick(&[40, 200, 1000]) };
     let limits = Limits { steps, cost: ANY, visits };
-    match find_plan(block, start, limits, table, &mut [0; PLAN_LENGTH]) {
+    match find_plan(block, maps, start, limits, table, &mut [0; PLAN_LENGTH]) {
         Ok(told) => draw_next_to(random, limits, told, table),
         Err(_) => limits,
     }

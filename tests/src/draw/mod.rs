@@ -4,6 +4,7 @@ pub mod arguments;
 pub mod damage;
 pub mod draft;
 pub mod limits;
+pub mod maps;
 pub mod session;
 pub mod sizes;
 pub mod tables;

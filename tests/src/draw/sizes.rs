@@ -1,5 +1,6 @@
 //! The five numbers of a head.
 
+use crate::model::exercise::Exercise;
 use crate::random::Random;
 
 #[derive(Clone, Copy, Debug)]
@@ -12,6 +13,17 @@ pub struct Sizes {
 }
 
 impl Sizes {
+    /// The sizes of an exercise.
+    pub fn of(exercise: &Exercise) -> Sizes {
+        Sizes {
+            positions: exercise.positions,
+            labels: exercise.labels,
+            abstract_labels: exercise.abstract_labels,
+            rules: exercise.rules.len(),
+            goals: exercise.goals.len(),
+        }
+    }
+
     /// The number of abstract states, or nothing where it is over the limit.
     pub fn abstract_states(&self) -> Option<usize> {
         let number = (self.abstract_labels as u128).checked_pow(self.positions as u32)?;
@@ -55,10 +67,16 @@ pub fn draw_for_moves(random: &mut Random, most_entries: usize) -> Sizes {
 }
 
 fn set_abstract_labels(random: &mut Random, sizes: &mut Sizes, most_entries: usize) {
-    sizes.abstract_labels = random.between(1, sizes.labels);
-    while sizes.abstract_states().is_none_or(|number| number > most_entries) {
-        sizes.abstract_labels -= 1;
+    sizes.abstract_labels = draw_abstract_labels(random, sizes, most_entries);
+}
+
+/// A number of abstract labels with at most so many abstract states. The sizes need not be within the limits.
+pub fn draw_abstract_labels(random: &mut Random, sizes: &Sizes, most_entries: usize) -> usize {
+    let mut drawn = Sizes { abstract_labels: random.between(1, sizes.labels.max(1)), ..*sizes };
+    while drawn.abstract_states().is_none_or(|number| number > most_entries) {
+        drawn.abstract_labels -= 1;
     }
+    drawn.abstract_labels
 }
 
 /// Abstract labels and positions with K^n at 16,384 or as near below as K and n allow, and the smallest.

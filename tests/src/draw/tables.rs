@@ -1,14 +1,18 @@
-//! Tables: filled, zero, lowered, with large numbers, and altered so that they fail the test by just one entry.
+//! Tables: filled, zero, lowered, with large numbers, and altered so that they fail the test by just one entry. With
+//! further maps there is one behind the other.
 
+use super::maps::DrawnMaps;
 use super::Drawn;
+use crate::model::maps::Mapped;
 use crate::model::table::{Edge, Graph};
 use crate::random::Random;
 use mikjuqan::NO_PATH;
 
-/// A table for the exercise that was drawn; one in twelve is too short, and some have entries behind those that count.
-pub fn draw_table(random: &mut Random, drawn: &Drawn) -> Vec<u32> {
-    let mut table = match drawn.exercise() {
-        Some(exercise) => draw_entries(random, &Graph::new(&exercise)),
+/// Tables for the exercise and the maps that were drawn; one in twelve is too short, and some have entries behind those
+/// that count.
+pub fn draw_table(random: &mut Random, drawn: &Drawn, maps: &DrawnMaps) -> Vec<u32> {
+    let mut table = match maps.mapped(drawn) {
+        Some(mapped) => draw_tables(random, &mapped),
         None => vec![0; random.below(20)],
     };
     match random.below(24) {
@@ -24,24 +28,22 @@ pub fn draw_table(random: &mut Random, drawn: &Drawn) -> Vec<u32> {
     table
 }
 
+/// A table for each map, of which at most one fails the test.
+fn draw_tables(random: &mut Random, mapped: &Mapped) -> Vec<u32> {
+    let failing = random.below(mapped.exercises().len());
+    let mut tables = Vec::new();
+    for (number, exercise) in mapped.exercises().iter().enumerate() {
+        let graph = Graph::new(exercise);
+        let draw = if number == failing { draw_entries } else { draw_passing_entries };
+        tables.extend(draw(random, &graph));
+    }
+    tables
+}
+
 fn draw_entries(random: &mut Random, graph: &Graph) -> Vec<u32> {
     let mut table = match random.below(8) {
-        0..=2 => graph.least_costs(),
-        3 => vec![0; graph.goals.len()],
-        4 => {
-            let divisor = random.between(2, 4) as u32;
-            graph
-                .least_costs()
-                .into_iter()
-                .map(|entry| if entry == NO_PATH { entry } else { entry / divisor })
-                .collect()
-        }
-        5 => {
-            let large = random.pick(&[NO_PATH - 1, NO_PATH - 1, NO_PATH - 255, 1 << 31, 20_000]);
-            graph.least_costs().into_iter().map(|entry| entry.min(large)).collect()
-        }
-        6 => draw_passing(random, graph),
-        _ => (0..graph.goals.len()).map(|_| draw_entry(random)).collect(),
+        0 => (0..graph.goals.len()).map(|_| draw_entry(random)).collect(),
+        _ => draw_passing_entries(random, graph),
     };
     if random.one_in(3) {
         alter(random, graph, &mut table);
@@ -49,8 +51,26 @@ fn draw_entries(random: &mut Random, graph: &Graph) -> Vec<u32> {
     table
 }
 
+/// A table that passes the test: filled, zero, or otherwise below the filled one, or any.
+pub fn draw_passing_entries(random: &mut Random, graph: &Graph) -> Vec<u32> {
+    match random.below(7) {
+        0..=2 => graph.least_costs(),
+        3 => vec![0; graph.goals.len()],
+        4 => {
+            let divisor = random.between(2, 4) as u32;
+            let divide = |entry: u32| if entry == NO_PATH { entry } else { entry / divisor };
+            graph.least_costs().into_iter().map(divide).collect()
+        }
+        5 => {
+            let large = random.pick(&[NO_PATH - 1, NO_PATH - 1, NO_PATH - 255, 1 << 31, 20_000]);
+            graph.least_costs().into_iter().map(|entry| entry.min(large)).collect()
+        }
+        _ => draw_passing(random, graph),
+    }
+}
+
 /// Any entries, lowered along the rules until the table passes.
-pub fn draw_passing(random: &mut Random, graph: &Graph) -> Vec<u32> {
+fn draw_passing(random: &mut Random, graph: &Graph) -> Vec<u32> {
     let entry = |&goal: &bool| if goal { 0 } else { draw_entry(random) };
     let mut table: Vec<u32> = graph.goals.iter().map(entry).collect();
     graph.lower(&mut table);

@@ -4,7 +4,8 @@ use super::exercise::{Exercise, Pattern, Rule};
 use super::term::Term;
 use mikjuqan::Refusal;
 
-const MOST_ABSTRACT_STATES: u128 = 16_384;
+/// The most abstract states of an exercise, and of one under all its maps together.
+pub const MOST_ABSTRACT_STATES: u128 = 16_384;
 
 /// The five numbers of the head.
 #[derive(Clone, Copy, Debug)]

@@ -1,18 +1,18 @@
 //! The thirteen calls: what each refuses, in the order of the numbers, what it answers, and what it writes.
 //!
-//! They take the block first, then what the methods of the wrapper take. A refused call returns before anything is
-//! written.
+//! They take the block first, then the further maps where there are some, then what the methods of the wrapper take. A
+//! refused call returns before anything is written.
 
 use super::answers::{Replay, Search};
 use super::block::check;
 use super::exercise::{Exercise, Rule, State};
+use super::maps::Mapped;
 use super::matching::{apply, met_goal};
 use super::predecessors;
 use super::relabel::relabel;
 use super::replay::replay;
 use super::reversible::is_reversible_by_form;
 use super::search::find;
-use super::table::{estimate, fill, passes};
 use super::text::read;
 use mikjuqan::{Limits, Refusal};
 
@@ -89,44 +89,45 @@ pub fn replay_run(block: &[u8], start: &[u8], list: &[u8], out: &mut [u8]) -> Re
     Ok(answer)
 }
 
-pub fn fill_table(block: &[u8], table: &mut [u32]) -> Result<(), Refusal> {
-    let exercise = check(block)?;
-    check_table(&exercise, table)?;
-    write(&fill(&exercise), table);
+pub fn fill_table(block: &[u8], maps: &[u8], table: &mut [u32]) -> Result<(), Refusal> {
+    let mapped = Mapped::new(check(block)?, maps)?;
+    check_table(&mapped, table)?;
+    write(&mapped.fill(), table);
     Ok(())
 }
 
-pub fn test_table(block: &[u8], table: &[u32]) -> Result<bool, Refusal> {
-    let exercise = check(block)?;
-    check_table(&exercise, table)?;
-    Ok(passes(&exercise, table))
+pub fn test_table(block: &[u8], maps: &[u8], table: &[u32]) -> Result<bool, Refusal> {
+    let mapped = Mapped::new(check(block)?, maps)?;
+    check_table(&mapped, table)?;
+    Ok(mapped.passes(table))
 }
 
-pub fn look_up_estimate(block: &[u8], state: &[u8], table: &[u32]) -> Result<Option<u32>, Refusal> {
-    let exercise = check(block)?;
-    check_state(&exercise, state)?;
-    check_table(&exercise, table)?;
-    Ok(estimate(&exercise, table, state))
+pub fn look_up_estimate(block: &[u8], maps: &[u8], state: &[u8], table: &[u32]) -> Result<Option<u32>, Refusal> {
+    let mapped = Mapped::new(check(block)?, maps)?;
+    check_state(mapped.own(), state)?;
+    check_table(&mapped, table)?;
+    Ok(mapped.estimate(table, state))
 }
 
 pub fn find_plan(
     block: &[u8],
+    maps: &[u8],
     start: &[u8],
     limits: Limits,
     table: &[u32],
     plan: &mut [u8],
 ) -> Result<Search, Refusal> {
-    let exercise = check(block)?;
-    check_state(&exercise, start)?;
+    let mapped = Mapped::new(check(block)?, maps)?;
+    check_state(mapped.own(), start)?;
     if limits.steps > 64 {
         return Err(Refusal::Limit);
     }
     check_room(plan.len(), limits.steps)?;
-    check_table(&exercise, table)?;
-    if !passes(&exercise, table) {
+    check_table(&mapped, table)?;
+    if !mapped.passes(table) {
         return Err(Refusal::TableFails);
     }
-    let (answer, rules) = find(&exercise, start, limits, table);
+    let (answer, rules) = find(mapped.own(), start, limits, &|state| mapped.estimate(table, state));
     write(&rules, plan);
     Ok(answer)
 }
@@ -143,8 +144,8 @@ fn check_room(room: usize, needed: usize) -> Result<(), Refusal> {
     (room >= needed).then_some(()).ok_or(Refusal::Buffer)
 }
 
-fn check_table(exercise: &Exercise, table: &[u32]) -> Result<(), Refusal> {
-    (table.len() >= exercise.abstract_states()).then_some(()).ok_or(Refusal::TableShort)
+fn check_table(mapped: &Mapped, table: &[u32]) -> Result<(), Refusal> {
+    (table.len() >= mapped.entries()).then_some(()).ok_or(Refusal::TableShort)
 }
 
 /// Writes at the front of a buffer, and tells how much.

@@ -9,6 +9,7 @@ pub mod block;
 pub mod calls;
 pub mod exercise;
 pub mod exhaustive;
+pub mod maps;
 pub mod matching;
 pub mod predecessors;
 pub mod rank;

@@ -3,13 +3,15 @@
 use super::answers::Search;
 use super::exercise::{Exercise, State};
 use super::matching::{apply, meets_goal, met_goal};
-use super::table::estimate;
 use mikjuqan::Limits;
+
+/// The estimate of a state, or nothing where it is the mark.
+pub type Estimate<'a> = dyn Fn(&[u8]) -> Option<u32> + 'a;
 
 /// What a search works on; it ends with the visits used.
 struct Rounds<'a> {
     exercise: &'a Exercise,
-    table: &'a [u32],
+    estimate: &'a Estimate<'a>,
     limits: Limits,
     visits: u32,
 }
@@ -41,10 +43,10 @@ enum Stop {
     Spent,
 }
 
-/// What a search answers, and the plan where there is one. The table passes the test.
-pub fn find(exercise: &Exercise, start: &[u8], limits: Limits, table: &[u32]) -> (Search, Vec<u8>) {
-    let mut rounds = Rounds { exercise, table, limits, visits: 0 };
-    let mut threshold = estimate(exercise, table, start).map(u64::from);
+/// What a search answers, and the plan where there is one. The estimates are those of tables that pass the test.
+pub fn find(exercise: &Exercise, start: &[u8], limits: Limits, estimate: &Estimate) -> (Search, Vec<u8>) {
+    let mut rounds = Rounds { exercise, estimate, limits, visits: 0 };
+    let mut threshold = estimate(start).map(u64::from);
     while let Some(now) = threshold.filter(|&threshold| threshold <= u64::from(limits.cost)) {
         let mut list = List { path: vec![start.to_vec()], ..List::default() };
         let mut round = Round { threshold: now, overshoot: None };
@@ -88,7 +90,7 @@ impl Rounds<'_> {
         let Some(next) = apply(rule, state).filter(|next| !list.path.contains(next)) else {
             return Ok(());
         };
-        let Some(estimate) = estimate(self.exercise, self.table, &next) else {
+        let Some(estimate) = (self.estimate)(&next) else {
             return Ok(());
         };
         let cost = list.cost + u64::from(rule.cost);

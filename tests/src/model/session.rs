@@ -4,7 +4,7 @@ use super::answers::Search;
 use super::block::check;
 use super::exercise::Exercise;
 use super::search::find;
-use super::table::fill;
+use super::table::{estimate, fill};
 use super::text::{decode_line, encode_line, read, read_head, split_lines};
 use mikjuqan::{Limits, Refusal};
 
@@ -56,7 +56,7 @@ fn answer(exercise: &Exercise, table: &[u32], line: &[u8]) -> Result<(Search, Ve
     }
     let number = |from: usize| numbers[from..from + 4].iter().fold(0, |number, &byte| 256 * number + u32::from(byte));
     let limits = Limits { steps, cost: number(1), visits: number(5) };
-    Ok(find(exercise, start, limits, table))
+    Ok(find(exercise, start, limits, &|state| estimate(exercise, table, state)))
 }
 
 /// The line of an answer. The goal stands in it only where there is a plan.

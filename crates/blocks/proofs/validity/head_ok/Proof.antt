@@ -1,28 +1,29 @@
 -- `blocks::validity::head_ok` meets its contract.
 -- At each return the tests that led there say what `headOk` is.
-use mathlib.Core.Path.{sym, ap₂, _∙_}
-use Prim.Native.Nat.{ℕ, _^_}
+use mathlib.Core.Path.{sym, ap, ap₂, _∙_}
+use Prim.Native.Nat.{ℕ, _^_, min}
 use native.Mathlib.Omega.{arith}
 use lib.Dec.{leb}
 use lib.ListN.{length}
 use denote.Ref.{now}
 use borrow.Author.Tests.{lt-leb, le-leb}
 use borrow.Author.Needs.{needs}
-use Rattle.blocks.specs.Layout.{abstractStates}
+use Rattle.basics.proofs.Comparing.{capped-leb}
+use Rattle.blocks.specs.Layout.{abstracts, positions, abstractStates}
 use Rattle.blocks.specs.Validity.{headOk}
 use Rattle.blocks.proofs.Accepted.{sizes}
 use Rattle.blocks.proofs.validity.head_ok.Statement.{statement}
 use Rattle.blocks.proofs.validity.head_ok.Tie as tie
 
 -- the places that the facts below go back to
-abbrev sizes-ok-from-power-ok : tie.After-power-ok → tie.After-sizes-ok
-sizes-ok-from-power-ok c = c .before .before .before .before
+abbrev sizes-ok-from-power-within : tie.After-power-within → tie.After-sizes-ok
+sizes-ok-from-power-within c = c .before .before .before .before
 
 abbrev start-from-else2 : tie.Else2 → tie.Start
 start-from-else2 c = c .before .before .before .before
 
-abbrev else1-from-power-ok : tie.After-power-ok → tie.Else1
-else1-from-power-ok c = sizes-ok-from-power-ok c .before
+abbrev else1-from-power-within : tie.After-power-within → tie.Else1
+else1-from-power-within c = sizes-ok-from-power-within c .before
 
 abbrev start-from-positions : tie.After-positions → tie.Start
 start-from-positions c = c .before .before .before .before .before .before
@@ -40,8 +41,8 @@ abstracts-requires c κs = search needs
 positions-requires : tie.Need-positions-requires
 positions-requires c κs = search needs
 
-power-ok-requires : tie.Need-power-ok-requires
-power-ok-requires c κs =
+power-within-requires : tie.Need-power-within-requires
+power-within-requires c κs =
     let s =
     sizes (now (start-from-positions c .args .block))
     (sym (c .before .before .before .sizes-ok .ensures) ∙ c .before .before .if2 .taken) in
@@ -51,11 +52,14 @@ returns-2 : tie.Need-returns-2
 unfolding headOk abstractStates
 returns-2 c =
     let b = now (start-from-positions (c .before) .args .block) in
-    c .power-ok .ensures
-    ∙ ap₂ (λ (k n : ℕ). leb (k ^ n) 16384) (c .before .before .abstracts .ensures .0) (c .before .positions .ensures .0)
+    ap (λ (x : ℕ). leb x 16384) (c .power-within .ensures)
+    ∙ ap₂ (λ (k n : ℕ). leb (min (k ^ n) 16385) 16384)
+    (c .before .before .abstracts .ensures .0)
+    (c .before .positions .ensures .0)
+    ∙ capped-leb (abstracts b ^ positions b) 16384
     ∙ sym (rw (
-      le-leb 5 (length b) (else1-from-power-ok c .if1 .left),
-      sym (sizes-ok-from-power-ok c .sizes-ok .ensures)
+      le-leb 5 (length b) (else1-from-power-within c .if1 .left),
+      sym (sizes-ok-from-power-within c .sizes-ok .ensures)
           ∙ c .before .before .before .if2 .taken,
     ))
 
@@ -73,6 +77,6 @@ head-ok-spec =
     sizes-ok-requires
     abstracts-requires
     positions-requires
-    power-ok-requires
+    power-within-requires
     returns-2
     returns-3)

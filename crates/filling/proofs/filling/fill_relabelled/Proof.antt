@@ -11,11 +11,14 @@ use Rattle.filling.proofs.filling.fill_relabelled.Statement.{statement}
 use Rattle.filling.proofs.filling.fill_relabelled.Tie as tie
 
 -- the places that the facts below go back to
-abbrev start-from-compile : tie.After-compile → tie.Start
-start-from-compile c = c .before .before .before .before .before
+abbrev compile-from-weights : tie.After-place-weights → tie.After-compile
+compile-from-weights c = c .before .before
 
-abbrev compile-from-clear : tie.After-clear → tie.After-compile
-compile-from-clear c = c .before .before .before .before .before
+abbrev start-from-weights : tie.After-place-weights → tie.Start
+start-from-weights c = compile-from-weights c .before .before .before .before
+
+abbrev weights-from-clear : tie.After-clear → tie.After-place-weights
+weights-from-clear c = c .before .before .before .before .before
 
 abbrev spread-from-links2 : tie.After-links2 → tie.After-spread
 spread-from-links2 c = c .before .before .before .before .before .before .before .before
@@ -23,17 +26,26 @@ spread-from-links2 c = c .before .before .before .before .before .before .before
 abbrev clear-from-spread : tie.After-spread → tie.After-clear
 clear-from-spread c = c .before .before .before .before .before .before .before .before
 
-abbrev compile-from-spread : tie.After-spread → tie.After-compile
-compile-from-spread c = clear-from-spread c .before .before .before .before .before
+abbrev weights-from-spread : tie.After-spread → tie.After-place-weights
+weights-from-spread c = weights-from-clear (clear-from-spread c)
 
 -- the arrays, once compiled
 ready :
-    (c : tie.After-compile)
-    → Ready (now (start-from-compile c .args .block)) (c .compile .last .1 .0) (c .compile .last .1 .1 .0)
-ready c = record { relabelled = start-from-compile c .pre .0; compiled = c .compile .ensures .0 }
+    (c : tie.After-place-weights)
+    → Ready (now (start-from-weights c .args .block)) (compile-from-weights c .compile .last .1 .0)
+    (c .place-weights .last .1 .0)
+ready c =
+    record {
+      relabelled = start-from-weights c .pre .0;
+      compiled = compile-from-weights c .compile .ensures .0;
+      weighted = c .place-weights .ensures;
+    }
 
 compile-requires : tie.Need-compile-requires
 compile-requires c κs = search needs
+
+place-weights-requires : tie.Need-place-weights-requires
+place-weights-requires c κs = search needs
 
 clear-requires : tie.Need-clear-requires
 clear-requires c κs = search needs
@@ -46,7 +58,7 @@ settle-requires c κs =
     let d = spread-from-links2 c in
     let e = clear-from-spread d in
     let s = d .spread .ensures in
-    ((ready (compile-from-clear e), e .clear .ensures .0, s .0), s .1)
+    ((ready (weights-from-clear e), e .clear .ensures .0, s .0), s .1)
 
 same-length : tie.Need-same-length
 same-length c = search needs
@@ -55,10 +67,10 @@ returns : tie.Need-returns
 returns c =
     let d = c .before .before in
     let k = spread-from-links2 (d .before) in
-    let e = compile-from-spread k in
-    let a = now (start-from-compile e .args .block) in
-    let code = e .compile .last .1 .0 in
-    let weights = e .compile .last .1 .1 .0 in (
+    let e = weights-from-spread k in
+    let a = now (start-from-weights e .args .block) in
+    let code = compile-from-weights e .compile .last .1 .0 in
+    let weights = e .place-weights .last .1 .0 in (
       d .settle .ensures .0,
       λ _.
           least-costs-only (graphOf a) (cheap a code weights (ready e)) (few a code weights (ready e))
@@ -77,6 +89,7 @@ fill-relabelled-spec =
     tie.close
     (tie.spec
     compile-requires
+    place-weights-requires
     clear-requires
     spread-requires
     settle-requires

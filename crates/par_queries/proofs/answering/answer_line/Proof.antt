@@ -2,7 +2,7 @@
 -- Refused with 1 or 2 by the line itself, or answered by the record that answers its bytes.
 use mathlib.Core.Path.{_≡_, refl, sym, ap, _∙_, subst}
 use mathlib.Core.Bool.{true}
-use mathlib.Core.List.{List}
+use mathlib.Core.List.{List, []}
 use Prim.Native.Nat.{ℕ, _+_, _-_, _≤_, _<_}
 use native.Mathlib.Omega.{arith}
 use lib.ListN.{length, take, drop, replicate}
@@ -12,9 +12,9 @@ use borrow.Author.Needs.{needs}
 use borrow.Author.Tests.{not-true, not-false, eq-eqb, ne-eqb}
 use Rattle.basics.proofs.Lists.{sets-front, front-taken}
 use Rattle.blocks.specs.Layout.{abstractStates}
-use Rattle.tables.specs.Tables.{LowerBound, estimate}
 use Rattle.filling.specs.FilledTables.{filled}
-use Rattle.filling.proofs.LeastEntries.{cost-bytes, filled-length, filled-low}
+use Rattle.filling.proofs.LeastEntries.{cost-bytes, filled-length}
+use Rattle.search.specs.Exercises.{Passes, estimateOf}
 use Rattle.records.specs.Records.{queryLength, recordRoom, answerRecord, Written}
 use Rattle.records.proofs.RecordLaws.{written-fits, written-taken}
 use Rattle.frames.specs.Lines.{lineOk, lineBytes, lineOf}
@@ -24,7 +24,7 @@ use Rattle.frames.proofs.LineLaws.{line-part, line-inside, line-there}
 use Rattle.par_queries.specs.QueryLines.{answerLine, AnsweredAt}
 use Rattle.par_queries.specs.declared.answering.Answered.{Answered}
 use Rattle.par_queries.proofs.PrintedLines.{line-length, line-of}
-use Rattle.par_queries.proofs.QueryLineLaws.{line-decided, line-refused, line-accepted}
+use Rattle.par_queries.proofs.QueryLineLaws.{filled-passing, line-decided, line-refused, line-accepted}
 use Rattle.par_queries.proofs.answering.answer_line.Statement.{statement}
 use Rattle.par_queries.proofs.answering.answer_line.Tie as tie
 
@@ -215,7 +215,8 @@ answer-query-requires c κs =
     let entries : abstractStates (block s) ≤ length (now (s .args .table)) =
     omega (arith, ap length (s .pre .1), filled-length (block s) valid small) in (
       (valid, ap length (bytes d) ∙ long (else d), entries, search needs),
-      subst (λ (t : List ℕ). LowerBound (block s) (estimate (block s) t)) (sym (s .pre .1)) (filled-low (block s) valid small),
+      subst (λ (t : List ℕ). Passes (block s) (estimateOf (block s) [] t)) (sym (s .pre .1))
+          (filled-passing (block s) valid small),
     )
 
 -- the record that answers the query

@@ -1,17 +1,13 @@
 -- `rank_changes::changing::place_change` meets its contract.
 -- Both sides lie in the block, and every right variable stands on the left; the constant is folded into the row of the
 -- first part, which is one of the positions.
-use mathlib.Core.Path.{refl, sym}
+use mathlib.Core.Path.{refl}
 use Prim.Native.Nat.{_<_}
 use native.Mathlib.Omega.{arith}
 use denote.Ref.{now}
 use Rattle.blocks.proofs.Accepted.{right-bound}
 use Rattle.blocks.proofs.Offsets.{left-inside, right-inside}
-use Rattle.compiling.proofs.RulesPlaced.{named}
-use Rattle.rank_changes.specs.Rows.{Bound}
-use Rattle.rank_changes.proofs.RowSums.{balanced-as}
-use Rattle.rank_changes.proofs.RowFolds.{constant-folded, folded-as}
-use Rattle.rank_changes.proofs.PartsWritten.{parts-as}
+use Rattle.rank_changes.proofs.RowFolds.{constant-folded}
 use Rattle.rank_changes.proofs.RankAfter.{change-placed}
 use borrow.Author.Needs.{needs}
 use Rattle.rank_changes.proofs.changing.place_change.Statement.{statement}
@@ -67,8 +63,8 @@ add-terms-requires c κs =
     let right = c .before .right-at .ensures .0 in
     let l = left-inside b (h .0 .sized) (s .args .r) (h .1) in
     let k = right-inside b (h .0 .sized) (s .args .r) (h .1) in (
-      (omega arith, omega arith, omega (arith, h .0 .sized .headed .sizes .n-high), h .2 .low, refl),
-      named Bound b (sym n) (sym left) (sym right) (record { at = right-bound b (h .0) (s .args .r) (h .1) }),
+      (omega arith, omega arith, omega (arith, h .0 .sized .headed .sizes .n-high), refl),
+      rw (n, left, right) (record { at = right-bound b (h .0) (s .args .r) (h .1) }),
     )
 
 fold-terms-requires : tie.Need-fold-terms-requires
@@ -78,8 +74,7 @@ fold-terms-requires c κs =
     let n = positions-from-rows2 c .positions .ensures .0 in
     let left = left-at-from-rows2 c .left-at .ensures .0 in
     let l = left-inside (now (s .args .block)) (h .0 .sized) (s .args .r) (h .1) in
-    let made = c .before .add-terms .ensures in
-    (omega arith, omega (arith, h .0 .sized .headed .sizes .n-high), made .low, made .constant-low)
+    (omega arith, omega (arith, h .0 .sized .headed .sizes .n-high), c .before .add-terms .ensures .len)
 
 first-part-requires : tie.Need-first-part-requires
 first-part-requires c κs = search needs
@@ -89,9 +84,6 @@ add-constant-requires c κs = search needs
 
 place-parts-requires : tie.Need-place-parts-requires
 place-parts-requires c κs = search needs
-
-cast-changes : tie.Need-cast-changes
-cast-changes c = search needs
 
 -- the rule is one of 64
 few-rules : (c : tie.After-place-parts) → start-from-place-parts c .args .r < 64
@@ -118,12 +110,11 @@ returns c =
     let left = left-at-from-place-parts c .left-at .ensures .0 in
     let right = right-at-from-place-parts c .right-at .ensures .0 in
     let first = first-part-from-place-parts c .first-part in
-    let balanced = balanced-as b n left right (add-terms-from-place-parts c .add-terms .ensures) in
     let folded =
     constant-folded _ _ (first .result) (first .ensures) (fold-terms-from-place-parts c .fold-terms .ensures)
     (c .before .before .before .add-constant .ensures) in
-    change-placed b (h .0) (h .2) (h .1) balanced (folded-as b n left folded) (omega arith)
-    (parts-as n (c .place-parts .ensures)) (h .3)
+    change-placed b (h .0) (h .1) n left right (add-terms-from-place-parts c .add-terms .ensures) folded
+    (first .ensures) (c .place-parts .ensures) (h .2)
 
 pub place-change-spec : {M : Type 1} → statement M
 place-change-spec =
@@ -137,7 +128,6 @@ place-change-spec =
     first-part-requires
     add-constant-requires
     place-parts-requires
-    cast-changes
     mul-changes
     add-changes
     mul-changes-2

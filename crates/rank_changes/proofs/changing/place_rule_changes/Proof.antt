@@ -16,8 +16,8 @@ use Rattle.rank_changes.proofs.changing.place_rule_changes.Tie as tie
 abbrev Inv-loop : tie.InvT-loop
 Inv-loop block singles changes₀ count r₀ changes r =
     (count ≡ rules block) × (r ≤ count) × (length changes ≡ changesLength)
-    × ((k : ℕ) → k < r → ChangeAt block changes k)
-    × ((k : ℕ) → k < 2048 → getD changes k 0 ≡ getD changes₀ k 0)
+    × ((k : ℕ) → k < r → ChangeAt block singles changes k)
+    × ((k : ℕ) → k < 257 → getD changes k 0 ≡ getD changes₀ k 0)
 
 abbrev μ-loop : tie.MeasureT-loop
 μ-loop block singles changes₀ count r₀ changes r = count - r
@@ -30,12 +30,12 @@ rules-requires : tie.Need-rules-requires Inv-loop μ-loop
 rules-requires c κs = search needs
 
 loop-holds : tie.Need-loop-holds Inv-loop μ-loop
-loop-holds c = (search needs, search needs, c .before .before .pre .2, λ k l. absurd (omega arith), λ k l. refl)
+loop-holds c = (search needs, search needs, c .before .before .pre .1, λ k l. absurd (omega arith), λ k l. refl)
 
 place-change-requires : tie.Need-place-change-requires Inv-loop μ-loop
 place-change-requires c κs =
     let h = start-from-place-change-arg c .pre in
-    (h .0, omega arith, h .1, c .before .before .loop .inv .2)
+    (h .0, omega arith, c .before .before .loop .inv .2)
 
 add-r : tie.Need-add-r Inv-loop μ-loop
 add-r c = search needs

@@ -8,15 +8,14 @@ use lib.Seq.{getD-set-same, getD-set-other}
 use borrow.Author.Count.{below-more}
 use Rattle.basics.specs.Parts.{Outside}
 use Rattle.basics.proofs.Parts.{outside-none, outside-set}
-use Rattle.rank_changes.specs.Rows.{entry, Low}
-use Rattle.rank_changes.proofs.RowSums.{low-set}
+use Rattle.rank_changes.specs.Rows.{entry}
 use borrow.Author.Needs.{needs}
 use Rattle.rank_changes.proofs.folding.clear_row.Statement.{statement}
 use Rattle.rank_changes.proofs.folding.clear_row.Tie as tie
 
 abbrev Inv-loop : tie.InvT-loop
 Inv-loop rows₀ p x₀ rows x =
-    (x ≤ 16) × Outside (16 * p) (16 * p + 16) rows₀ rows × Low rows × ((k : ℕ) → k < x → entry rows p k ≡ 0)
+    (x ≤ 16) × Outside (16 * p) (16 * p + 16) rows₀ rows × ((k : ℕ) → k < x → entry rows p k ≡ 0)
 
 abbrev μ-loop : tie.MeasureT-loop
 μ-loop rows₀ p x₀ rows x = 16 - x
@@ -24,7 +23,7 @@ abbrev μ-loop : tie.MeasureT-loop
 loop-holds : tie.Need-loop-holds Inv-loop μ-loop
 loop-holds c =
     let a = c .args in
-    (search needs, outside-none (16 * a .p) (16 * a .p + 16) (now (a .rows)), c .pre .1, λ k l. absurd (omega arith))
+    (search needs, outside-none (16 * a .p) (16 * a .p + 16) (now (a .rows)), λ k l. absurd (omega arith))
 
 mul-rows : tie.Need-mul-rows Inv-loop μ-loop
 mul-rows c = search needs
@@ -51,15 +50,14 @@ loop-again c =
     let at = 16 * a .p + l .x in (
       search needs,
       outside-set at 0 (omega arith) (omega arith) (l .inv .1),
-      low-set (l .inv .2) at 0 (omega arith) (omega arith),
-      below-more _ _ (λ k m. getD-set-other (l .rows) at (16 * a .p + k) 0 0 (λ e. omega arith) ∙ l .inv .3 k m)
-          (getD-set-same (l .rows) at 0 0 (omega (arith, l .inv .2 .len))),
+      below-more _ _ (λ k m. getD-set-other (l .rows) at (16 * a .p + k) 0 0 (λ e. omega arith) ∙ l .inv .2 k m)
+          (getD-set-same (l .rows) at 0 0 (omega (arith, l .inv .1 .len))),
     )
 
 returns : tie.Need-returns Inv-loop μ-loop
 returns c =
     let inv = c .before .loop .inv in
-    record { zeros = λ x l. inv .3 x (omega arith); rows = inv .1; low = inv .2 }
+    record { zeros = λ x l. inv .2 x (omega arith); rows = inv .1 }
 
 pub clear-row-spec : {M : Type 1} → statement M
 clear-row-spec =

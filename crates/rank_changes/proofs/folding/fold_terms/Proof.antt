@@ -1,5 +1,6 @@
 -- `rank_changes::folding::fold_terms` meets its contract.
 -- The loop's invariant: some rows are folded, and the sum is the same.
+use mathlib.Core.Path.{_∙_}
 use Prim.Native.Nat.{_-_, _≤_}
 use Rattle.blocks.specs.Layout.{sideAt}
 use Rattle.rank_changes.specs.Folds.{Folded}
@@ -20,13 +21,12 @@ abbrev start-from-fold-term-arg : tie.After-fold-term-arg Inv-loop μ-loop → t
 start-from-fold-term-arg c = c .before .before .before .before
 
 loop-holds : tie.Need-loop-holds Inv-loop μ-loop
-loop-holds c = let h = c .before .pre in (search needs, folded-none _ _ (h .2) (h .3))
+loop-holds c = (search needs, folded-none _ _)
 
 fold-term-requires : tie.Need-fold-term-requires Inv-loop μ-loop
 fold-term-requires c κs =
     let h = start-from-fold-term-arg c .pre in
-    let inv = c .before .before .loop .inv in
-    (h .0, h .1, c .before .loop-test .taken, inv .1 .low, inv .1 .constant-low)
+    (h .0, h .1, c .before .loop-test .taken, c .before .before .loop .inv .1 .len ∙ h .2)
 
 add-i : tie.Need-add-i Inv-loop μ-loop
 add-i c = search needs

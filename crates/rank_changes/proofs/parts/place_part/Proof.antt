@@ -22,9 +22,6 @@ Inv-loop rows p changes₀ at x₀ changes x =
 abbrev μ-loop : tie.MeasureT-loop
 μ-loop rows p changes₀ at x₀ changes x = 16 - x
 
-cast-changes : tie.Need-cast-changes Inv-loop μ-loop
-cast-changes c = search needs
-
 mul-changes : tie.Need-mul-changes Inv-loop μ-loop
 mul-changes c = search needs
 
@@ -108,7 +105,6 @@ place-part-spec =
     (tie.spec
     Inv-loop
     μ-loop
-    cast-changes
     mul-changes
     mul-changes-2
     element-write-changes

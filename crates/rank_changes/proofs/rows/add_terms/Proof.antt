@@ -34,12 +34,12 @@ loop-holds c =
     let h = c .before .before .before .pre in
     let left = sideAt (now (a .bytes)) (a .left) in
     let right = sideAt (now (a .bytes)) (a .right) in
-    (search needs, balanced-none (a .n) left right (now (a .singles)) (h .0 .2) (h .0 .3) (c .begin-rows .ensures))
+    (search needs, balanced-none (a .n) left right (now (a .singles)) (h .0 .2) (c .begin-rows .ensures))
 
 add-term-requires : tie.Need-add-term-requires Inv-loop μ-loop
 add-term-requires c κs =
     let h = start-from-add-term-arg c .pre in
-    ((h .0 .0, h .0 .1, h .0 .2, c .before .loop-test .taken, h .0 .3), (h .1, c .before .before .loop .inv .1))
+    ((h .0 .0, h .0 .1, h .0 .2, c .before .loop-test .taken), (h .1, c .before .before .loop .inv .1))
 
 add-i : tie.Need-add-i Inv-loop μ-loop
 add-i c = search needs

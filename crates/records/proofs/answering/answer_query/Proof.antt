@@ -1,7 +1,7 @@
 -- `records::answering::answer_query` meets its contract.
 -- Refused with 8 or 10, or the bytes of the answer that the search gives with the table.
 use mathlib.Core.Path.{_≡_, sym, ap, ap₂, _∙_, subst}
-use mathlib.Core.List.{List}
+use mathlib.Core.List.{List, []}
 use Prim.Native.Nat.{ℕ, _≤_}
 use native.Mathlib.Omega.{arith}
 use lib.ListN.{length, take}
@@ -14,7 +14,8 @@ use Rattle.blocks.specs.States.{stateOk}
 use Rattle.queries.specs.Queries.{longestPlan, queryConditions}
 use Rattle.queries.specs.declared.Limits.{Limits}
 use Rattle.queries.proofs.QueryLaws.{QueryAccepted, query-accepted}
-use Rattle.search.specs.Exercises.{searchFrom, planGoal}
+use Rattle.maps.proofs.MapLaws.{none-entries, none-mapped}
+use Rattle.search.specs.Exercises.{estimateOf, searchFrom, planGoal}
 use Rattle.search.specs.Parts.{FoundWithin, answerOf, endingGoal}
 use Rattle.records.specs.Records.{startOf, limitsOf, recordConditions, searchAsked}
 use Rattle.records.specs.Records.{answerBytes, goalAsked, recordOf, answerRecord, Written}
@@ -131,22 +132,26 @@ module _ (c : tie.After-enum-told) where
   few = omega (arith, good .steps-few, ap (λ (l : Limits). l .steps) (limited checked))
 
 slice-aggregate-find-plan : tie.Need-slice-aggregate-find-plan
-slice-aggregate-find-plan c = sym (begins-length (counted (checked (c .before))))
+slice-aggregate-find-plan c = search needs
 
 slice-aggregate-find-plan-2 : tie.Need-slice-aggregate-find-plan-2
-slice-aggregate-find-plan-2 c = search needs
+slice-aggregate-find-plan-2 c = sym (begins-length (counted (checked (c .before .before))))
+
+slice-aggregate-find-plan-3 : tie.Need-slice-aggregate-find-plan-3
+slice-aggregate-find-plan-3 c = search needs
 
 find-plan-requires : tie.Need-find-plan-requires
 find-plan-requires c κs =
-    let d = c .before .before in
+    let d = c .before .before .before in
     let s = start (checked d) in
     let state = ap (stateOk (block s)) (begins (counted (checked d))) ∙ good d .state in
-    ((s .pre .0 .0, state, few d, few d, s .pre .0 .2), s .pre .1)
+    let entries = none-entries (block s) in
+    ((none-mapped (block s) (s .pre .0 .0), state, few d, few d, omega (arith, entries, s .pre .0 .2)), s .pre .1)
 
 -- the search that the code makes is the one that the query asks for
 module _ (c : tie.After-find-plan) where
   abbrev settled : tie.After-enum-told
-  settled = c .before .before .before
+  settled = c .before .before .before .before
 
   abbrev asked : tie.Start
   asked = start (checked settled)
@@ -157,13 +162,13 @@ module _ (c : tie.After-find-plan) where
       (c .find-plan .result) (c .find-plan .ensures .within)
 
   searched :
-      answerOf (c .find-plan .last .1 .1 .1 .1 .0) (c .find-plan .result)
+      answerOf (c .find-plan .last .1 .1 .1 .1 .1 .0) (c .find-plan .result)
       ≡ searchAsked (block asked) (query asked) (table asked)
   unfolding searchAsked
   searched =
       let d = checked settled in
       c .find-plan .ensures .told
-      ∙ ap₂ (λ (s : List ℕ) (l : Limits). searchFrom (block asked) s l (table asked)) (begins (counted d)) (limited d)
+      ∙ ap₂ (searchFrom (block asked) (estimateOf (block asked) [] (table asked))) (begins (counted d)) (limited d)
 
   -- and its goal is the one that is told
   goal-told :
@@ -173,8 +178,8 @@ module _ (c : tie.After-find-plan) where
   goal-told =
       let d = checked settled in
       c .find-plan .ensures .goal
-      ∙ ap₂ (λ (s : List ℕ) (l : Limits). planGoal (block asked) s (searchFrom (block asked) s l (table asked)))
-      (begins (counted d)) (limited d)
+      ∙ ap₂ (λ (s : List ℕ) (l : Limits). planGoal (block asked) s
+      (searchFrom (block asked) (estimateOf (block asked) [] (table asked)) s l)) (begins (counted d)) (limited d)
 
 write-answer-requires : tie.Need-write-answer-requires
 write-answer-requires c κs = let f = c .before .before .before in (within f, asked f .pre .0 .3)
@@ -207,6 +212,7 @@ answer-query-spec =
     enum-told
     slice-aggregate-find-plan
     slice-aggregate-find-plan-2
+    slice-aggregate-find-plan-3
     find-plan-requires
     write-answer-requires
     same-length-2

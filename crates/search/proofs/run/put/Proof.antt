@@ -51,7 +51,7 @@ element-write-run-4 c = search needs
 returns : tie.Need-returns
 returns c =
     let a = c .args in
-    put-one (now (a .run)) (a .depth) (a .rule) (a .word) (a .rank) (a .cost) (c .pre .0) (c .pre .1) (c .pre .2)
+    put-one (now (a .run)) (a .depth) (a .rule) (a .word) (a .ranks) (a .cost) (c .pre .0) (c .pre .1) (c .pre .2)
 
 pub put-spec : {M : Type 1} → statement M
 put-spec =

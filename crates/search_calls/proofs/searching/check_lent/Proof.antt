@@ -1,5 +1,5 @@
 -- `search_calls::searching::check_lent` meets its contract.
--- The room, else the length of the table, else the lower-bound test.
+-- The room, else the entries of all tables, else the lower-bound test of each.
 use mathlib.Core.Path.{_≡_, refl, sym, _∙_}
 use mathlib.Core.Bool.{Bool}
 use mathlib.Core.List.{[], _∷_}
@@ -9,8 +9,8 @@ use denote.Ref.{now}
 use borrow.Author.Tests.{le-leb, lt-leb}
 use borrow.Author.Needs.{needs}
 use Rattle.refusals.specs.Answers.{verdict, _unless_}
-use Rattle.blocks.specs.Layout.{abstractStates}
-use Rattle.tables.specs.Tables.{passesTest}
+use Rattle.maps.specs.Maps.{allEntries}
+use Rattle.map_tables.specs.MapTables.{allPass}
 use Rattle.search_calls.specs.Searching.{lentConditions}
 use Rattle.search_calls.proofs.Conditions.{lent-decided}
 use Rattle.search_calls.proofs.searching.check_lent.Statement.{statement}
@@ -18,57 +18,57 @@ use Rattle.search_calls.proofs.searching.check_lent.Tie as tie
 
 -- the places that the facts below go back to
 abbrev start-from-then2 : tie.Then2 → tie.Start
-start-from-then2 c = c .before .before .before .before .before
+start-from-then2 c = c .before .before .before .before .before .before
 
 abbrev start-from-else2 : tie.Else2 → tie.Start
-start-from-else2 c = c .before .before .before .before .before
+start-from-else2 c = c .before .before .before .before .before .before
 
 returns : tie.Need-returns
 returns c =
-    let a = c .before .before .before .args in
+    let a = c .before .before .before .before .args in
     let narrow = lt-leb (a .steps) (a .room) (omega arith) in
-    sym (lent-decided (now (a .block)) (a .steps) (now (a .table)) (a .room) _ _ _ narrow refl refl)
+    sym (lent-decided (now (a .block)) (now (a .maps)) (a .steps) (now (a .table)) (a .room) _ _ _ narrow refl refl)
 
-abstract-states-requires : tie.Need-abstract-states-requires
-abstract-states-requires c κs = search needs
+all-entries-requires : tie.Need-all-entries-requires
+all-entries-requires c κs = search needs
 
 returns-2 : tie.Need-returns-2
 returns-2 c =
     let a = start-from-then2 c .args in
     let roomy = le-leb (a .steps) (a .room) (omega arith) in
-    let counted = c .before .abstract-states .ensures .0 in
-    let short = lt-leb (abstractStates (now (a .block))) (length (now (a .table))) (omega (arith, counted)) in
-    sym (lent-decided (now (a .block)) (a .steps) (now (a .table)) (a .room) _ _ _ roomy short refl)
+    let counted = c .before .all-entries .ensures .0 in
+    let short = lt-leb (allEntries (now (a .block)) (now (a .maps))) (length (now (a .table))) (omega (arith, counted)) in
+    sym (lent-decided (now (a .block)) (now (a .maps)) (a .steps) (now (a .table)) (a .room) _ _ _ roomy short refl)
 
-passes-requires : tie.Need-passes-requires
-passes-requires c κs = (search needs, omega (arith, c .before .abstract-states .ensures .0))
+all-pass-requires : tie.Need-all-pass-requires
+all-pass-requires c κs = (search needs, omega (arith, c .before .all-entries .ensures .0))
 
 -- all but the test is as it should be
 tested :
     (c : tie.Else2) (passing : Bool)
-    → (let a = start-from-else2 c .args in passesTest (now (a .block)) (now (a .table)) ≡ passing
-    → verdict (lentConditions (now (a .block)) (a .steps) (now (a .table)) (a .room))
+    → (let a = start-from-else2 c .args in allPass (now (a .block)) (now (a .maps)) (now (a .table)) ≡ passing
+    → verdict (lentConditions (now (a .block)) (now (a .maps)) (a .steps) (now (a .table)) (a .room))
     ≡ verdict (13 unless passing ∷ []))
 tested c passing p =
     let a = start-from-else2 c .args in
     let roomy = le-leb (a .steps) (a .room) (omega arith) in
-    let counted = c .before .abstract-states .ensures .0 in
-    let long = le-leb (abstractStates (now (a .block))) (length (now (a .table))) (omega (arith, counted)) in
-    lent-decided (now (a .block)) (a .steps) (now (a .table)) (a .room) _ _ _ roomy long p
+    let counted = c .before .all-entries .ensures .0 in
+    let long = le-leb (allEntries (now (a .block)) (now (a .maps))) (length (now (a .table))) (omega (arith, counted)) in
+    lent-decided (now (a .block)) (now (a .maps)) (a .steps) (now (a .table)) (a .room) _ _ _ roomy long p
 
 returns-3 : tie.Need-returns-3
-returns-3 c = sym (tested (c .before .before) _ (sym (c .before .passes .ensures) ∙ c .if3 .taken))
+returns-3 c = sym (tested (c .before .before) _ (sym (c .before .all-pass .ensures) ∙ c .if3 .taken))
 
 returns-4 : tie.Need-returns-4
-returns-4 c = sym (tested (c .before .before) _ (sym (c .before .passes .ensures) ∙ c .if3 .left))
+returns-4 c = sym (tested (c .before .before) _ (sym (c .before .all-pass .ensures) ∙ c .if3 .left))
 
 pub check-lent-spec : {M : Type 1} → statement M
 check-lent-spec =
     tie.close
     (tie.spec
     returns
-    abstract-states-requires
+    all-entries-requires
     returns-2
-    passes-requires
+    all-pass-requires
     returns-3
     returns-4)

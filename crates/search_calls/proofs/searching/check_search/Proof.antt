@@ -1,22 +1,23 @@
 -- `search_calls::searching::check_search` meets its contract.
--- What turns the block back, else what turns the query back, else what is lent.
+-- What turns block and maps back, else what turns the query back, else what is lent.
 use mathlib.Core.Path.{_≡_, sym, ap, _∙_}
+use native.Mathlib.Omega.{arith}
 use denote.Ref.{now}
 use borrow.Author.Needs.{needs}
 use Rattle.refusals.specs.Answers.{told, verdict}
 use Rattle.refusals.specs.Refusals.{verdictOf}
-use Rattle.blocks.specs.Validity.{blockConditions}
-use Rattle.blocks.proofs.Accepted.{accepted-valid}
-use Rattle.search_calls.proofs.Conditions.{block-refused, query-refused, lent-decides}
+use Rattle.maps.specs.Maps.{exerciseConditions, Mapped}
+use Rattle.maps.proofs.MapLaws.{exercise-accepted}
+use Rattle.search_calls.proofs.Conditions.{exercise-refused, query-refused, lent-decides}
 use Rattle.search_calls.proofs.searching.check_search.Statement.{statement}
 use Rattle.search_calls.proofs.searching.check_search.Tie as tie
 
 -- the places that the facts below go back to
 abbrev start-from-told : tie.After-enum-told → tie.Start
-start-from-told c = c .before .before .before .before .before .before
+start-from-told c = c .before .before .before .before .before .before .before
 
 abbrev start-from-known : tie.After-known-told → tie.Start
-start-from-known c = c .before .before .before .before .before .before .before
+start-from-known c = c .before .before .before .before .before .before .before .before
 
 abbrev told-from-known2 : tie.After-known-told2 → tie.After-enum-told
 told-from-known2 c = c .before .before .before .before
@@ -31,17 +32,22 @@ returns : tie.Need-returns
 returns c =
     let a = start-from-known c .args in
     let against = sym (c .before .before .before .check .ensures) ∙ ap verdictOf (c .before .checked .given .1) in
-    sym (block-refused (now (a .block)) (now (a .start)) (a .limits) (now (a .table)) (a .room) _ against)
+    sym (exercise-refused (now (a .block)) (now (a .maps)) (now (a .start)) (a .limits) (now (a .table)) (a .room) _ against)
 
 enum-told : tie.Need-enum-told
 enum-told c = search needs
 
--- the block is accepted
-valid : (c : tie.After-enum-told) → verdict (blockConditions (now (start-from-told c .args .block))) ≡ told tt
-valid c = sym (c .before .before .check .ensures) ∙ ap verdictOf (c .enum-told .given .1)
+-- block and maps are accepted
+mapped :
+    (c : tie.After-enum-told)
+    → (let a = start-from-told c .args in verdict (exerciseConditions (now (a .block)) (now (a .maps))) ≡ told tt)
+mapped c = sym (c .before .before .check .ensures) ∙ ap verdictOf (c .enum-told .given .1)
+
+ready : (c : tie.After-enum-told) → (let a = start-from-told c .args in Mapped (now (a .block)) (now (a .maps)))
+ready c = let a = start-from-told c .args in exercise-accepted (now (a .block)) (now (a .maps)) (mapped c)
 
 check-query-requires : tie.Need-check-query-requires
-check-query-requires c κs = accepted-valid (now (start-from-told c .args .block)) (valid c) .sized .headed
+check-query-requires c κs = ready c .valid 0 (omega arith) .sized .headed
 
 enum-known-asked : tie.Need-enum-known-asked
 enum-known-asked c = search needs
@@ -51,15 +57,14 @@ returns-2 c =
     let d = told-from-known2 c in
     let a = start-from-told d .args in
     let against = sym (c .before .before .before .check-query .ensures) ∙ ap verdictOf (c .before .asked .given .1) in
-    sym (query-refused (now (a .block)) (now (a .start)) (a .limits) (now (a .table)) (a .room) (valid d) _ against)
+    sym (query-refused (now (a .block)) (now (a .maps)) (now (a .start)) (a .limits) (now (a .table)) (a .room) (mapped d) _ against)
 
 enum-told-2 : tie.Need-enum-told-2
 enum-told-2 c = search needs
 
 check-lent-requires : tie.Need-check-lent-requires
 check-lent-requires c κs =
-    let d = c .before .before .before in
-    accepted-valid (now (start-from-told d .args .block)) (valid d)
+    ready (c .before .before .before)
 
 returns-3 : tie.Need-returns-3
 returns-3 c =
@@ -68,7 +73,7 @@ returns-3 c =
     let a = start-from-told d .args in
     let asked = sym (e .before .before .check-query .ensures) ∙ ap verdictOf (e .enum-told2 .given .1) in
     c .check-lent .ensures
-    ∙ sym (lent-decides (now (a .block)) (now (a .start)) (a .limits) (now (a .table)) (a .room) (valid d) asked)
+    ∙ sym (lent-decides (now (a .block)) (now (a .maps)) (now (a .start)) (a .limits) (now (a .table)) (a .room) (mapped d) asked)
 
 pub check-search-spec : {M : Type 1} → statement M
 check-search-spec =

@@ -4,16 +4,18 @@
 use mathlib.Core.Path.{_≡_, sym, ap, _∙_, subst}
 use mathlib.Core.List.{List}
 use Prim.Native.Nat.{ℕ}
+use native.Mathlib.Omega.{arith}
 use lib.ListN.{length}
 use denote.Ref.{now}
 use borrow.Author.Needs.{needs}
 use Rattle.basics.specs.Lists.{atFront}
 use Rattle.refusals.specs.Answers.{Answer, told, verdict, Outcome, outcome, guarded}
 use Rattle.refusals.specs.Refusals.{verdictOf}
-use Rattle.tables.proofs.Promises.{lower-bound}
+use Rattle.rounds.specs.Systems.{Estimate}
 use Rattle.rounds.specs.Rounds.{plan}
-use Rattle.search.specs.Exercises.{searchFrom, planGoal}
+use Rattle.search.specs.Exercises.{estimateOf, searchFrom, planGoal}
 use Rattle.search.specs.Parts.{Answers}
+use Rattle.search.proofs.Demand.{tables-passing}
 use Rattle.search.specs.declared.running.Ending.{Ending}
 use Rattle.search_calls.specs.Searching.{SearchAnswer, searchOf, reported, searchConditions, findPlan, PlanKept}
 use Rattle.search_calls.specs.declared.searching.Search.{Search}
@@ -23,11 +25,14 @@ use Rattle.search_calls.proofs.searching.find_plan.Statement.{statement
 use Rattle.search_calls.proofs.searching.find_plan.Tie as tie
 
 -- the places that the facts below go back to
+abbrev table-from-told : tie.After-enum-told → tie.After-shared-slice-known4
+table-from-told c = c .before .before .before .before
+
 abbrev start-from-told : tie.After-enum-told → tie.Start
-start-from-told c = c .before .before .before .before .before .before .before
+start-from-told c = table-from-told c .before .before .before .before
 
 abbrev start-from-known : tie.After-known-told → tie.Start
-start-from-known c = c .before .before .before .before .before .before .before .before
+start-from-known c = c .before .before .before .before .before .before .before .before .before
 
 abbrev told-from-search : tie.After-find-plan → tie.After-enum-told
 told-from-search c = c .before .before
@@ -45,12 +50,18 @@ search-from-spent c = c .before .before .before .before .before
 abbrev told-of : tie.Start → Answer (Unit {0})
 told-of s =
     let a = s .args in
-    verdict (searchConditions (now (a .block)) (now (a .start)) (a .limits) (now (a .table)) (length (now (a .plan))))
+    verdict
+    (searchConditions (now (a .block)) (now (a .maps)) (now (a .start)) (a .limits) (now (a .table))
+    (length (now (a .plan))))
+
+-- the estimate by the tables that are lent
+abbrev rate : tie.Start → List ℕ → Estimate
+rate s = let a = s .args in estimateOf (now (a .block)) (now (a .maps)) (now (a .table))
 
 abbrev settled : tie.Start → Answer (Unit {0}) → Outcome SearchAnswer
 settled s verdict =
     let a = s .args in
-    let x = searchFrom (now (a .block)) (now (a .start)) (a .limits) (now (a .table)) in
+    let x = searchFrom (now (a .block)) (rate s) (now (a .start)) (a .limits) in
     guarded verdict (now (a .plan))
     (outcome (told (reported (planGoal (now (a .block)) (now (a .start)) x) x)) (atFront (plan x) (now (a .plan))))
 
@@ -58,17 +69,18 @@ settled s verdict =
 abbrev Accepted : tie.Start → Type 0
 Accepted s =
     let a = s .args in
-    SearchAccepted (now (a .block)) (now (a .start)) (a .limits) (now (a .table)) (length (now (a .plan)))
+    SearchAccepted (now (a .block)) (now (a .maps)) (now (a .start)) (a .limits) (now (a .table))
+    (length (now (a .plan)))
 
 abbrev Ended : tie.Start → List ℕ → Ending → Type 0
 Ended s out x =
     let a = s .args in
-    Answers (now (a .block)) (now (a .start)) (a .limits) (now (a .table)) (now (a .plan)) out x
+    Answers (now (a .block)) (rate s) (now (a .start)) (a .limits) (now (a .plan)) out x
 
 abbrev Promised : tie.Start → Search → List ℕ → Type 0
 Promised s r out =
     let a = s .args in
-    PlanKept (now (a .block)) (now (a .start)) (a .limits) (now (a .table)) (searchOf r) out
+    PlanKept (now (a .block)) (now (a .maps)) (now (a .start)) (a .limits) (now (a .table)) (searchOf r) out
 
 check-search-requires : tie.Need-check-search-requires
 check-search-requires c κs = search needs
@@ -93,11 +105,12 @@ accepted c = sym (c .before .before .check-search .ensures) ∙ ap verdictOf (c 
 ready : (c : tie.After-enum-told) → Accepted (start-from-told c)
 ready c =
     let a = start-from-told c .args in
-    search-accepted (now (a .block)) (now (a .start)) (a .limits) (now (a .table)) (length (now (a .plan))) (accepted c)
+    search-accepted (now (a .block)) (now (a .maps)) (now (a .start)) (a .limits) (now (a .table))
+    (length (now (a .plan))) (accepted c)
 
 -- the buffer that the search layer leaves
 abbrev written : tie.After-find-plan → List ℕ
-written c = c .find-plan .last .1 .1 .1 .1 .0
+written c = c .find-plan .last .1 .1 .1 .1 .1 .0
 
 -- what the call gives where the search layer ends with r, and demand 3 for it
 gives :
@@ -110,19 +123,21 @@ gives c r e =
     let a = s .args in
     let k = subst (Ended s (written c)) e (c .find-plan .ensures) in
     let given =
-    answered-by (now (a .block)) (now (a .start)) (a .limits) (now (a .table)) (now (a .plan)) (written c)
-    (ready d .room-left) r k in (
+    answered-by (now (a .block)) (now (a .maps)) (now (a .start)) (a .limits) (now (a .table)) (now (a .plan))
+    (written c) (ready d .room-left) r k in (
       given ∙ sym (ap (settled s) (accepted d)),
-      kept-by (now (a .block)) (now (a .start)) (a .limits) (now (a .table)) (now (a .plan)) (written c)
-          (ready d .valid) r k,
+      kept-by (now (a .block)) (now (a .maps)) (now (a .start)) (a .limits) (now (a .table)) (now (a .plan))
+          (written c) (ready d .mapped .valid 0 (omega arith)) r k,
     )
 
 find-plan-requires : tie.Need-find-plan-requires
 find-plan-requires c κs =
     let a = start-from-told (c .before) .args in
+    let known = table-from-told (c .before) .shared-slice-known4 .given in
     let h = ready (c .before) in (
-      (h .valid, h .state, h .steps-few, h .room-left, h .entries),
-      lower-bound (now (a .block)) (h .valid) (now (a .table)) (h .passing),
+      (h .mapped, h .state, h .steps-few, h .room-left, h .entries),
+      tables-passing (now (a .block)) (now (a .maps)) (now (a .table)) (h .mapped) (λ i. omega (arith, known i))
+          (h .passing),
     )
 
 enum-known-ending : tie.Need-enum-known-ending

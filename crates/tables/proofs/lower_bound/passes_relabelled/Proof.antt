@@ -8,6 +8,9 @@ use Rattle.tables.proofs.lower_bound.passes_relabelled.Tie as tie
 compile-requires : tie.Need-compile-requires
 compile-requires c κs = search needs
 
+place-weights-requires : tie.Need-place-weights-requires
+place-weights-requires c κs = search needs
+
 passes-by-sides-requires : tie.Need-passes-by-sides-requires
 passes-by-sides-requires c κs = search needs
 
@@ -25,6 +28,7 @@ passes-relabelled-spec =
     tie.close
     (tie.spec
     compile-requires
+    place-weights-requires
     passes-by-sides-requires
     returns
     passes-everywhere-requires

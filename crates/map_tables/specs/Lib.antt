@@ -1,0 +1,3 @@
+-- The definitions on the tables of all maps.
+-- The calls on tables, and the search, are stated with them.
+pub mod MapTables
