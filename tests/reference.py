@@ -100,6 +100,12 @@ class Exercise:
                 return None
         return bound
 
+    @staticmethod
+    def constant_mismatch(side, state):
+        """The lowest position whose constant differs from the state's label, or None."""
+        terms = enumerate(zip(side, state))
+        return min((i for i, (term, label) in terms if term[0] == 'label' and term[1] != label), default=None)
+
     def apply(self, rule, state):
         """The new state, or None where the rule does not apply."""
         _, left, right = self.rules[rule]

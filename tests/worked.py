@@ -10,7 +10,8 @@ where BUFFER is what the buffer, the last argument, holds afterwards, and argume
 block, further maps where the call takes some, subject, limits, table, buffer. Bytes are pairs of hexadecimal digits,
 parts of them joined by '+', PAIR*COUNT for a run; entries of a table are decimal numbers joined by ',', ENTRY*COUNT
 for a run; '-' stands for none. Lines with '#' say what follows. worked.py fill_order_input prints what the program
-fill_order reads, worked.py fill_order what it must print, worked.py two_maps what the samples two_maps must print.
+fill_order reads, worked.py fill_order what it must print; likewise match_parts_input and match_parts; and worked.py
+two_maps what the samples two_maps must print.
 """
 import functools
 import itertools
@@ -1480,8 +1481,61 @@ def fill_order():
         print('in order')
 
 
+def side_near(random, state, labels):
+    """A side that differs from a state at few positions, and holds what the state does at most others."""
+    kinds = random.choices('same other variable dash'.split(), [50, 4, 30, 16], k=len(state))
+    other = {'other': random.randrange(labels), 'variable': 16 + random.randrange(4), 'dash': 255}
+    return [label if kind == 'same' else other[kind] for label, kind in zip(state, kinds)]
+
+
+def match_parts_blocks():
+    """Exercises with goals that are states: these are matched with the left sides and the goals."""
+    # the lowest position, the last one, none; a constant that differs behind variables that clash; variables alone
+    sides = '10200 01210 01220 -1-2- AB-2A AB-2B AABB0 AA220 A1A20 0BB2B ----- 01AAA'.split()
+    blocks = [block_of(5, 3, [(1, side, '-----') for side in sides], ['01220', '01020', 'AA--1'])]
+    # each position in turn, with and without others behind it
+    sides = ['0' * i + '1' + 15 * '0-A1'[i % 4] for i in range(16)] + ['A' * i + 16 * '1' for i in range(16)]
+    blocks.append(block_of(16, 2, [(1, side[:16], 16 * '-') for side in sides], [16 * '0', 15 * '0' + '1']))
+    random = Random(3)
+    for n in [*range(1, 17), *range(1, 17), 16]:
+        labels = random.choice([1, 2, 3, 16])
+        states = [[random.randrange(labels) for _ in range(n)] for _ in range(random.randint(1, 4))]
+        lefts = [side_near(random, random.choice(states), labels) for _ in range(random.randint(0, 40))]
+        goals = states + [side_near(random, states[0], labels) for _ in range(random.randint(0, 4))]
+        rules = [byte for left in lefts for byte in [0, *left, *[255] * n]]
+        blocks.append([n, labels, 1, len(lefts), len(goals), *[0] * labels, *rules, *itertools.chain(*goals)])
+    return blocks
+
+
+def match_parts_input():
+    """Texts of exercises, with an empty line behind each; kept as crates/match_parts/stdin."""
+    for block in match_parts_blocks():
+        print(text_of(block).decode())
+
+
+def match_parts():
+    """For each goal that is a state two lines, by bytes and by words: for each left side and each goal the lowest
+    position whose constant differs, or '-', and '+' where the state matches the side."""
+    met = set()
+    for block in match_parts_blocks():
+        exercise = reference.Exercise(block)
+        sides = [left for _, left, _ in exercise.rules] + exercise.goals
+        for state in exercise.goals:
+            if any(kind != 'label' for kind, *_ in state):
+                continue
+            labels, line = [label for _, label in state], ''
+            for side in sides:
+                position = exercise.constant_mismatch(side, labels)
+                matched = exercise.match(side, labels) is not None
+                assert position is None or not matched
+                met.add((position, matched))
+                line += ('-' if position is None else f'{position:X}') + ('+' if matched else '.')
+            print(line, line, sep='\n')
+    assert met == {(None, False), (None, True)} | {(position, False) for position in range(16)}
+
+
 if __name__ == '__main__':
     parts = [blocks, rules, predecessors, replays, tables, searches, texts, sessions, goals]
-    parts += [maps, two_maps, fill_order, fill_order_input]
+    parts += [maps, two_maps, fill_order, fill_order_input, match_parts, match_parts_input]
     by_name = {part.__name__: part for part in parts}
     by_name[usage.named('tests/worked.py NAME', by_name)[0]]()

@@ -21,7 +21,7 @@ use Rattle.blocks.proofs.TermCases.{dash-byte}
 use Rattle.blocks.proofs.Accepted.{left-side, right-side, right-bound, side-term}
 use Rattle.blocks.proofs.StateLaws.{some-label}
 use Rattle.psvn.specs.Meaning.{Matched}
-use Rattle.psvn.proofs.Matching.{matched}
+use Rattle.psvn.proofs.MatchingLaws.{matched}
 use Rattle.psvn.proofs.Stepping.{count-alike}
 use Rattle.backward.specs.Reversible.{shows}
 use Rattle.backward.specs.Choices.{only, choice, leastOf, keepsOf}

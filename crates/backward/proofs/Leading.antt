@@ -19,7 +19,7 @@ use Rattle.blocks.specs.Layout.{positions, leftOf, rightOf}
 use Rattle.blocks.proofs.TermCases.{View, label, variable, dash, refused, view, is-label, is-variable}
 use Rattle.psvn.specs.Rules.{bound, given, matches, rewritten, applies, step, same, leads}
 use Rattle.psvn.specs.Meaning.{Matched}
-use Rattle.psvn.proofs.Matching.{matching}
+use Rattle.psvn.proofs.MatchingLaws.{matching}
 use Rattle.psvn.proofs.Making.{rewritten-at, given-other}
 use Rattle.psvn.proofs.Stepping.{step-length}
 

@@ -26,7 +26,7 @@ use Rattle.blocks.proofs.TermCases.{is-refused, dash-byte}
 use Rattle.blocks.proofs.StateLaws.{labelled-intro, state-length, state-label}
 use Rattle.psvn.specs.Rules.{bound, given, rewritten, applies, step, leads}
 use Rattle.psvn.specs.Meaning.{Matched}
-use Rattle.psvn.proofs.Matching.{matching}
+use Rattle.psvn.proofs.MatchingLaws.{matching}
 use Rattle.psvn.proofs.Stepping.{step-length}
 use Rattle.backward.specs.Reversible.{shows, keptTerm, formAt, reversible, OneToOne}
 use Rattle.backward.specs.Choices.{choice}

@@ -1,16 +1,19 @@
--- Laws of `all`, `some`, `first`, `find` and `last`: what they say at each number below the bound, how to show them, and that
--- they go by the test's values alone. The proofs of every scanning loop, of matching and of relabelling rest on these.
+-- Laws of `all`, `some`, `first`, `find` and `last`: what they say at each number below the bound, how to show them, and
+-- that they go by the test's values alone. The proofs of every scanning loop, of matching and of relabelling rest on
+-- these.
 use mathlib.Core.Path.{_≡_, refl, sym, ap, ap₂, _∙_}
 use mathlib.Core.Logic.{_⊎_, ⊎-elim}
-use mathlib.Core.Bool.{Bool, true, false, cond, _&&_, _||_, true≢false}
+use mathlib.Core.Bool.{Bool, true, false, cond, not, _&&_, _||_, true≢false}
 use mathlib.Core.Option as option
 use Prim.Native.Nat.{ℕ, zero, suc, _+_, _≤_, _<_}
 use native.Mathlib.Nat.{eq-or-lt-of-le, le-of-suc-le-suc, not-suc-le-zero, add-zero, add-suc}
 use native.Mathlib.Omega.{arith}
 use lib.Dec.{ltb}
-use borrow.Author.Tests.{lt-ltb, le-ltb}
+use borrow.Author.Tests.{lt-ltb, le-ltb, not-true, not-false}
 use Rattle.basics.specs.Bounded.{all, some, first, find, last}
-use Rattle.basics.proofs.Truth.{true-false, and-true, and-intro, and-right-false, or-false}
+use Rattle.basics.proofs.Comparing.{below?}
+use Rattle.basics.proofs.Truth.{true-false, and-true, and-intro, and-right-true, and-right-false, and-swap}
+use Rattle.basics.proofs.Truth.{or-false}
 
 below : {i n : ℕ} → i < suc n → (i ≡ n) ⊎ (i < n)
 below h = eq-or-lt-of-le (le-of-suc-le-suc h)
@@ -47,6 +50,16 @@ module _ (f : ℕ → Bool) where
       go ih false e u d = let k = ih e in (k .0, let m = k .1 in omega arith, k .2)
       go ih true e false d = (n, omega arith, d)
       go ih true e true d = absurd (true-false (and-intro (all n f) (f n) e d) h)
+
+  -- numbers from m on at which the test holds do not matter
+  pub all-past : (n m : ℕ) → m ≤ n → ((k : ℕ) → m ≤ k → k < n → f k ≡ true) → all n f ≡ all m f
+  all-past zero m l h = let e : m ≡ 0 = omega arith in rw e refl
+  all-past (suc n) m l h =
+      ⊎-elim (λ e. ap (λ (k : ℕ). all k f) (sym e))
+      (λ k.
+      ap (λ (t : Bool). all n f && t) (h n (le-of-suc-le-suc k) (omega arith)) ∙ and-right-true (all n f)
+      ∙ all-past n m (le-of-suc-le-suc k) (λ j a b. h j a (omega arith)))
+      (eq-or-lt-of-le l)
 
   pub some-false : (n : ℕ) → some n f ≡ false → (i : ℕ) → i < n → f i ≡ false
   some-false zero h i l = absurd (not-suc-le-zero l)
@@ -137,6 +150,19 @@ module _ (f : ℕ → Bool) where
   pub find-some : (n : ℕ) → some n f ≡ true → find n f ≡ option.some (first n f)
   find-some n h = rw h refl
 
+  -- numbers from m on at which the test fails do not matter
+  pub find-past : (n m : ℕ) → m ≤ n → ((k : ℕ) → m ≤ k → k < n → f k ≡ false) → find n f ≡ find m f
+  find-past n m l h = go (some m f) refl
+    where
+      go : (t : Bool) → some m f ≡ t → find n f ≡ find m f
+      go true e =
+          let (low, holds) = first-holds m e in
+          find-at n (first m f) (omega arith) holds (first-least m) ∙ sym (find-some m e)
+      go false e =
+          find-passed n n (omega arith) (λ k i.
+          ⊎-elim (λ j. some-false m e k j) (λ j. h k j i) (below? k m))
+          ∙ sym (find-passed m m (omega arith) (some-false m e))
+
   -- at what is found the test holds, and at no number before it; with none it holds nowhere
   pub find-holds :
       (n i : ℕ) → find n f ≡ option.some i → (i < n) × (f i ≡ true) × ((k : ℕ) → k < i → f k ≡ false)
@@ -203,3 +229,21 @@ module _ (f g : ℕ → Bool) where
 
   pub find-ext : (n : ℕ) → ((i : ℕ) → i < n → f i ≡ g i) → find n f ≡ find n g
   find-ext n h = rw (some-ext n h, first-ext n h) refl
+
+  -- both tests
+  pub all-both : (n : ℕ) → all n (λ i. f i && g i) ≡ (all n f && all n g)
+  all-both zero = refl
+  all-both (suc n) = ap (λ (t : Bool). t && (f n && g n)) (all-both n) ∙ and-swap (all n f) (all n g) (f n) (g n)
+
+-- none is found to fail exactly where all pass, and where one is found not all do
+module _ (f : ℕ → Bool) where
+  pub none-fails : (n : ℕ) → all n f ≡ true → find n (λ i. not (f i)) ≡ option.none
+  none-fails n h = find-passed (λ i. not (f i)) n n (omega arith) (λ k l. ap not (all-at f n h k l))
+
+  pub all-pass : (n : ℕ) → find n (λ i. not (f i)) ≡ option.none → all n f ≡ true
+  all-pass n h = all-intro f n (λ i l. not-false (f i) (find-fails (λ k. not (f k)) n h i l))
+
+  pub one-fails : (n i : ℕ) → find n (λ k. not (f k)) ≡ option.some i → all n f ≡ false
+  one-fails n i h =
+      let (low, fails, before) = find-holds (λ k. not (f k)) n i h in
+      all-false f n i low (not-true (f i) fails)

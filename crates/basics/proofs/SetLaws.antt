@@ -1,6 +1,7 @@
--- Sets of numbers below 64 as words: the members of the empty set, of all, of twice a set, of what two sets share
--- (`member-and`); the lowest member (`lowest-in`, `lowest-least`), and the set without it (`without-lowest`,
--- `without-other`, `without-less`). The code that makes sets and goes through them rests on these.
+-- Sets of numbers below 64 as words: the members of the empty set, and that no other has none (`no-member`), of all, of
+-- twice a set, of what two sets share (`member-and`); the lowest member (`lowest-member`, `lowest-in`, `lowest-least`),
+-- and the set without it (`without-lowest`, `without-other`, `without-less`). The code that makes sets and goes through
+-- them rests on these.
 use mathlib.Core.Path.{_≡_, refl, sym, ap, ap₂, _∙_}
 use mathlib.Core.Bool.{Bool, true, false, _&&_}
 use Prim.Native.Nat.{ℕ, zero, suc, _-_, _/_, _%_, _^_, _<_}
@@ -11,7 +12,7 @@ use lib.Bits.{bitAnd, and-shr, and-mod, and-self, and-le-r}
 use lib.Count.{trailingZeros, under}
 use lib.Dec.{eqb}
 use lib.Pow.{pow-pos}
-use Rattle.basics.proofs.Truth.{and-right-false}
+use Rattle.basics.proofs.Truth.{true-false, and-right-false}
 use Rattle.basics.specs.Sets.{member}
 
 -- the first number by the word's rest, the others by its half
@@ -87,16 +88,24 @@ by-first {P} s even odd = go (s % 2) refl (mod-lt s (zero-lt-suc 1))
 half-below : (k s : ℕ) → s < 2 ^ suc k → s / 2 < 2 ^ k
 half-below k s l = let e = pow-suc 2 k in omega arith
 
-pub lowest-in : (k s : ℕ) → 0 < s → s < 2 ^ k → (member s (trailingZeros k s) ≡ true) × (trailingZeros k s < k)
-lowest-in zero s p l = absurd (omega arith)
-lowest-in (suc k) s p l =
+pub lowest-member : (k s : ℕ) → trailingZeros k s < k → member s (trailingZeros k s) ≡ true
+lowest-member zero s l = absurd (not-suc-le-zero l)
+lowest-member (suc k) s l =
     by-first s
     (λ e.
-    let ih = lowest-in k (s / 2) (omega arith) (half-below k s l) in (
-      ap (member s) (low-even k s e) ∙ member-next s (s / 2) (trailingZeros k (s / 2)) refl ∙ ih .0,
-      omega (arith, low-even k s e, ih .1),
-    ))
-    (λ e. (ap (member s) (low-odd k s e) ∙ member-first s 1 e, omega (arith, low-odd k s e)))
+    ap (member s) (low-even k s e) ∙ member-next s (s / 2) (trailingZeros k (s / 2)) refl
+    ∙ lowest-member k (s / 2) (omega (arith, low-even k s e)))
+    (λ e. ap (member s) (low-odd k s e) ∙ member-first s 1 e)
+
+lowest-within : (k s : ℕ) → 0 < s → s < 2 ^ k → trailingZeros k s < k
+lowest-within zero s p l = absurd (omega arith)
+lowest-within (suc k) s p l =
+    by-first s
+    (λ e. omega (arith, low-even k s e, lowest-within k (s / 2) (omega arith) (half-below k s l)))
+    (λ e. omega (arith, low-odd k s e))
+
+pub lowest-in : (k s : ℕ) → 0 < s → s < 2 ^ k → (member s (trailingZeros k s) ≡ true) × (trailingZeros k s < k)
+lowest-in k s p l = let h = lowest-within k s p l in (lowest-member k s h, h)
 
 pub lowest-least : (k s j : ℕ) → j < trailingZeros k s → member s j ≡ false
 unfolding trailingZeros
@@ -107,6 +116,17 @@ lowest-least (suc k) s (suc j) l =
     by-first s
     (λ e. member-next s (s / 2) j refl ∙ lowest-least k (s / 2) j (omega (arith, low-even k s e)))
     (λ e. absurd (omega (arith, low-odd k s e)))
+
+-- a set with no member is empty
+pub no-member : (k s : ℕ) → s < 2 ^ k → ((r : ℕ) → r < k → member s r ≡ false) → s ≡ 0
+no-member zero s l h = omega arith
+no-member (suc k) s l h =
+    by-first s
+    (λ e.
+    let half =
+    no-member k (s / 2) (half-below k s l) (λ r m. sym (member-next s (s / 2) r refl) ∙ h (suc r) (omega arith)) in
+    omega arith)
+    (λ e. absurd (true-false (member-first s 1 e) (h 0 (omega arith))))
 
 -- ---- the set without it
 

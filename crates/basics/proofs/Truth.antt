@@ -17,9 +17,20 @@ and-true false b h = absurd (true≢false (sym h))
 pub and-intro : (a b : Bool) → a ≡ true → b ≡ true → (a && b) ≡ true
 and-intro a b p q = rw (p, q)
 
+pub and-right-true : (a : Bool) → (a && true) ≡ a
+and-right-true true = refl
+and-right-true false = refl
+
 pub and-right-false : (a b : Bool) → b ≡ false → (a && b) ≡ false
 and-right-false true b h = h
 and-right-false false b h = refl
+
+-- two pairs of tests, taken crosswise
+pub and-swap : (a b c d : Bool) → ((a && b) && (c && d)) ≡ ((a && c) && (b && d))
+and-swap true true c d = refl
+and-swap true false true d = refl
+and-swap true false false d = refl
+and-swap false b c d = refl
 
 pub or-false : (a b : Bool) → (a || b) ≡ false → (a ≡ false) × (b ≡ false)
 or-false true b h = absurd (true≢false h)

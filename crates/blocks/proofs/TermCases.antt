@@ -1,8 +1,9 @@
 -- The four cases of `termOf`, each from a fact about the byte, and that every byte falls into one (`view`); a label is
--- below 16 (`label-lt`), and a dash is one byte (`dash-byte`). The proofs of decoding, matching, relabelling, stepping
--- back and compiling go by these cases.
+-- below 16 (`label-lt`), a variable is its byte (`variable-byte`), and a dash is one byte (`dash-byte`). The proofs of
+-- decoding, matching, relabelling, stepping back and compiling go by these cases.
 use mathlib.Core.Path.{_≡_, refl, sym, ap, _∙_}
 use mathlib.Core.Bool.{Bool, true, false}
+use mathlib.Core.Option.{Option, none, some, Option·none-ne-some, Option·some-injective}
 use Prim.Native.Nat.{ℕ, _≤_, _<_}
 use native.Mathlib.Omega.{arith}
 use lib.Dec.{ltb, eqb, lit<}
@@ -55,6 +56,25 @@ label-lt byte c e = rw (sym (ap labelIn e)) (go (view byte))
     go (variable a b) = rw (ap labelIn (is-variable byte a b)) (lit< tt)
     go (dash a) = rw (ap labelIn (is-dash byte a)) (lit< tt)
     go (refused a b) = rw (ap labelIn (is-refused byte a b)) (lit< tt)
+
+-- a variable decoded is the byte
+abbrev variableIn : Term → Option ℕ
+variableIn (Label c) = none
+variableIn (Variable v) = some v
+variableIn Dash = none
+variableIn Refused = none
+
+pub variable-byte : (byte v : ℕ) → termOf byte ≡ Variable v → v ≡ byte
+variable-byte byte v e = go (view byte)
+  where
+    other : variableIn (termOf byte) ≡ none → v ≡ byte
+    other h = absurd (Option·none-ne-some v (sym h ∙ ap variableIn e))
+
+    go : View byte → v ≡ byte
+    go (label a) = other (ap variableIn (is-label byte a))
+    go (variable a b) = Option·some-injective v byte (ap variableIn (sym e ∙ is-variable byte a b))
+    go (dash a) = other (ap variableIn (is-dash byte a))
+    go (refused a b) = other (ap variableIn (is-refused byte a b))
 
 pub dash-byte : (t : ℕ) → isDash (termOf t) ≡ eqb t 255
 dash-byte t = go (view t)

@@ -2,7 +2,7 @@
 -- the rules before it (`rule-placed`), a goal, which keeps those before it (`goal-kept`), and the whole (`compiled`).
 -- The loops over rules and goals, and compiling a block, rest on these; what is said of sides carries over to their
 -- numbers' other names (`named`).
-use mathlib.Core.Path.{_≡_, ap, _∙_, subst}
+use mathlib.Core.Path.{_≡_, refl, ap, _∙_, subst}
 use mathlib.Core.List.{List}
 use Prim.Native.Nat.{ℕ, _+_, _*_, _%_, _≤_, _<_}
 use native.Mathlib.Nat.{mod-eq-of-lt}
@@ -10,14 +10,14 @@ use native.Mathlib.Omega.{arith}
 use lib.ListN.{length, getD, set, length-set}
 use lib.Seq.{getD-set-same, getD-set-other}
 use Rattle.basics.proofs.Parts.{outside-then, outside-within}
-use Rattle.blocks.specs.Layout.{positions, costOf, sideAt, leftOf, rightOf, goalOf}
+use Rattle.blocks.specs.Layout.{positions, costOf, sideAt, leftOf, rightOf}
 use Rattle.blocks.specs.Validity.{Valid}
 use Rattle.words.specs.Sides.{leftPlace, rightPlace, goalPlace, costWord}
 use Rattle.words.specs.Code.{codeLength}
-use Rattle.words.specs.Compiled.{Sided, RuleAt, Compiled}
+use Rattle.words.specs.Compiled.{Tested, Compiled}
 use Rattle.compiling.specs.PlacingSides.{SidePlaced, SidesPlaced, RulePlaced, RulesPlaced, GoalsPlaced}
 use Rattle.compiling.specs.PlacingSides.{CountsPlaced}
-use Rattle.compiling.proofs.SidePlaced.{sided-kept}
+use Rattle.words.proofs.KeptCode.{sided-kept, tested-kept, rule-kept}
 
 -- the two sides of a rule placed one after the other
 pub sides-placed :
@@ -26,8 +26,8 @@ pub sides-placed :
     → SidesPlaced n left right r code₀ code₂
 sides-placed {n} {left} {right} {code₀} {code₁} {code₂} r p q =
     record {
-      left-sided =
-          sided-kept n left left code₁ code₂ (leftPlace r) (p .sided) (λ j a c. q .code .before j (omega arith));
+      left-tested =
+          tested-kept (leftPlace r) (record { element = λ j a c. q .code .before j (omega arith) }) (p .tested refl);
       right-sided = q .sided;
       code =
           outside-then (outside-within (12 * r) (12 * r + 12) (omega arith) (omega arith) (p .code))
@@ -52,22 +52,6 @@ pub sides-as :
     → SidesPlaced n (sideAt b l) (sideAt b s) r code code′ → SidesPlaced n′ (sideAt b l′) (sideAt b s′) r code code′
 sides-as {r = r} {code = code} {code′ = code′} = named (λ n l s. SidesPlaced n l s r code code′)
 
--- a rule stays where its sides and its cost stay
-rule-kept :
-    (b code code′ : List ℕ) (r : ℕ) → RuleAt b code r
-    → ((j : ℕ) → 12 * r ≤ j → j < 12 * r + 12 → getD code′ j 0 ≡ getD code j 0)
-    → getD code′ (816 + r) 0 ≡ getD code (816 + r) 0 → RuleAt b code′ r
-rule-kept b code code′ r s same same-cost =
-    record {
-      left =
-          sided-kept (positions b) (leftOf b r) (leftOf b r) code code′ (leftPlace r) (s .left)
-          (λ j a c. same j (omega arith) (omega arith));
-      right =
-          sided-kept (positions b) (leftOf b r) (rightOf b r) code code′ (rightPlace r) (s .right)
-          (λ j a c. same j (omega arith) (omega arith));
-      cost = ap (λ (y : ℕ). y % 256) same-cost ∙ s .cost;
-    }
-
 -- both sides placed, and the cost stored
 module _
     {code₀ code₁ : List ℕ} (b : List ℕ) (r cost : ℕ) (few : r < 64) (room : 816 + r < length code₀)
@@ -89,27 +73,24 @@ module _
       record {
         rule = record {
           left =
-              sided-kept (positions b) (leftOf b r) (leftOf b r) code₁ withCost (leftPlace r) (sides .left-sided)
-              (λ j a c. side-same j (omega arith));
+              tested-kept (leftPlace r) (record { element = λ j a c. side-same j (omega arith) }) (sides .left-tested);
           right =
-              sided-kept (positions b) (leftOf b r) (rightOf b r) code₁ withCost (rightPlace r) (sides .right-sided)
-              (λ j a c. side-same j (omega arith));
+              sided-kept (rightPlace r) (record { element = λ j a c. side-same j (omega arith) }) (sides .right-sided);
           cost = at-cost;
         };
         others = λ k l s.
-            rule-kept b code₀ withCost k s
-            (λ j a c. side-same j (omega arith) ∙ sides .code .before j (omega arith))
+            rule-kept k (record { element = λ j a c. side-same j (omega arith) ∙ sides .code .before j (omega arith) })
             (getD-set-other code₁ (816 + r) (816 + k) cost 0 (λ q. omega arith)
-            ∙ sides .code .behind (816 + k) (omega arith));
+            ∙ sides .code .behind (816 + k) (omega arith))
+            s;
         code = length-set code₁ (816 + r) cost ∙ sides .code .len;
       }
 
 -- a goal stays while a later one is placed
 pub goal-kept :
     {n : ℕ} {goal l s : ℕ → ℕ} {code code′ : List ℕ} (g k : ℕ) → k < g → SidePlaced n l s (goalPlace g) code code′
-    → Sided n goal goal code (goalPlace k) → Sided n goal goal code′ (goalPlace k)
-goal-kept {n} {goal} {l} {s} {code} {code′} g k h p q =
-    sided-kept n goal goal code code′ (goalPlace k) q (λ j a c. p .code .before j (omega arith))
+    → Tested n goal code (goalPlace k) → Tested n goal code′ (goalPlace k)
+goal-kept g k h p = tested-kept (goalPlace k) (record { element = λ j a c. p .code .before j (omega arith) })
 
 pub compiled :
     {b code₀ code₁ code₂ code₃ : List ℕ} → Valid b → length code₀ ≡ codeLength → RulesPlaced b code₀ code₁
@@ -120,13 +101,11 @@ compiled {b} {code₀} {code₁} {code₂} {code₃} valid len rs gs cs = (
     counted = cs .counted;
     rule = λ r l.
         let few : r < 64 = omega (arith, valid .sized .headed .sizes .r-high) in
-        rule-kept b code₁ code₃ r (rs .rule r l)
-        (λ j a c. cs .code .before j (omega arith) ∙ gs .code .before j (omega arith))
-        (cs .code .before (816 + r) (omega arith) ∙ gs .code .behind (816 + r) (omega arith));
+        rule-kept r (record { element = λ j a c. cs .code .before j (omega arith) ∙ gs .code .before j (omega arith) })
+        (cs .code .before (816 + r) (omega arith) ∙ gs .code .behind (816 + r) (omega arith)) (rs .rule r l);
     goal = λ g l.
         let few : g < 8 = omega (arith, valid .sized .headed .sizes .g-high) in
-        sided-kept (positions b) (goalOf b g) (goalOf b g) code₂ code₃ (goalPlace g) (gs .goal g l)
-        (λ j a c. cs .code .before j (omega arith));
+        tested-kept (goalPlace g) (record { element = λ j a c. cs .code .before j (omega arith) }) (gs .goal g l);
   },
   cs .code .len ∙ gs .code .len ∙ rs .code ∙ len,
 )

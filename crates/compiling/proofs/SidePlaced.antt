@@ -1,29 +1,30 @@
--- A side whose n positions are compiled, once its six elements are stored, is `Sided` (`side-placed`), and stays so
--- while these stay (`sided-kept`). Placing a side, and keeping what is placed while others are, rests on these; the
--- counts are stored likewise (`counts-placed`).
-use mathlib.Core.Path.{_≡_, sym, ap, _∙_}
+-- A side whose n positions are compiled, once its six elements are stored, is `Sided`, and a left side `Tested`
+-- (`side-placed`). Placing a side rests on this; the counts are stored likewise (`counts-placed`).
+use mathlib.Core.Path.{_≡_, refl, sym, ap, _∙_, subst}
+use mathlib.Core.Bool.{true}
 use mathlib.Core.List.{List}
 use Prim.Native.Nat.{ℕ, _+_, _*_, _≤_, _<_}
-use native.Mathlib.Nat.{lt-of-le-of-lt}
 use native.Mathlib.Omega.{arith}
-use lib.Bits.{bitAnd, and-le-r, and-zero-r, or-zero-r}
-use lib.Dec.{lit<}
+use lib.Bits.{bitAnd, and-zero-r, or-zero-r}
+use lib.Dec.{eqb, lit<}
 use lib.ListN.{length, getD, set, length-set}
 use lib.Seq.{getD-set-same, getD-set-other}
+use borrow.Author.Tests.{eq-eqb}
 use Rattle.basics.specs.Parts.{Outside}
 use Rattle.basics.proofs.Parts.{outside-none}
 use Rattle.basics.proofs.Lists.{tabulate-ext}
 use Rattle.blocks.specs.Terms.{termOf}
 use Rattle.blocks.specs.Layout.{positions, rules, goals}
 use Rattle.psvn.specs.Rules.{given, rewritten}
-use Rattle.psvn.proofs.Making.{rewritten-at}
+use Rattle.psvn.specs.TwoParts.{variablesAgree}
 use Rattle.words.specs.Packing.{digit, unpack}
 use Rattle.words.specs.Code.{codeLength}
-use Rattle.words.specs.Sides.{maskAt, valueAt, keepAt, countAt, fromAt, toAt, joinMoves, rewrittenWord}
-use Rattle.words.specs.Compiled.{Sided}
+use Rattle.words.specs.Sides.{maskAt, valueAt, keepAt, countAt, fromAt, toAt, joinMoves, rewrittenWord, maskAllows}
+use Rattle.words.specs.Sides.{variablesWord}
+use Rattle.words.specs.Compiled.{Sided, Tested}
 use Rattle.compiling.specs.PlacingSides.{madeBy, Begun, SidePlaced, CountsPlaced}
 use Rattle.compiling.specs.declared.placing_sides.Side.{Side}
-use Rattle.words.proofs.WordDigits.{digit-and, same-digits, unpack-at}
+use Rattle.words.proofs.WordDigits.{digit-high}
 
 -- nothing compiled yet
 pub begun-none :
@@ -33,7 +34,8 @@ unfolding madeBy joinMoves
 begun-none n left side =
     record {
       makes = λ w k l. absurd (omega arith);
-      passes = λ w k l. absurd (omega arith);
+      constants = λ k y l. absurd (omega arith);
+      variables = λ e w. refl;
       small = λ w. rw (or-zero-r (bitAnd w 0), and-zero-r w) (lit< tt);
       small-mask = lit< tt;
       small-value = lit< tt;
@@ -65,26 +67,34 @@ module _
       tabulate-ext n (digit (rewrittenWord code x w)) (λ k. given n left (unpack n w) k (termOf (side k))) (λ k l.
       ap (λ (y : ℕ). digit y k) (made w) ∙ b .makes w k l)
 
-  itself-at :
-      (w : ℕ) → rewritten n left side (unpack n w) ≡ unpack n w
-      → (k : ℕ) → k < n → digit w k ≡ given n left (unpack n w) k (termOf (side k))
-  itself-at w e k l =
-      sym (unpack-at n w k l) ∙ ap (λ (y : List ℕ). getD y k 0) (sym e) ∙ rewritten-at n left side (unpack n w) k l
+  allows : (i y : ℕ) → maskAllows code x i y ≡ eqb (bitAnd y (digit (s .mask) i)) (digit (s .value) i)
+  allows i y = rw (t .mask-is, t .value-is)
 
-  mask : (w : ℕ) → rewritten n left side (unpack n w) ≡ unpack n w → bitAnd w (maskAt code x) ≡ valueAt code x
-  mask w e =
-      ap (bitAnd w) (t .mask-is)
-      ∙ same-digits n (bitAnd w (s .mask)) (s .value) (lt-of-le-of-lt (and-le-r w (s .mask)) (b .small-mask))
-      (b .small-value) (λ k l.
-      digit-and w (s .mask) k ∙ b .passes w k l (itself-at w e k l))
-      ∙ sym (t .value-is)
+  nothing-behind : (i y : ℕ) → n ≤ i → maskAllows code x i y ≡ true
+  nothing-behind i y l =
+      allows i y
+      ∙ eq-eqb _ _
+      (ap (bitAnd y) (digit-high n (s .mask) i (b .small-mask) l) ∙ and-zero-r y
+      ∙ sym (digit-high n (s .value) i (b .small-value) l))
+
+  variables : left ≡ side → (w : ℕ) → variablesWord code x w ≡ variablesAgree n side (unpack n w)
+  unfolding variablesWord variablesAgree
+  variables e w = rw (t .count-is, t .from-is, t .to-is) (b .variables e w)
 
   sided : Sided n left side code x
   sided =
       record {
         makes = λ w l. makes w;
         small = λ w l. rw (made w) (b .small w);
-        mask = λ w l. mask w;
+      }
+
+  tested : left ≡ side → Tested n side code x
+  tested e =
+      record {
+        sided = subst (λ (g : ℕ → ℕ). Sided n g side code x) e sided;
+        constants = λ i y l h. allows i y ∙ b .constants i y l h;
+        nothing-behind = nothing-behind;
+        variables = variables e;
       }
 
 -- one element stored, before those behind it are
@@ -133,7 +143,12 @@ module _ (code : List ℕ) (x : ℕ) (s : Side) (room : 6 * x + 6 ≤ length cod
 
   pub side-placed :
       (n : ℕ) (left side : ℕ → ℕ) → n ≤ 16 → Begun n left side s n → SidePlaced n left side x code withSide
-  side-placed n left side ln b = record { sided = sided n left side s withSide x ln b (stored .0); code = stored .1 }
+  side-placed n left side ln b =
+      record {
+        sided = sided n left side s withSide x ln b (stored .0);
+        tested = tested n left side s withSide x ln b (stored .0);
+        code = stored .1;
+      }
 
 -- the counts stored
 pub counts-placed :
@@ -150,32 +165,3 @@ counts-placed b code n r g room en er eg =
       counted = record { positions-told = first .1 ∙ en; rules-told = second .1 ∙ er; goals-told = last .1 ∙ eg };
       code = first .0;
     }
-
--- a side stays where its elements stay
-module _
-    (n : ℕ) (left side : ℕ → ℕ) (code code′ : List ℕ) (x : ℕ) (s : Sided n left side code x)
-    (same : (j : ℕ) → 6 * x ≤ j → j < 6 * x + 6 → getD code′ j 0 ≡ getD code j 0) where
-  value-same : valueAt code′ x ≡ valueAt code x
-  value-same = same (6 * x + 1) (omega arith) (omega arith)
-
-  count-same : countAt code′ x ≡ countAt code x
-  count-same = same (6 * x + 3) (omega arith) (omega arith)
-
-  made-same : (w : ℕ) → rewrittenWord code′ x w ≡ rewrittenWord code x w
-  unfolding rewrittenWord
-  made-same w =
-      rw (
-        same (6 * x + 2) (omega arith) (omega arith),
-        value-same,
-        same (6 * x + 4) (omega arith) (omega arith),
-        same (6 * x + 5) (omega arith) (omega arith),
-        count-same,
-      )
-
-  pub sided-kept : Sided n left side code′ x
-  sided-kept =
-      record {
-        makes = λ w l. ap (unpack n) (made-same w) ∙ s .makes w l;
-        small = λ w l. rw (made-same w) (s .small w l);
-        mask = λ w l e. ap (bitAnd w) (same (6 * x) (omega arith) (omega arith)) ∙ s .mask w l e ∙ sym value-same;
-      }

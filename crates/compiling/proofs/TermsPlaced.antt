@@ -4,6 +4,8 @@
 -- these.
 use mathlib.Core.Path.{_≡_, refl, sym, ap, ap₂, _∙_}
 use mathlib.Core.Logic.{_⊎_, ⊎-elim}
+use mathlib.Core.Bool.{Bool, true, _&&_}
+use mathlib.Core.List.{List}
 use Prim.Native.Nat.{ℕ, zero, suc, _+_, _*_, _%_, _^_, _≤_, _<_}
 use native.Mathlib.Nat.{eq-or-lt-of-le, lt-of-le-of-lt, lt-of-lt-of-le, mod-eq-of-lt, pow-le-pow-right, zero-lt-suc}
 use native.Mathlib.Nat.{zero-mul}
@@ -12,32 +14,57 @@ use native.Mathlib.Omega.{arith}
 use lib.Bits.{bitAnd, bitOr, and-le-r, and-zero-r, and-mask, or-comm, or-zero-r}
 use lib.Dec.{eqb, lit<}
 use lib.ListN.{getD, List·getD-eq-default}
-use Rattle.basics.specs.Bounded.{first}
+use borrow.Author.Tests.{eq-eqb}
+use Rattle.basics.specs.Bounded.{all, first}
 use Rattle.basics.proofs.Bits.{or-assoc}
+use Rattle.basics.proofs.Bounded.{all-ext, some-intro, first-holds}
+use Rattle.basics.proofs.Truth.{and-right-true}
 use Rattle.blocks.specs.Terms.{termOf}
 use Rattle.blocks.specs.declared.labels.ConcreteLabel.{ConcreteLabel}
+use Rattle.blocks.specs.declared.terms.Term.{Term}
 use Rattle.blocks.specs.declared.terms.Term.the-variants.{Label, Variable, Dash, Refused}
-use Rattle.blocks.proofs.TermCases.{label-lt}
+use Rattle.blocks.proofs.TermCases.{label-lt, variable-byte}
 use Rattle.psvn.specs.Rules.{bound, given}
+use Rattle.psvn.specs.TwoParts.{constantAllows, variableAllows, variableAgrees}
+use Rattle.psvn.proofs.MatchingLaws.{parts-at}
 use Rattle.words.specs.Packing.{digit, unpack}
-use Rattle.words.specs.Sides.{moved, joinMoves}
+use Rattle.words.specs.Sides.{moved, joinMoves, moveAgrees}
 use Rattle.compiling.specs.PlacingSides.{TakenFrom, madeBy, Begun}
 use Rattle.compiling.specs.declared.placing_sides.Side.{Side}
 use Rattle.words.proofs.WordDigits.{shifted, digit-lt, digit-and, joined-before, joined-at, joined-below, same-digits}
 use Rattle.words.proofs.WordDigits.{unpack-length, unpack-at}
 
 -- where a term takes its label from
-module _ (n : ℕ) (left : ℕ → ℕ) (i byte : ℕ) where
+module _ (n : ℕ) (left side : ℕ → ℕ) (i : ℕ) (li : i < n) where
   pub taken-variable :
-      (v from : ℕ) → termOf byte ≡ Variable v → from ≡ first n (λ j. eqb (left j) v) → TakenFrom n left i byte from
+      (v from : ℕ) → termOf (side i) ≡ Variable v → from ≡ first n (λ j. eqb (left j) v)
+      → TakenFrom n left side i from
   unfolding bound
-  taken-variable v from e f = record { label = λ s. ap (given n left s i) e ∙ ap (λ (k : ℕ). getD s k 0) (sym f) }
+  taken-variable v from e f =
+      record {
+        label = λ s. ap (given n left s i) e ∙ ap (λ (k : ℕ). getD s k 0) (sym f);
+        free = λ y. ap (λ (t : Term). constantAllows t y) e;
+        within = λ q.
+            let stands : ℕ → Bool = λ j. eqb (left j) v in
+            let here = ap (λ (g : ℕ → ℕ). g i) q ∙ sym (variable-byte (side i) v e) in
+            omega (arith, f, first-holds stands n (some-intro stands n i li (eq-eqb (left i) v here)) .0);
+      }
 
-  pub taken-dash : termOf byte ≡ Dash → TakenFrom n left i byte i
-  taken-dash e = record { label = λ s. ap (given n left s i) e }
+  -- another term, which takes it from its own position
+  taken-own : (t : Term) → ((s : List ℕ) → given n left s i t ≡ getD s i 0) → ((y : ℕ) → constantAllows t y ≡ true)
+      → termOf (side i) ≡ t → TakenFrom n left side i i
+  taken-own t gives free e =
+      record {
+        label = λ s. ap (given n left s i) e ∙ gives s;
+        free = λ y. ap (λ (t : Term). constantAllows t y) e ∙ free y;
+        within = λ q. li;
+      }
 
-  pub taken-refused : termOf byte ≡ Refused → TakenFrom n left i byte i
-  taken-refused e = record { label = λ s. ap (given n left s i) e }
+  pub taken-dash : termOf (side i) ≡ Dash → TakenFrom n left side i i
+  taken-dash = taken-own Dash (λ s. refl) (λ y. refl)
+
+  pub taken-refused : termOf (side i) ≡ Refused → TakenFrom n left side i i
+  taken-refused = taken-own Refused (λ s. refl) (λ y. refl)
 
 or-swap : (a b c : ℕ) → bitOr (bitOr a b) c ≡ bitOr (bitOr a c) b
 or-swap a b c = or-assoc a b c ∙ ap (bitOr a) (or-comm b c) ∙ sym (or-assoc a c b)
@@ -120,18 +147,40 @@ record Added (s t : Side) (i mask value : ℕ) (new : ℕ → ℕ) : Type 0 wher
   to-lt : t .to < 16 ^ t .count
   count-le : t .count ≤ i + 1
 
+-- all moves of a side agree with a word
+abbrev moves : Side → ℕ → Bool
+moves s w = all (s .count) (moveAgrees w (s .from) (s .to))
+
+-- one move more, told by a digit more of each word
+move-agrees :
+    (w from to c f g : ℕ) → from < 16 ^ c → to < 16 ^ c → f < 16 → g < 16
+    → all (c + 1) (moveAgrees w (bitOr from (f * 16 ^ c)) (bitOr to (g * 16 ^ c)))
+    ≡ (all c (moveAgrees w from to) && eqb (digit w g) (digit w f))
+move-agrees w from to c f g lf lg hf hg =
+    let from′ = bitOr from (f * 16 ^ c) in
+    let to′ = bitOr to (g * 16 ^ c) in
+    ap (λ (k : ℕ). all k (moveAgrees w from′ to′)) (add-one c)
+    ∙ ap₂ _&&_
+    (all-ext (moveAgrees w from′ to′) (moveAgrees w from to) c (λ k l.
+    ap₂ (λ (y z : ℕ). eqb (digit w z) (digit w y)) (joined-before c from f hf k l) (joined-before c to g hg k l)))
+    (ap₂ (λ (y z : ℕ). eqb (digit w z) (digit w y)) (joined-at c from f hf lf) (joined-at c to g hg lg))
+
 term-more :
     (n : ℕ) (left side : ℕ → ℕ) (s t : Side) (i mask value : ℕ) (new : ℕ → ℕ)
     → Begun n left side s i → Added s t i mask value new
     → ((w : ℕ) → new w ≡ given n left (unpack n w) i (termOf (side i)))
-    → ((w : ℕ) → digit w i ≡ given n left (unpack n w) i (termOf (side i)) → bitAnd (digit w i) mask ≡ value)
+    → ((y : ℕ) → y < 16 → eqb (bitAnd y mask) value ≡ constantAllows (termOf (side i)) y)
+    → (left ≡ side → (w : ℕ) → moves t w ≡ (moves s w && variableAgrees n side (unpack n w) i))
     → Begun n left side t (i + 1)
-term-more n left side s t i mask value new b a gives passes =
+term-more n left side s t i mask value new b a gives allows agrees =
     record {
       makes = λ w k l.
           ap (λ (y : ℕ). digit y k) (a .made-is w)
           ∙ ⊎-elim (λ e. rw e (made-at w)) (λ m. made-before w k m) (last-or-before i k l);
-      passes = λ w k l. ⊎-elim (λ e. rw e (pass-at w)) (λ m. pass-before w k m) (last-or-before i k l);
+      constants = λ k y l h. ⊎-elim (λ e. rw e (allowed-at y h)) (λ m. allowed-before k y m h) (last-or-before i k l);
+      variables = λ e w.
+          agrees e w ∙ ap (λ (x : Bool). x && variableAgrees n side (unpack n w) i) (b .variables e w)
+          ∙ ap (λ (k : ℕ). all k (variableAgrees n side (unpack n w))) (sym (add-one i));
       small = λ w. rw (a .made-is w) (joined-below i (madeBy s w) (new w) (a .new-lt w) (b .small w));
       small-mask = rw (a .mask-is) (joined-below i (s .mask) mask (a .mask-lt) (b .small-mask));
       small-value = rw (a .value-is) (joined-below i (s .value) value (a .value-lt) (b .small-value));
@@ -149,21 +198,22 @@ term-more n left side s t i mask value new b a gives passes =
         → digit (bitOr (madeBy s w) (new w * 16 ^ i)) k ≡ given n left (unpack n w) k (termOf (side k))
     made-before w k l = joined-before i (madeBy s w) (new w) (a .new-lt w) k l ∙ b .makes w k l
 
-    pass-at :
-        (w : ℕ) → digit w i ≡ given n left (unpack n w) i (termOf (side i))
-        → bitAnd (digit w i) (digit (t .mask) i) ≡ digit (t .value) i
-    pass-at w e =
-        ap (λ (y : ℕ). bitAnd (digit w i) (digit y i)) (a .mask-is)
-        ∙ ap (bitAnd (digit w i)) (joined-at i (s .mask) mask (a .mask-lt) (b .small-mask)) ∙ passes w e
-        ∙ sym (ap (λ (y : ℕ). digit y i) (a .value-is) ∙ joined-at i (s .value) value (a .value-lt) (b .small-value))
+    allowed-at :
+        (y : ℕ) → y < 16 → eqb (bitAnd y (digit (t .mask) i)) (digit (t .value) i) ≡ constantAllows (termOf (side i)) y
+    allowed-at y h =
+        ap₂ (λ (m v : ℕ). eqb (bitAnd y m) v)
+        (ap (λ (z : ℕ). digit z i) (a .mask-is) ∙ joined-at i (s .mask) mask (a .mask-lt) (b .small-mask))
+        (ap (λ (z : ℕ). digit z i) (a .value-is) ∙ joined-at i (s .value) value (a .value-lt) (b .small-value))
+        ∙ allows y h
 
-    pass-before :
-        (w k : ℕ) → k < i → digit w k ≡ given n left (unpack n w) k (termOf (side k))
-        → bitAnd (digit w k) (digit (t .mask) k) ≡ digit (t .value) k
-    pass-before w k l e =
-        ap (λ (y : ℕ). bitAnd (digit w k) (digit y k)) (a .mask-is)
-        ∙ ap (bitAnd (digit w k)) (joined-before i (s .mask) mask (a .mask-lt) k l) ∙ b .passes w k l e
-        ∙ sym (ap (λ (y : ℕ). digit y k) (a .value-is) ∙ joined-before i (s .value) value (a .value-lt) k l)
+    allowed-before :
+        (k y : ℕ) → k < i → y < 16
+        → eqb (bitAnd y (digit (t .mask) k)) (digit (t .value) k) ≡ constantAllows (termOf (side k)) y
+    allowed-before k y l h =
+        ap₂ (λ (m v : ℕ). eqb (bitAnd y m) v)
+        (ap (λ (z : ℕ). digit z k) (a .mask-is) ∙ joined-before i (s .mask) mask (a .mask-lt) k l)
+        (ap (λ (z : ℕ). digit z k) (a .value-is) ∙ joined-before i (s .value) value (a .value-lt) k l)
+        ∙ b .constants k y l h
 
 -- the side with one term more: a constant, a position that keeps its label, a move
 abbrev withConstant : Side → ℕ → ℕ → Side
@@ -208,6 +258,12 @@ one-more v i h = lt-of-lt-of-le h (pow-le-pow-right (zero-lt-suc 15) (omega arit
 
 module _
     (n : ℕ) (left side : ℕ → ℕ) (s : Side) (i : ℕ) (li : i < n) (ln : n ≤ 16) (b : Begun n left side s i) where
+  -- the variables agree as before, where the term at position i is no variable or stands there for the first time
+  same-moves :
+      (w : ℕ) → variableAgrees n side (unpack n w) i ≡ true
+      → moves s w ≡ (moves s w && variableAgrees n side (unpack n w) i)
+  same-moves w e = sym (ap (λ (x : Bool). moves s w && x) e ∙ and-right-true (moves s w))
+
   pub constant-more :
       (c : ConcreteLabel) → termOf (side i) ≡ Label c → Begun n left side (withConstant s i (c .0)) (i + 1)
   unfolding madeBy
@@ -226,7 +282,9 @@ module _
         count-le = omega (arith, b .few);
       })
       (λ w. sym (gives w))
-      (λ w e. under-ones (digit w i) (digit-lt w i) ∙ e ∙ gives w)
+      (λ y l. ap (λ (z : ℕ). eqb z (c .0)) (under-ones y l) ∙ sym (ap (λ (t : Term). constantAllows t y) h))
+      (λ e w.
+      same-moves w (ap (λ (t : Term). variableAllows n side (unpack n w) t (getD (unpack n w) i 0)) h))
     where
       low : c .0 < 16
       low = label-lt (side i) c h
@@ -245,13 +303,25 @@ module _
           ∙ joined-moves (bitOr kept (s .value)) (c .0 * 16 ^ i) w (s .from) (s .to) (s .count)
 
   -- any other term, by where it takes its label from: it adds nothing to the mask and the value
-  module _ (from : ℕ) (source : TakenFrom n left i (side i) from) where
+  module _ (from : ℕ) (source : TakenFrom n left side i from) where
+    -- the variable, if it is one, agrees where the two labels are the same
+    varies :
+        left ≡ side → (w : ℕ)
+        → variableAgrees n side (unpack n w) i ≡ eqb (getD (unpack n w) i 0) (getD (unpack n w) from 0)
+    varies e w =
+        let u = unpack n w in
+        let t = termOf (side i) in
+        let y = getD u i 0 in
+        sym (ap (λ (x : Bool). x && variableAllows n side u t y) (source .free y)) ∙ sym (parts-at n side u i t)
+        ∙ ap (eqb y) (ap (λ (g : ℕ → ℕ). given n g u i t) (sym e) ∙ source .label u)
+
     source-more :
         (t : Side) (new : ℕ → ℕ) → ((w : ℕ) → getD (unpack n w) from 0 ≡ new w) → Added s t i 0 0 new
+        → (left ≡ side → (w : ℕ) → moves t w ≡ (moves s w && variableAgrees n side (unpack n w) i))
         → Begun n left side t (i + 1)
     source-more t new gives a =
         term-more n left side s t i 0 0 new b a (λ w. sym (source .label (unpack n w) ∙ gives w))
-        (λ w e. and-zero-r (digit w i))
+        (λ y h. eq-eqb (bitAnd y 0) 0 (and-zero-r y) ∙ sym (source .free y))
 
     pub kept-more : from ≡ i → Begun n left side (withKept s i) (i + 1)
     unfolding madeBy
@@ -269,6 +339,7 @@ module _
           to-lt = b .small-to;
           count-le = omega (arith, b .few);
         })
+        (λ q w. same-moves w (varies q w ∙ eq-eqb _ _ (ap (λ (k : ℕ). getD (unpack n w) k 0) (sym e))))
       where
         keep : withKept s i .keep ≡ bitOr (s .keep) (15 * 16 ^ i)
         keep = ap (bitOr (s .keep)) (shifted 15 i (lit< tt) (omega arith))
@@ -297,6 +368,7 @@ module _
           to-lt = b .small-to;
           count-le = omega (arith, b .few);
         })
+        (λ e w. absurd (omega (arith, q, source .within e)))
 
     pub move-more : from < n → Begun n left side (withMove s i from) (i + 1)
     unfolding madeBy
@@ -314,6 +386,9 @@ module _
           to-lt = rw (at i (omega arith)) (joined-below (s .count) (s .to) i (omega arith) (b .small-to));
           count-le = omega (arith, b .few);
         })
+        (λ e w.
+        agreed w
+        ∙ ap (λ (x : Bool). moves s w && x) (sym (varies e w ∙ ap₂ eqb (unpack-at n w i li) (unpack-at n w from l))))
       where
         at : (d : ℕ) → d < 16 → d * 2 ^ (4 * s .count) % 2 ^ 64 ≡ d * 16 ^ s .count
         at d h = shifted d (s .count) h (omega (arith, b .few))
@@ -324,4 +399,11 @@ module _
             ap₂ (λ (y z : ℕ). joinMoves v w (bitOr (s .from) y) (bitOr (s .to) z) (s .count + 1))
             (at from (omega arith)) (at i (omega arith))
             ∙ move-joined v w (s .from) (s .to) (s .count) from i (b .small-from) (b .small-to) (omega arith)
+            (omega arith)
+
+        agreed : (w : ℕ) → moves (withMove s i from) w ≡ (moves s w && eqb (digit w i) (digit w from))
+        agreed w =
+            ap₂ (λ (y z : ℕ). all (s .count + 1) (moveAgrees w (bitOr (s .from) y) (bitOr (s .to) z)))
+            (at from (omega arith)) (at i (omega arith))
+            ∙ move-agrees w (s .from) (s .to) (s .count) from i (b .small-from) (b .small-to) (omega arith)
             (omega arith)

@@ -15,7 +15,7 @@ use Rattle.blocks.proofs.Accepted.{accepted-valid, valid-accepted}
 use Rattle.blocks.proofs.StateLaws.{state-length}
 use Rattle.psvn.specs.Rules.{applies, step, leads, goalMet}
 use Rattle.psvn.specs.Meaning.{Matched, Successor}
-use Rattle.psvn.proofs.Matching.{matched, matching}
+use Rattle.psvn.proofs.MatchingLaws.{matched, matching, in-two-parts}
 use Rattle.psvn.proofs.Successors.{made-successor, successor-only}
 use Rattle.psvn.proofs.Stepping.{step-length, step-state}
 use Rattle.psvn.proofs.GoalLaws.{lowest-met, none-met}
@@ -136,6 +136,7 @@ module _ (b : List ℕ) (v : Valid b) where
       record {
         rule-matches = λ r s. (matched (positions b) (leftOf b r) s, matching (positions b) (leftOf b r) s);
         goal-matches = λ g s. (matched (positions b) (goalOf b g) s, matching (positions b) (goalOf b g) s);
+        matching-parts = in-two-parts (positions b);
         goal-lowest = lowest-met b;
         goal-none = none-met b;
         successor = successor;

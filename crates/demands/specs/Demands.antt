@@ -19,6 +19,7 @@ use Rattle.blocks.specs.Layout.{positions, labels, rules, leftOf, rightOf, goal
 use Rattle.blocks.specs.Validity.{blockConditions, Valid}
 use Rattle.blocks.specs.States.{stateOk}
 use Rattle.psvn.specs.Rules.{applies, step, leads, goalMet, meets, metGoal}
+use Rattle.psvn.specs.TwoParts.{TwoParts}
 use Rattle.psvn.specs.Meaning.{Matched, Successor, LowestMet, NoneMet}
 use Rattle.psvn.specs.Runs.{reaches, totalCost}
 use Rattle.psvn.specs.Relabelling.{relabelBlock, relabelState}
@@ -144,6 +145,8 @@ pub record Demand2 (b : List ℕ) : Type 0 where
   -- hold equal labels; a dash tests nothing"; "A rule applies when its left side matches"
   pub rule-matches : (r : ℕ) (s : List ℕ) → (applies b r s ≡ true) ↔ Matched (positions b) (leftOf b r) s
   pub goal-matches : (g : ℕ) (s : List ℕ) → (goalMet b g s ≡ true) ↔ Matched (positions b) (goalOf b g) s
+  -- "all constants are to be tested before any variable" (document 02, F-3)
+  pub matching-parts : (side : ℕ → ℕ) (s : List ℕ) → TwoParts (positions b) side s
   -- "the lowest number of a met goal" (document 02, F-1), or none, and then no goal is met
   pub goal-lowest : (s : List ℕ) (g : ℕ) → metGoal b s ≡ some g → LowestMet b s g
   pub goal-none : (s : List ℕ) → metGoal b s ≡ none → NoneMet b s

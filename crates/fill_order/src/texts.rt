@@ -1,36 +1,9 @@
-// The exercises of the input: texts with an empty line behind each.
-ghost use Prim.Native.Nat.{_≤_};
-ghost use lib.ListN.{length};
+// The exercises of the input, one after another.
 use super::fills::print_fill;
 use super::fills::print_refused;
+use exercise_texts::front;
+use exercise_texts::text_end;
 use text_calls::Reading;
-
-const LINE_FEED: u8 = 10;
-
-// Where the text at a place ends: behind the first of two line feeds in a row, or where the input ends.
-fn text_end(input: &[u8], from: usize) -> usize
-    requires { ⌜ from ≤ length (now input) ⌝ }
-    ensures { λ r. ⌜ (from ≤ r) × (r ≤ length (now (input .entry))) ⌝ }
-{
-    let mut at = from;
-    while at + 1 < input.len() {
-        if input[at] == LINE_FEED {
-            if input[at + 1] == LINE_FEED {
-                return at + 1;
-            }
-        }
-        at += 1;
-    }
-    input.len()
-}
-
-// The front of a buffer, or all of it where that is shorter.
-fn front(buffer: &[u8], length: usize) -> &[u8] {
-    if length <= buffer.len() {
-        return &buffer[..length];
-    }
-    buffer
-}
 
 // Reads an exercise and prints how it was filled.
 fn print_text(text: &[u8]) {

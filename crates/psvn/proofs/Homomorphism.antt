@@ -23,7 +23,7 @@ use Rattle.blocks.proofs.TermCases.{View, label, variable, dash, refused, view,
 use Rattle.blocks.proofs.TermCases.{is-refused}
 use Rattle.blocks.proofs.Accepted.{map-below, left-side, right-side, goal-side, right-bound, side-term}
 use Rattle.blocks.proofs.StateLaws.{abstract-count-low}
-use Rattle.psvn.proofs.Matching.{at-position, at-all}
+use Rattle.psvn.proofs.MatchingLaws.{at-position, at-all}
 use Rattle.psvn.proofs.Making.{rewritten-at}
 use Rattle.psvn.proofs.Relabelled.{positions-relabelled, goals-relabelled, left-relabelled, right-relabelled}
 use Rattle.psvn.proofs.Relabelled.{goal-relabelled, relabelled-label}

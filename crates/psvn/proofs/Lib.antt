@@ -1,6 +1,6 @@
 -- The theorems on the language. Matching and applying in words, what a side makes, relabelling, the homomorphism,
 -- states that stay states, ranks, runs of rules, the goal met, exercises that differ in their maps alone.
-pub mod Matching
+pub mod MatchingLaws
 pub mod Making
 pub mod Successors
 pub mod Relabelled

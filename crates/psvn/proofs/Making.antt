@@ -1,6 +1,6 @@
 -- What a side makes of a state, its length and position by position (`rewritten-length`, `rewritten-at`,
--- `given-other`); and a state matches a side exactly where the side makes it of itself (`matches-itself`,
--- `itself-matches`). The theorems on predecessors, and matching on words, rest on these.
+-- `given-other`); and a side makes a state that matches it of itself (`matches-itself`). The theorems on predecessors,
+-- and the test of tables by sides, rest on these.
 use mathlib.Core.Path.{_≡_, sym, ap, _∙_}
 use mathlib.Core.Bool.{true}
 use mathlib.Core.List.{List}
@@ -11,7 +11,7 @@ use Rattle.basics.proofs.Lists.{length-tabulate, getD-tabulate, same-list}
 use Rattle.blocks.specs.Terms.{termOf}
 use Rattle.blocks.proofs.TermCases.{View, label, variable, dash, refused, view, is-dash, is-refused}
 use Rattle.psvn.specs.Rules.{given, matches, rewritten}
-use Rattle.psvn.proofs.Matching.{at-position, at-all}
+use Rattle.psvn.proofs.MatchingLaws.{at-position}
 
 module _ (n : ℕ) (left right : ℕ → ℕ) (u : List ℕ) where
   pub rewritten-at : (i : ℕ) → i < n → getD (rewritten n left right u) i 0 ≡ given n left u i (termOf (right i))
@@ -37,7 +37,3 @@ module _ (n : ℕ) (side : ℕ → ℕ) (s : List ℕ) where
   matches-itself e m =
       same-list n (rewritten n side side s) s (rewritten-length n side side s) e (λ i l.
       rewritten-at n side side s i l ∙ sym (at-position n side s m i l))
-
-  pub itself-matches : rewritten n side side s ≡ s → matches n side s ≡ true
-  itself-matches e =
-      at-all n side s (λ i l. ap (λ (t : List ℕ). getD t i 0) (sym e) ∙ rewritten-at n side side s i l)

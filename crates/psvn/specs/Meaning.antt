@@ -1,6 +1,6 @@
 -- What matching and applying mean, in the document's words: a state matches a side (`Matched`), is what a rule makes of
 -- another (`Successor`), meets the goal that is told (`LowestMet`, `NoneMet`, `GoalMeans`). That the definitions are
--- just these is shown in proofs/Matching, Successors and GoalLaws. Demands and promises are stated with these.
+-- just these is shown in proofs/MatchingLaws, Successors and GoalLaws. Demands and promises are stated with these.
 use mathlib.Core.Path.{_≡_}
 use mathlib.Core.Logic.{_↔_}
 use mathlib.Core.Bool.{true, false}

@@ -1,4 +1,4 @@
-// Matching, applying, and the goal that a state meets.
+// Applying, and the goal that a state meets.
 ghost use mathlib.Core.Path.{_≡_};
 ghost use Prim.Native.Nat.{_+_, _≤_, _<_};
 ghost use lib.ListN.{length};
@@ -6,9 +6,10 @@ ghost use Rattle.basics.specs.Lists.{atFront};
 ghost use Rattle.blocks.specs.Terms.{termOf};
 ghost use Rattle.blocks.specs.Layout.{positions, rules, goals, sideAt};
 ghost use Rattle.blocks.specs.Validity.{Sized};
-ghost use Rattle.psvn.specs.Rules.{given, matches, rewritten, applies, step, same, leads};
+ghost use Rattle.psvn.specs.Rules.{given, rewritten, applies, step, same, leads};
 ghost use Rattle.psvn.specs.Rules.{goalMet, metGoal, goalByte};
-use basics::first_of;
+use super::matching::label_bound;
+use super::matching::side_matches;
 use blocks::labels::ConcreteLabel;
 use blocks::layout;
 use blocks::terms::Term;
@@ -26,35 +27,10 @@ fn label_given(block: &[u8], at: usize, state: &[u8], i: usize, byte: u8) -> Con
     let term = decode(byte);
     match term {
         Term::Label(label) => label,
-        Term::Variable(v) => {
-            let j = first_of(block, at, state.len(), v);
-            if j < state.len() {
-                ConcreteLabel(state[j])
-            } else {
-                ConcreteLabel(0)
-            }
-        }
+        Term::Variable(v) => label_bound(block, at, state, v),
         Term::Dash => ConcreteLabel(state[i]),
         Term::Refused => ConcreteLabel(state[i]),
     }
-}
-
-// Whether a state matches the side at `at`.
-fn side_matches(block: &[u8], at: usize, state: &[u8]) -> bool
-    requires { ⌜ at + length (now state) ≤ length (now block) ⌝ }
-    ensures { λ r. ⌜ r ≡ matches (length (now (state .entry))) (sideAt (now (block .entry)) at) (now (state .entry)) ⌝ }
-{
-    let n = state.len();
-    let mut i = 0;
-    while i < n {
-        let byte = block[at + i];
-        let given = label_given(block, at, state, i, byte);
-        if state[i] != given.0 {
-            return false;
-        }
-        i += 1;
-    }
-    true
 }
 
 // Writes the state that the right side at `right` makes of a state under the left side at `left`, at the front of

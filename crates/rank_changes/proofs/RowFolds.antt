@@ -15,7 +15,7 @@ use Rattle.blocks.specs.Terms.{termOf}
 use Rattle.blocks.specs.declared.labels.ConcreteLabel.{ConcreteLabel}
 use Rattle.blocks.specs.declared.terms.Term.the-variants.{Label}
 use Rattle.psvn.specs.Rules.{given, matches}
-use Rattle.psvn.proofs.Matching.{at-position}
+use Rattle.psvn.proofs.MatchingLaws.{at-position}
 use Rattle.words.specs.Changes.{wordSpan}
 use Rattle.rank_changes.specs.Rows.{entry, entryOf, RowAdded, Balanced}
 use Rattle.rank_changes.specs.Folds.{RowCleared, Folded}

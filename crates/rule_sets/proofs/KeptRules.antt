@@ -1,50 +1,35 @@
--- Where only sets are written anew, the same rules agree with a label (`agreeing-kept`)
--- and the same rules are plain (`plain-kept`): both are told by the rules' left sides.
--- So a set that is written leaves the others right (`set-kept`), and the set of plain
--- rules completes them (`sets-made`). The functions that write the sets rest on these.
-use mathlib.Core.Bool.{_&&_}
-use mathlib.Core.Path.{_≡_, sym, ap, ap₂, _∙_}
+-- Where only sets are written anew, the same rules agree with a label (`agreeing-kept`) and the same rules are plain
+-- (`plain-kept`): both are told by the rules' left sides. So a set that is written leaves the others right
+-- (`set-kept`), and the set of plain rules completes them (`sets-made`). The functions that write the sets rest on
+-- these.
+use mathlib.Core.Path.{_≡_, sym, ap, _∙_}
 use mathlib.Core.List.{List}
-use Prim.Native.Nat.{ℕ, _+_, _*_, _%_, _≤_, _<_}
+use Prim.Native.Nat.{ℕ, _+_, _*_, _≤_, _<_}
 use native.Mathlib.Omega.{arith}
-use lib.Bits.{bitAnd}
 use lib.Dec.{eqb}
 use lib.ListN.{length, getD, set}
 use lib.Seq.{getD-set-same, getD-set-other}
 use Rattle.basics.specs.Parts.{Outside}
 use Rattle.basics.specs.Sets.{member}
-use Rattle.basics.proofs.Bounded.{all-ext}
 use Rattle.basics.proofs.Parts.{outside-none, outside-set}
 use Rattle.basics.proofs.SetMaking.{passing-same}
 use Rattle.words.specs.Code.{codeLength, setsPlace, plainPlace, countsPlace}
-use Rattle.words.specs.Packing.{digit}
 use Rattle.words.specs.Sides.{leftPlace}
-use Rattle.words.proofs.KeptCode.{mask-kept, value-kept, keep-kept, count-kept}
+use Rattle.words.proofs.KeptCode.{count-kept, allows-kept, side-same}
 use Rattle.rule_sets.specs.Agreeing.{agreesAt, Agreeing, Indexed}
-use Rattle.rule_sets.specs.Plain.{settledAt, plainRule, PlainRules, Sets}
+use Rattle.rule_sets.specs.Plain.{plainRule, PlainRules, Sets}
 use Rattle.rule_sets.proofs.PlainLaws.{plain-set}
 
 module _ {old new : List ℕ} (o : Outside setsPlace countsPlace old new) (rules : ℕ) (few : rules ≤ 64) where
-  agrees-kept : (i x r : ℕ) → r < rules → agreesAt new r i x ≡ agreesAt old r i x
-  agrees-kept i x r l =
-      ap₂ (λ (m v : ℕ). eqb (bitAnd x (digit m i)) (digit v i)) (mask-kept o (leftPlace r) (omega arith))
-      (value-kept o (leftPlace r) (omega arith))
-
   pub agreeing-kept : (i x s : ℕ) → Agreeing old rules i x s → Agreeing new rules i x s
   agreeing-kept i x s =
-      passing-same (λ r. agreesAt old r i x) (λ r. agreesAt new r i x) rules s (λ r l. sym (agrees-kept i x r l))
+      passing-same (λ r. agreesAt old r i x) (λ r. agreesAt new r i x) rules s (λ r l.
+      sym (allows-kept (leftPlace r) (side-same o (leftPlace r) (omega arith)) i x))
 
-  settled-kept : (r : ℕ) → r < rules → (i : ℕ) → settledAt new r i ≡ settledAt old r i
-  settled-kept r l i =
-      ap₂ (λ (k m : ℕ). eqb (digit k i + digit m i + 16 * (digit k i % 15)) 15)
-      (keep-kept o (leftPlace r) (omega arith)) (mask-kept o (leftPlace r) (omega arith))
-
-  pub plain-kept : (n s : ℕ) → PlainRules old rules n s → PlainRules new rules n s
-  plain-kept n s =
-      passing-same (plainRule old n) (plainRule new n) rules s (λ r l.
-      sym
-      (ap₂ _&&_ (ap (λ (c : ℕ). eqb c 0) (count-kept o (leftPlace r) (omega arith)))
-      (all-ext (settledAt new r) (settledAt old r) n (λ i m. settled-kept r l i))))
+  pub plain-kept : (s : ℕ) → PlainRules old rules s → PlainRules new rules s
+  plain-kept s =
+      passing-same (plainRule old) (plainRule new) rules s (λ r l.
+      sym (ap (λ (c : ℕ). eqb c 0) (count-kept (leftPlace r) (side-same o (leftPlace r) (omega arith)))))
 
 -- one of the sets is written, at j
 pub set-kept :
@@ -57,7 +42,7 @@ set-kept code rules i x m j v few a b d h =
 
 pub sets-made :
     {code : List ℕ} (rules n s : ℕ) → length code ≡ codeLength → rules ≤ 64 → n ≤ 16 → Indexed code rules n
-    → PlainRules code rules n s → Sets (set code plainPlace s) rules n
+    → PlainRules code rules s → Sets (set code plainPlace s) rules n
 sets-made {code} rules n s long few low k p =
     record {
       indexed =
@@ -69,7 +54,7 @@ sets-made {code} rules n s long few low k p =
           };
       plain =
           rw (getD-set-same code plainPlace s 0 (omega arith))
-          (plain-set rules n
+          (plain-set rules
           (plain-kept (outside-set plainPlace s (omega arith) (omega arith) (outside-none setsPlace countsPlace code))
-          rules few n s p));
+          rules few s p));
     }

@@ -35,5 +35,5 @@ module _ {b code changes : List ℕ} (k : Prepared b code changes) where
       (r w : ℕ) → r < rules b → StateWord b w → appliesWord code r w ≡ true
       → nextRanks changes r (ranksWord changes (positions b) w) w ≡ ranksWord changes (positions b) (stepWord code r w)
   ranks-after r w l g can =
-      k .changed .next r w l (g .state) (sym (applies-word (k .compiled) r w l (g .small)) ∙ can)
+      k .changed .next r w l (g .state) (sym (applies-word (k .compiled) r w l) ∙ can)
       ∙ ap (ranksOf changes (positions b)) (sym (step-word (k .compiled) r w l (g .small)))

@@ -58,13 +58,14 @@ module _ (a code weights : List ℕ) (ready : Ready a code weights) where
 
     pub rule-first : Additive (positionCount code) (labels a) (firstRank code weights (leftPlace r))
     rule-first =
-        additive-first (ready .compiled) (ready .weighted) some (leftPlace r) (leftOf a r) (leftOf a r) (ready .compiled .rule r l .left)
-        left-terms
+        additive-first (ready .compiled) (ready .weighted) some (leftPlace r) (leftOf a r) (leftOf a r)
+        (ready .compiled .rule r l .left .sided) left-terms
 
     pub rule-second : Additive (positionCount code) (labels a) (secondRank code weights (leftPlace r) (rightPlace r))
     rule-second =
-        additive-second (ready .compiled) (ready .weighted) some (leftPlace r) (leftOf a r) (leftOf a r) (ready .compiled .rule r l .left)
-        left-terms (rightPlace r) (leftOf a r) (rightOf a r) (ready .compiled .rule r l .right) right-terms
+        additive-second (ready .compiled) (ready .weighted) some (leftPlace r) (leftOf a r) (leftOf a r)
+        (ready .compiled .rule r l .left .sided) left-terms (rightPlace r) (leftOf a r) (rightOf a r)
+        (ready .compiled .rule r l .right) right-terms
 
   module _ (g : ℕ) (l : g < goals a) where
     goal-terms : (i : ℕ) → i < positions a → termOk (labels a) (termOf (goalOf a g i)) ≡ true
@@ -73,13 +74,14 @@ module _ (a code weights : List ℕ) (ready : Ready a code weights) where
 
     pub goal-first : Additive (positionCount code) (labels a) (firstRank code weights (goalPlace g))
     goal-first =
-        additive-first (ready .compiled) (ready .weighted) some (goalPlace g) (goalOf a g) (goalOf a g) (ready .compiled .goal g l)
-        goal-terms
+        additive-first (ready .compiled) (ready .weighted) some (goalPlace g) (goalOf a g) (goalOf a g)
+        (ready .compiled .goal g l .sided) goal-terms
 
     pub goal-second : Additive (positionCount code) (labels a) (secondRank code weights (goalPlace g) (goalPlace g))
     goal-second =
-        additive-second (ready .compiled) (ready .weighted) some (goalPlace g) (goalOf a g) (goalOf a g) (ready .compiled .goal g l)
-        goal-terms (goalPlace g) (goalOf a g) (goalOf a g) (ready .compiled .goal g l) goal-terms
+        additive-second (ready .compiled) (ready .weighted) some (goalPlace g) (goalOf a g) (goalOf a g)
+        (ready .compiled .goal g l .sided) goal-terms (goalPlace g) (goalOf a g) (goalOf a g)
+        (ready .compiled .goal g l .sided) goal-terms
 
   -- the word of a rank
   module _ (u : ℕ) (i : u < abstractStates a) where
@@ -153,7 +155,7 @@ module _ (a code weights : List ℕ) (ready : Ready a code weights) where
       go true e =
           let s = ready .compiled .rule r l in
           let (j, k, es, et) =
-          listed-there u i (leftPlace r) (leftOf a r) (s .left) e (rightPlace r) sources targets count h in
+          listed-there u i (leftPlace r) (leftOf a r) (s .left .sided) e (rightPlace r) sources targets count h in
           let to : targets j ≡ stepRank a u r =
           et ∙ ap (λ (z : ℕ). z % 16384) (word-leads a code weights ready u r l e)
           ∙ mod-eq-of-lt (omega (arith, v, few a code weights ready)) in
@@ -169,7 +171,8 @@ module _ (a code weights : List ℕ) (ready : Ready a code weights) where
   unfolding goalMet
   goal-listed t g l sources targets count h z u i m =
       let (j, k, es, et) =
-      listed-there u i (goalPlace g) (goalOf a g) (ready .compiled .goal g l) m (goalPlace g) sources targets count h in
+      listed-there u i (goalPlace g) (goalOf a g) (ready .compiled .goal g l .sided) m (goalPlace g) sources targets
+      count h in
       ap (λ (x : ℕ). getD t x 0) (sym es) ∙ z j k
 
 -- all rules and goals

@@ -43,12 +43,12 @@ module _ (a code weights : List ℕ) (ready : Ready a code weights) where
   module _ (u : ℕ) where
     pub word-applies : (r : ℕ) → r < rules a → appliesWord code r (wordOf a u) ≡ applies a r (unrank a u)
     word-applies r l =
-        applies-word (ready .compiled) r (wordOf a u) l (word-of-small headed u)
+        applies-word (ready .compiled) r (wordOf a u) l
         ∙ ap (applies a r) (unpack-word-of headed u)
 
     pub word-goal : meetsWord code (goals a) (wordOf a u) ≡ meets a (unrank a u)
     word-goal =
-        meets-word (ready .compiled) (wordOf a u) (word-of-small headed u)
+        meets-word (ready .compiled) (wordOf a u)
         ∙ ap (meets a) (unpack-word-of headed u)
 
     module _ (r : ℕ) (l : r < rules a) where

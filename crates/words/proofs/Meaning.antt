@@ -1,38 +1,35 @@
--- What compiled arrays mean: a rule applies to a word, and what it makes of it, as the language says of the word's
--- state (`applies-word`, `step-word`, `step-small`, `cost-word`), goals likewise (`meets-word`, `met-goal-word`), and
--- the rank of the relabelled state (`rank-word`). The words of states and of ranks hold those states (`state-word`,
--- `unpack-word-of`).
--- The tables and the search rest on these, and on `unpack-injective`.
+-- What compiled arrays mean: each part of matching, a rule applies to a word, and what it makes of it, as the language
+-- says of the word's state (`mismatch-word`, `matches-word`, `applies-word`, `step-word`, `step-small`, `cost-word`),
+-- goals likewise (`meets-word`, `met-goal-word`), and the rank of the relabelled state (`rank-word`). The words of
+-- states and of ranks hold those states (`state-word`, `unpack-word-of`). The tables and the search rest on these.
 use mathlib.Core.Path.{_≡_, refl, sym, ap, ap₂, _∙_}
 use mathlib.Core.Logic.{_⊎_, inl, inr, ⊎-elim}
-use mathlib.Core.Bool.{Bool, true, false}
+use mathlib.Core.Bool.{true, not, _&&_}
 use mathlib.Core.List.{List}
 use Prim.Native.Nat.{ℕ, zero, suc, _+_, _*_, _/_, _^_, _≤_, _<_}
 use native.Mathlib.Nat.{add-assoc}
 use native.Mathlib.Omega.{arith}
-use lib.Bits.{bitAnd}
-use lib.Dec.{eqb}
 use lib.ListN.{getD}
-use borrow.Author.Tests.{eq-eqb, eqb-true}
-use Rattle.basics.proofs.Truth.{true-false, and-true, and-intro, not-so}
-use Rattle.basics.proofs.Bounded.{some-ext, find-ext}
+use Rattle.basics.proofs.Bounded.{all-past, all-ext, some-ext, find-past, find-ext}
 use Rattle.basics.proofs.Comparing.{same?}
+use Rattle.blocks.specs.Terms.{termOf}
 use Rattle.blocks.specs.Layout.{positions, rules, goals, labelCount, abstractCount, costOf, goalOf}
 use Rattle.blocks.specs.Validity.{Headed}
 use Rattle.blocks.specs.States.{stateOk}
 use Rattle.blocks.proofs.StateLaws.{labelled-length, labelled-at, state-length, state-label, abstract-count-low}
 use Rattle.blocks.proofs.StateLaws.{label-below}
 use Rattle.psvn.specs.Rules.{matches, applies, step, goalMet, meets, metGoal}
+use Rattle.psvn.specs.TwoParts.{constantAllows, constantAgrees, constantsAgree, constantMismatch}
 use Rattle.psvn.specs.Relabelling.{relabelState}
 use Rattle.psvn.specs.Ranks.{rank, unrank}
-use Rattle.psvn.proofs.Making.{matches-itself, itself-matches}
+use Rattle.psvn.proofs.MatchingLaws.{two-parts}
 use Rattle.psvn.proofs.RankLaws.{unrank-abstract}
 use Rattle.words.specs.Packing.{digit, digitPair, pack, unpack}
-use Rattle.words.specs.Sides.{maskAt, valueAt, goalPlace, rewrittenWord, matchesWord, appliesWord, stepWord}
-use Rattle.words.specs.Sides.{costWord, meetsWord, metGoalWord}
+use Rattle.words.specs.Sides.{goalPlace, constantAgreesWord, constantsWord, mismatchWord, matchesWord}
+use Rattle.words.specs.Sides.{appliesWord, stepWord, costWord, meetsWord, metGoalWord}
 use Rattle.words.specs.Ranking.{rankPairs, rankWord, wordOf, weightOf}
-use Rattle.words.specs.Compiled.{Sided, Weighted, Compiled}
-use Rattle.words.proofs.WordDigits.{Small, digit-lt, pack-below, unpack-pack, unpack-injective, unpack-length}
+use Rattle.words.specs.Compiled.{Tested, Weighted, Compiled}
+use Rattle.words.proofs.WordDigits.{Small, digit-lt, pack-below, unpack-pack}
 use Rattle.words.proofs.WordDigits.{unpack-at}
 use Rattle.words.proofs.WordRanks.{labelsRank, labels-rank}
 
@@ -40,32 +37,39 @@ use Rattle.words.proofs.WordRanks.{labelsRank, labels-rank}
 even-or-odd : (n : ℕ) → (2 * (n / 2) ≡ n) ⊎ (suc (2 * (n / 2)) ≡ n)
 even-or-odd n = ⊎-elim (λ e. inl e) (λ d. inr (omega arith)) (same? (2 * (n / 2)) n)
 
--- a side of its own: a word matches it as the word's state does
-matches-word :
-    (n : ℕ) (side : ℕ → ℕ) (code : List ℕ) (x : ℕ) → Sided n side side code x
-    → (w : ℕ) → w < 16 ^ n → matchesWord code x w ≡ matches n side (unpack n w)
-unfolding matchesWord
-matches-word n side code x s w l = go (matches n side (unpack n w)) refl
-  where
-    go : (t : Bool) → matches n side (unpack n w) ≡ t → matchesWord code x w ≡ matches n side (unpack n w)
-    go true e =
-        let self = matches-itself n side (unpack n w) (unpack-length n w) e in
-        and-intro (eqb (bitAnd w (maskAt code x)) (valueAt code x)) (eqb (rewrittenWord code x w) w)
-        (eq-eqb _ _ (s .mask w l self))
-        (eq-eqb _ _ (unpack-injective n (rewrittenWord code x w) w (s .small w l) l (s .makes w l ∙ self)))
-        ∙ sym e
-    go false e =
-        not-so (matchesWord code x w) (λ q.
-        let same =
-        eqb-true (rewrittenWord code x w) w (and-true (eqb (bitAnd w (maskAt code x)) (valueAt code x)) _ q .1) in
-        true-false (itself-matches n side (unpack n w) (sym (s .makes w l) ∙ ap (unpack n) same)) e)
-        ∙ sym e
+-- a side that tests: each part of matching on words is that of the language on the word's state
+module _ {n : ℕ} {side : ℕ → ℕ} {code : List ℕ} {x : ℕ} (few : n ≤ 16) (t : Tested n side code x) (w : ℕ) where
+  constant-word : (i : ℕ) → i < n → constantAgreesWord code x w i ≡ constantAgrees side (unpack n w) i
+  constant-word i l =
+      t .constants i (digit w i) l (digit-lt w i) ∙ ap (constantAllows (termOf (side i))) (sym (unpack-at n w i l))
+
+  -- the first one
+  pub mismatch-word : mismatchWord code x w ≡ constantMismatch n side (unpack n w)
+  unfolding mismatchWord constantMismatch
+  mismatch-word =
+      find-past (λ i. not (constantAgreesWord code x w i)) 16 n few (λ i l m.
+      ap not (t .nothing-behind i (digit w i) l))
+      ∙ find-ext (λ i. not (constantAgreesWord code x w i)) (λ i. not (constantAgrees side (unpack n w) i)) n (λ i l.
+      ap not (constant-word i l))
+
+  constants-word : constantsWord code x w ≡ constantsAgree n side (unpack n w)
+  unfolding constantsWord constantsAgree
+  constants-word =
+      all-past (constantAgreesWord code x w) 16 n few (λ i l m. t .nothing-behind i (digit w i) l)
+      ∙ all-ext (constantAgreesWord code x w) (constantAgrees side (unpack n w)) n constant-word
+
+  -- both
+  pub matches-word : matchesWord code x w ≡ matches n side (unpack n w)
+  unfolding matchesWord
+  matches-word = ap₂ _&&_ constants-word (t .variables w) ∙ sym (two-parts n side (unpack n w))
 
 module _ {b code : List ℕ} (c : Compiled b code) where
-  pub applies-word :
-      (r w : ℕ) → r < rules b → w < 16 ^ positions b → appliesWord code r w ≡ applies b r (unpack (positions b) w)
+  few : positions b ≤ 16
+  few = c .valid .sized .headed .sizes .n-high
+
+  pub applies-word : (r w : ℕ) → r < rules b → appliesWord code r w ≡ applies b r (unpack (positions b) w)
   unfolding applies
-  applies-word r w lr l = matches-word (positions b) _ code _ (c .rule r lr .left) w l
+  applies-word r w lr = matches-word few (c .rule r lr .left) w
 
   pub step-word :
       (r w : ℕ) → r < rules b → w < 16 ^ positions b
@@ -79,20 +83,19 @@ module _ {b code : List ℕ} (c : Compiled b code) where
   pub cost-word : (r : ℕ) → r < rules b → costWord code r ≡ costOf b r
   cost-word r lr = c .rule r lr .cost
 
-  pub meets-word : (w : ℕ) → w < 16 ^ positions b → meetsWord code (goals b) w ≡ meets b (unpack (positions b) w)
+  pub meets-word : (w : ℕ) → meetsWord code (goals b) w ≡ meets b (unpack (positions b) w)
   unfolding meets goalMet
-  meets-word w l =
+  meets-word w =
       some-ext (λ g. matchesWord code (goalPlace g) w)
       (λ g. matches (positions b) (goalOf b g) (unpack (positions b) w)) (goals b) (λ g lg.
-      matches-word (positions b) (goalOf b g) code (goalPlace g) (c .goal g lg) w l)
+      matches-word few (c .goal g lg) w)
 
-  pub met-goal-word :
-      (w : ℕ) → w < 16 ^ positions b → metGoalWord code (goals b) w ≡ metGoal b (unpack (positions b) w)
+  pub met-goal-word : (w : ℕ) → metGoalWord code (goals b) w ≡ metGoal b (unpack (positions b) w)
   unfolding metGoalWord metGoal goalMet
-  met-goal-word w l =
+  met-goal-word w =
       find-ext (λ g. matchesWord code (goalPlace g) w)
       (λ g. matches (positions b) (goalOf b g) (unpack (positions b) w)) (goals b) (λ g lg.
-      matches-word (positions b) (goalOf b g) code (goalPlace g) (c .goal g lg) w l)
+      matches-word few (c .goal g lg) w)
 
 module _ {b weights : List ℕ} (t : Weighted b weights) where
   module _ (w : ℕ) (ok : stateOk b (unpack (positions b) w) ≡ true) where

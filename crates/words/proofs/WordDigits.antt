@@ -1,5 +1,5 @@
--- Base-16 words: the digits of a byte (`pair-byte`), of `&`, `|` and of one digit at its place, and that a word of n
--- labels is told by its first n digits (`same-digits`); packing and unpacking undo one another (`unpack-pack`,
+-- Base-16 words: the digits of a byte (`pair-byte`), of `&`, `|`, `^` and of one digit at its place, and that a word of
+-- n labels is told by its first n digits (`same-digits`); packing and unpacking undo one another (`unpack-pack`,
 -- `pack-unpack`). The functions on words, compiling and what compiled arrays mean rest on these.
 use mathlib.Core.Path.{_≡_, refl, sym, ap, ap₂, _∙_}
 use mathlib.Core.List.{List, [], _∷_, _++_}
@@ -9,7 +9,7 @@ use native.Mathlib.Nat.{mul-mod-left, mul-assoc, mul-one, mod-lt, mod-eq-of-lt, 
 use native.Mathlib.Nat.{lt-of-lt-of-le, le-of-suc-le-suc, not-suc-le-zero, zero-add, add-zero, suc-add, add-suc}
 use native.Mathlib.Omega.{arith}
 use lib.Arith.{digits-lt, digits-div, digits-mod}
-use lib.Bits.{bitAnd, bitOr, and-shr, and-mod, or-shr, or-mod, or-lt, or-zero-l, or-zero-r}
+use lib.Bits.{bitAnd, bitOr, bitXor, and-shr, and-mod, or-shr, or-mod, xor-shr, xor-mod, or-lt, or-zero-l, or-zero-r}
 use lib.Dec.{lit<}
 use lib.Pow.{pow-add, shl-exact}
 use lib.ListN.{length, getD}
@@ -53,6 +53,10 @@ unfolding digit
 digit-next w i =
     ap (λ (x : ℕ). w / x % 16) (pow-succ' 16 i) ∙ ap (λ (x : ℕ). x % 16) (sym (div-div-eq-div-mul w 16 (16 ^ i)))
 
+-- the digits from j on, without the first of them
+pub digits-rest : (v j : ℕ) → v / 16 ^ j / 16 ≡ v / 16 ^ suc j
+digits-rest v j = div-div-eq-div-mul v (16 ^ j) 16 ∙ ap (λ (x : ℕ). v / x) (sym (pow-suc 16 j))
+
 -- a byte of the word is a pair of its digits
 pub pair-byte : (w j : ℕ) → w / 256 ^ j % 256 ≡ digitPair w j
 unfolding digitPair digit
@@ -77,20 +81,26 @@ unfolding digit
 digit-high n w k l h =
     ap (λ (x : ℕ). x % 16) (div-eq-of-lt (lt-of-lt-of-le l (pow-le-pow-right (zero-lt-suc 15) h)))
 
--- the digits of `&` and `|`
+-- the digits of `&`, `|` and `^`
 pub digit-and : (v w i : ℕ) → digit (bitAnd v w) i ≡ bitAnd (digit v i) (digit w i)
 digit-and v w i =
     sym (digit-shift (bitAnd v w) i) ∙ ap (λ (x : ℕ). x % 16) (and-shr v w (4 * i))
     ∙ and-mod (v / 2 ^ (4 * i)) (w / 2 ^ (4 * i)) 4
     ∙ ap₂ bitAnd (digit-shift v i) (digit-shift w i)
 
-pub digit-or : (v w i : ℕ) → digit (bitOr v w) i ≡ bitOr (digit v i) (digit w i)
+digit-or : (v w i : ℕ) → digit (bitOr v w) i ≡ bitOr (digit v i) (digit w i)
 digit-or v w i =
     sym (digit-shift (bitOr v w) i) ∙ ap (λ (x : ℕ). x % 16) (or-shr v w (4 * i))
     ∙ or-mod (v / 2 ^ (4 * i)) (w / 2 ^ (4 * i)) 4
     ∙ ap₂ bitOr (digit-shift v i) (digit-shift w i)
 
-pub or-below : (n v w : ℕ) → v < 16 ^ n → w < 16 ^ n → bitOr v w < 16 ^ n
+pub digit-xor : (v w i : ℕ) → digit (bitXor v w) i ≡ bitXor (digit v i) (digit w i)
+digit-xor v w i =
+    sym (digit-shift (bitXor v w) i) ∙ ap (λ (x : ℕ). x % 16) (xor-shr v w (4 * i))
+    ∙ xor-mod (v / 2 ^ (4 * i)) (w / 2 ^ (4 * i)) 4
+    ∙ ap₂ bitXor (digit-shift v i) (digit-shift w i)
+
+or-below : (n v w : ℕ) → v < 16 ^ n → w < 16 ^ n → bitOr v w < 16 ^ n
 or-below n v w a b =
     let e = pow-16 n in
     rw e (or-lt (4 * n) v w (rw e at a) (rw e at b))

@@ -1,14 +1,15 @@
 -- Sides compiled for words, as the arrays hold them: what a side makes of a word (`rewrittenWord`), whether a word
--- matches it (`matchesWord`), and so a rule's test, its result and its cost, and the goal met. Where a side stands
--- in the arrays is defined here; `compiling` and `rule_sets` know it too, and other crates name a side by its number.
+-- matches it, in two parts (`mismatchWord`, `variablesWord`; `matchesWord`), and so a rule's test, its result and its
+-- cost, and the goal met. Where a side stands in the arrays is defined here; `compiling` knows it too, and other
+-- crates name a side by its number.
 use Prim.Native.Nat.{ℕ, zero, suc, _+_, _*_, _%_, _^_}
-use mathlib.Core.Bool.{Bool, _&&_}
+use mathlib.Core.Bool.{Bool, not, _&&_}
 use mathlib.Core.List.{List, [], _∷_}
 use mathlib.Core.Option.{Option}
 use lib.Dec.{eqb}
 use lib.Bits.{bitAnd, bitOr}
 use lib.ListN.{getD}
-use Rattle.basics.specs.Bounded.{some, find}
+use Rattle.basics.specs.Bounded.{all, some, find}
 use Rattle.words.specs.Packing.{digit}
 
 -- where the sides of rule r stand, and goal g
@@ -56,13 +57,31 @@ unfoldable pub rewrittenWord : List ℕ → ℕ → ℕ → ℕ
 rewrittenWord code x w =
     joinMoves (bitOr (bitAnd w (keepAt code x)) (valueAt code x)) w (fromAt code x) (toAt code x) (countAt code x)
 
--- a word has the constants of the side at place x
-abbrev pub constantsWord : List ℕ → ℕ → ℕ → Bool
-constantsWord code x w = eqb (bitAnd w (maskAt code x)) (valueAt code x)
+-- the first part of matching: a label may stand at position i, as far as the constants of the side at place x go; no
+-- constant differs from a word's label there, and none at all; "the lowest position whose constant differs", or none
+abbrev pub maskAllows : List ℕ → ℕ → ℕ → ℕ → Bool
+maskAllows code x i y = eqb (bitAnd y (digit (maskAt code x) i)) (digit (valueAt code x) i)
 
--- it has them, and the side makes the word itself
+abbrev pub constantAgreesWord : List ℕ → ℕ → ℕ → ℕ → Bool
+constantAgreesWord code x w i = maskAllows code x i (digit w i)
+
+unfoldable pub constantsWord : List ℕ → ℕ → ℕ → Bool
+constantsWord code x w = all 16 (constantAgreesWord code x w)
+
+unfoldable pub mismatchWord : List ℕ → ℕ → ℕ → Option ℕ
+mismatchWord code x w = find 16 (λ i. not (constantAgreesWord code x w i))
+
+-- the second part: a word has the same label where a move writes and where it reads, by two words that tell the
+-- positions; and so for each move of the side at place x, which is where one of its variables stands again
+abbrev pub moveAgrees : ℕ → ℕ → ℕ → ℕ → Bool
+moveAgrees w from to j = eqb (digit w (digit to j)) (digit w (digit from j))
+
+unfoldable pub variablesWord : List ℕ → ℕ → ℕ → Bool
+variablesWord code x w = all (countAt code x) (moveAgrees w (fromAt code x) (toAt code x))
+
+-- a word matches the side at place x
 unfoldable pub matchesWord : List ℕ → ℕ → ℕ → Bool
-matchesWord code x w = constantsWord code x w && eqb (rewrittenWord code x w) w
+matchesWord code x w = constantsWord code x w && variablesWord code x w
 
 -- rule r applies to a word; the word it makes; its cost
 abbrev pub appliesWord : List ℕ → ℕ → ℕ → Bool

@@ -1,10 +1,10 @@
-// Matching and applying on words, by the sides of a compiled block (see `code`): the sides of rule r stand at the
-// places 2 * r and 2 * r + 1, goal g at 128 + g.
+// Applying and goals on words, by the sides of a compiled block (see `code`): the sides of rule r stand at the places
+// 2 * r and 2 * r + 1, goal g at 128 + g.
 ghost use mathlib.Core.Path.{_≡_};
 ghost use Prim.Native.Nat.{_%_, _≤_, _<_};
 ghost use Rattle.psvn.specs.Rules.{goalByte};
-ghost use Rattle.words.specs.Sides.{moved, rewrittenWord, constantsWord, matchesWord, appliesWord};
-ghost use Rattle.words.specs.Sides.{stepWord, meetsWord, metGoalWord, costWord};
+ghost use Rattle.words.specs.Sides.{moved, rewrittenWord, appliesWord, stepWord, costWord, meetsWord};
+ghost use Rattle.words.specs.Sides.{metGoalWord};
 use super::code::COSTS;
 use super::code::Code;
 use super::code::FIRST_GOAL;
@@ -14,6 +14,7 @@ use super::code::MOVES;
 use super::code::SIDE;
 use super::code::TO;
 use super::code::VALUE;
+use super::matching::matches_word;
 use super::packing::digit;
 use psvn::rules::NO_GOAL;
 
@@ -41,25 +42,6 @@ pub fn rewritten_word(code: &Code, x: usize, word: u64) -> u64
         left -= 1;
     }
     made
-}
-
-// Whether a word has the constants of the side at place x: one comparison.
-fn constants_word(code: &Code, x: usize, word: u64) -> bool
-    requires { ⌜ x < 136 ⌝ }
-    ensures { λ r. ⌜ r ≡ constantsWord (now (code .entry)) x word ⌝ }
-{
-    word & code[SIDE * x] == code[SIDE * x + VALUE]
-}
-
-// Whether a word matches the side at place x. Most fail on a constant, so these come first.
-fn matches_word(code: &Code, x: usize, word: u64) -> bool
-    requires { ⌜ x < 136 ⌝ }
-    ensures { λ r. ⌜ r ≡ matchesWord (now (code .entry)) x word ⌝ }
-{
-    if constants_word(code, x, word) {
-        return rewritten_word(code, x, word) == word;
-    }
-    false
 }
 
 // Whether rule r applies to a word.

@@ -79,7 +79,7 @@ returns c =
     let sets = c .before .before .before .before .before .place-sets .ensures in
     let p = packed c in (
       record {
-        compiled = compiled-kept (compile-from-changes c .compile .ensures .0) (sets .1);
+        compiled = compiled-kept (sets .1) (compile-from-changes c .compile .ensures .0);
         rule-sets =
             rw (← positions-from-changes c .before .rules .ensures .0, ← positions-from-changes c .positions .ensures .0)
             (sets .0);

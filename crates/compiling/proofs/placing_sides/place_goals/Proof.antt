@@ -1,6 +1,6 @@
 -- `compiling::placing_sides::place_goals` meets its contract.
 -- The loop's invariant: the goals passed are placed, and nothing but places of goals is written.
-use mathlib.Core.Path.{_≡_, _∙_}
+use mathlib.Core.Path.{_≡_, refl, _∙_}
 use Prim.Native.Nat.{ℕ, _≤_, _<_, _-_, _*_}
 use native.Mathlib.Omega.{arith}
 use denote.Ref.{now}
@@ -10,7 +10,7 @@ use Rattle.basics.proofs.Parts.{outside-none, outside-then, outside-within}
 use Rattle.blocks.specs.Layout.{positions, goals, goalOf}
 use Rattle.blocks.proofs.Offsets.{goal-inside}
 use Rattle.words.specs.Sides.{goalPlace}
-use Rattle.words.specs.Compiled.{Sided}
+use Rattle.words.specs.Compiled.{Tested}
 use Rattle.compiling.proofs.RulesPlaced.{placed-as, goal-kept}
 use borrow.Author.Needs.{needs}
 use Rattle.compiling.proofs.placing_sides.place_goals.Statement.{statement}
@@ -19,7 +19,7 @@ use Rattle.compiling.proofs.placing_sides.place_goals.Tie as tie
 abbrev Inv-loop : tie.InvT-loop
 Inv-loop block code₀ n count g₀ code g =
     (n ≡ positions block) × (count ≡ goals block) × (g ≤ count) × Outside (6 * goalPlace 0) (6 * goalPlace 8) code₀ code
-    × ((k : ℕ) → k < g → Sided (positions block) (goalOf block k) (goalOf block k) code (goalPlace k))
+    × ((k : ℕ) → k < g → Tested (positions block) (goalOf block k) code (goalPlace k))
 
 abbrev μ-loop : tie.MeasureT-loop
 μ-loop block code₀ n count g₀ code g = count - g
@@ -83,7 +83,7 @@ loop-again c =
       inv .1,
       search needs,
       outside-then (inv .3) (outside-within (6 * goalPlace 0) (6 * goalPlace 8) (omega arith) (omega arith) (p .code)),
-      below-more _ _ (λ k l. goal-kept g k l p (inv .4 k l)) (p .sided),
+      below-more _ _ (λ k l. goal-kept g k l p (inv .4 k l)) (p .tested refl),
     )
 
 returns : tie.Need-returns Inv-loop μ-loop

@@ -81,7 +81,7 @@ returns-2 c =
     let e = sym (decode-from-with-source c .decode .ensures) ∙ c .before .before .before .term2 .given .1 in
     let first = c .before .first-of in
     c .with-source .ensures .begun left side
-    (taken-variable (a .n) left (a .i) (side (a .i)) _ (first .result) e (first .ensures)) (h .1)
+    (taken-variable (a .n) left side (a .i) (h .0 .3) _ (first .result) e (first .ensures)) (h .1)
 
 returns-3 : tie.Need-returns-3
 returns-3 c =
@@ -90,7 +90,7 @@ returns-3 c =
     let left = sideAt (now (a .bytes)) (a .left) in
     let side = sideAt (now (a .bytes)) (a .side) in
     let e = sym (c .before .before .before .decode .ensures) ∙ c .before .enum-told .given .1 in
-    c .with-source2 .ensures .begun left side (taken-dash (a .n) left (a .i) (side (a .i)) e) (h .1)
+    c .with-source2 .ensures .begun left side (taken-dash (a .n) left side (a .i) (h .0 .3) e) (h .1)
 
 returns-4 : tie.Need-returns-4
 returns-4 c =
@@ -99,7 +99,7 @@ returns-4 c =
     let left = sideAt (now (a .bytes)) (a .left) in
     let side = sideAt (now (a .bytes)) (a .side) in
     let e = sym (c .before .before .before .decode .ensures) ∙ c .before .enum-told2 .given .1 in
-    c .with-source3 .ensures .begun left side (taken-refused (a .n) left (a .i) (side (a .i)) e) (h .1)
+    c .with-source3 .ensures .begun left side (taken-refused (a .n) left side (a .i) (h .0 .3) e) (h .1)
 
 pub with-term-spec : {M : Type 1} → statement M
 with-term-spec =

@@ -128,7 +128,7 @@ applies-in-requires c κs =
     let k = s .pre .0 .0 in (
       omega (arith, rules-low k, s .pre .1 .0),
       s .pre .1 .1,
-      k .given .ready .rule-sets .plain .makes _ _ (k .good .small) (s .pre .1 .1),
+      k .given .ready .rule-sets .plain,
     )
 
 returns : tie.Need-returns

@@ -2,13 +2,14 @@
 -- The loop's invariant: what is kept, the constants, and the first j moves; the digits of further moves are left.
 use mathlib.Core.Path.{_≡_, refl, sym, ap, ap₂, _∙_}
 use Prim.Native.Nat.{ℕ, suc, _≤_, _/_, _%_, _-_, _^_}
-use native.Mathlib.Nat.{div-one, div-div-eq-div-mul, pow-suc}
+use native.Mathlib.Nat.{div-one}
 use native.Mathlib.Omega.{arith}
 use denote.Ref.{now}
 use mathlib.Core.List.{List}
 use lib.Bits.{bitAnd, bitOr}
 use Rattle.words.specs.Packing.{digit}
 use Rattle.words.specs.Sides.{valueAt, keepAt, countAt, fromAt, toAt, moved, joinMoves, rewrittenWord}
+use Rattle.words.proofs.WordDigits.{digits-rest}
 use borrow.Author.Needs.{needs}
 use Rattle.words.proofs.sides.rewritten_word.Statement.{statement}
 use Rattle.words.proofs.sides.rewritten_word.Tie as tie
@@ -30,10 +31,6 @@ abbrev μ-loop : tie.MeasureT-loop
 abbrev start-from-left : tie.After-left Inv-loop μ-loop → tie.Start Inv-loop μ-loop
 start-from-left c = c .before .before .before .before .before
 
--- the digits left, without the first one
-rest : (v j : ℕ) → v / 16 ^ j / 16 ≡ v / 16 ^ suc j
-rest v j = div-div-eq-div-mul v (16 ^ j) 16 ∙ ap (λ (x : ℕ). v / x) (sym (pow-suc 16 j))
-
 -- one move more
 joined-more :
     (code : List ℕ) (x word made from to label j : ℕ) → Joined code x word made from to j
@@ -42,8 +39,8 @@ joined-more :
 unfolding joinMoves digit
 joined-more code x word made from to label j k e = (
   ap₂ bitOr (k .0) (e ∙ ap₂ (λ (y z : ℕ). moved word (y % 16) (z % 16)) (k .1) (k .2)),
-  ap (λ (y : ℕ). y / 16) (k .1) ∙ rest (fromAt code x) j,
-  ap (λ (y : ℕ). y / 16) (k .2) ∙ rest (toAt code x) j,
+  ap (λ (y : ℕ). y / 16) (k .1) ∙ digits-rest (fromAt code x) j,
+  ap (λ (y : ℕ). y / 16) (k .2) ∙ digits-rest (toAt code x) j,
 )
 
 mul-at : tie.Need-mul-at Inv-loop μ-loop
