@@ -1,5 +1,6 @@
 /* Runs the library, the tuned engine, the plain engine and the generated engine on the same inputs in turns, compares
- * every answer, and prints the medians and their ratios; then the library's searches with further maps. */
+ * every answer, and prints the medians and their ratios; then the searches of batches, where the library's single calls
+ * run too, and the library's searches with further maps. */
 #define _POSIX_C_SOURCE 200809L
 
 #include "engine.h"
@@ -10,19 +11,20 @@
 #include <string.h>
 #include <time.h>
 
-enum { ENGINES = 4, MOST_TASKS = 40, MOST_ROUNDS = 101, USUAL_ROUNDS = 7 };
+enum { ENGINES = 5, MOST_TASKS = 40, MOST_ROUNDS = 101, USUAL_ROUNDS = 7 };
 
-/* The library stands first: the others are compared with it, in their answers and in their times. */
-static const struct engine *const engines[ENGINES] = {&library_engine, &tuned_engine, &plain_engine,
-                                                      &generated_engine};
-enum { TUNED = 1 };
+/* The library stands first: the others are compared with it, in their answers and in their times. Its single calls
+ * stand last, since they have columns for batches alone. */
+static const struct engine *const engines[ENGINES] = {&library_engine, &tuned_engine, &plain_engine, &generated_engine,
+                                                      &single_engine};
+enum { TUNED = 1, SINGLE = ENGINES - 1 };
 
 /* A short call is repeated until it takes about this long, in seconds, so that the clock's grain does not count. */
 static const double LONG_ENOUGH = 0.02;
 
 /* ---- tasks ---- */
 
-enum action { READ, CHECK, FILL, TEST, FIND };
+enum action { READ, CHECK, FILL, TEST, FIND, FIND_BATCH };
 
 /* What is measured: an action on an input, and the time of one call by each engine in each round. A search by a number
  * of maps is the library's alone; that number is 0 for all else. */
@@ -32,6 +34,7 @@ struct task {
   enum action action;
   struct input input;
   struct query query;
+  struct query_batch batch;
   unsigned map_count;
   const uint8_t *maps;
   size_t maps_length;
@@ -49,7 +52,7 @@ struct outcome {
   bool passes;
   size_t length;
   struct answer answer;
-  uint8_t bytes[MOST_BLOCK];
+  uint8_t bytes[BATCH_ANSWERS];
   uint32_t table[MOST_ENTRIES];
 };
 
@@ -72,6 +75,7 @@ static bool has_call(const struct engine *engine, enum action action) {
     case TEST:
       return engine->test;
     case FIND:
+    case FIND_BATCH:
       return engine->find;
   }
   return false;
@@ -79,7 +83,29 @@ static bool has_call(const struct engine *engine, enum action action) {
 
 /* Whether an engine can perform a task; where it cannot, it is left out. */
 static bool can_perform(const struct engine *engine, const struct task *task) {
-  return task->map_count == 0 ? has_call(engine, task->action) : engine == engines[0];
+  if (task->map_count > 0) return engine == engines[0];
+  if (engine == engines[SINGLE]) return task->action == FIND_BATCH;
+  return has_call(engine, task->action);
+}
+
+/* Finds the plans of a batch: the library in one call. The others are asked one query a call, and their answers are
+ * written as the library writes its own; what an engine prepares for the first query serves all where it can. */
+static size_t find_batch(const struct engine *engine, const struct task *task, uint8_t *answers) {
+  const struct input *in = &task->input;
+  const struct query_batch *batch = &task->batch;
+  if (engine == engines[0]) {
+    return library_find_batch(in->block, in->length, batch->records, batch->length, task->table, answers,
+                              BATCH_ANSWERS);
+  }
+  for (unsigned q = 0; q < BATCH_SIZE; q++) {
+    uint8_t plan[MOST_STEPS];
+    const struct query *query = &batch->queries[q];
+    bool prepared = q > 0 && engine->find_again;
+    struct answer answer = prepared ? engine->find_again(in->block, in->length, query, task->table, plan)
+                                    : engine->find(in->block, in->length, query, task->table, plan);
+    write_answer(answers + q * ANSWER_LENGTH, &answer, plan);
+  }
+  return BATCH_ANSWERS;
 }
 
 static inline void perform(const struct engine *engine, const struct task *task, struct outcome *outcome) {
@@ -102,6 +128,9 @@ static inline void perform(const struct engine *engine, const struct task *task,
                             ? engine->find(in->block, in->length, &task->query, task->table, outcome->bytes)
                             : library_find_by_maps(in->block, in->length, task->maps, task->maps_length, &task->query,
                                                    task->table, outcome->bytes);
+      break;
+    case FIND_BATCH:
+      outcome->length = find_batch(engine, task, outcome->bytes);
       break;
   }
 }
@@ -283,6 +312,14 @@ static void add_searches_by_maps(void) {
   }
 }
 
+static void add_batches(void) {
+  for (unsigned k = 0; k < SEARCHES; k++) {
+    struct task *task = add_task("search of a batch", search_inputs[k].title, FIND_BATCH);
+    make_batch(&search_inputs[k], &task->input, &task->batch);
+    fill_table(task);
+  }
+}
+
 static void add_fills(void) {
   const char *heading = "fill, us";
   make_counter(&add_task(heading, "counter", FILL)->input, false);
@@ -335,26 +372,51 @@ static void print_ratio(const struct task *task, unsigned e, unsigned rounds) {
   }
 }
 
-static void print_task(const struct task *task, const struct outcome *outcome, unsigned rounds) {
-  double unit = task->action == FIND ? outcome->answer.visits * 1e-9 : 1e-6;
+/* The head of a table that has columns for so many engines, and the row of a task in it. */
+static void print_head(const char *heading, unsigned columns) {
+  printf("%-20s", heading);
+  for (unsigned e = 0; e < columns; e++) printf(" %10s", engines[e]->name);
+  for (unsigned e = 1; e < columns; e++) printf(" %s/%s", engines[0]->name, engines[e]->name);
+  printf("\n");
+}
+
+static void print_row(const struct task *task, unsigned columns, unsigned rounds, double unit) {
   printf("  %-18s", task->name);
-  for (unsigned e = 0; e < ENGINES; e++) print_time(task, e, rounds, unit);
-  for (unsigned e = 1; e < ENGINES; e++) print_ratio(task, e, rounds);
+  for (unsigned e = 0; e < columns; e++) print_time(task, e, rounds, unit);
+  for (unsigned e = 1; e < columns; e++) print_ratio(task, e, rounds);
+}
+
+static void print_task(const struct task *task, const struct outcome *outcome, unsigned rounds) {
+  print_row(task, SINGLE, rounds, task->action == FIND ? outcome->answer.visits * 1e-9 : 1e-6);
   if (task->action == FIND) printf("   %u visits", outcome->answer.visits);
   printf("\n");
 }
 
 static void print_tasks(unsigned rounds) {
   const char *heading = "";
-  printf("%-20s", "");
-  for (unsigned e = 0; e < ENGINES; e++) printf(" %10s", engines[e]->name);
-  for (unsigned e = 1; e < ENGINES; e++) printf(" %s/%s", engines[0]->name, engines[e]->name);
-  printf("\n");
+  print_head("", SINGLE);
   for (unsigned t = 0; t < task_count; t++) {
-    if (tasks[t].map_count > 0) continue;
+    if (tasks[t].map_count > 0 || tasks[t].action == FIND_BATCH) continue;
     if (strcmp(heading, tasks[t].heading) != 0) printf("%s\n", tasks[t].heading);
     heading = tasks[t].heading;
     print_task(&tasks[t], &expected[t], rounds);
+  }
+}
+
+/* The visits of all queries of a batch. */
+static uint32_t count_visits(const uint8_t *answers) {
+  uint32_t visits = 0;
+  for (unsigned q = 0; q < BATCH_SIZE; q++) visits += visits_in(answers + q * ANSWER_LENGTH);
+  return visits;
+}
+
+/* The searches of batches: the time of a query is its share in that of the batch, with what is done once a call. */
+static void print_batches(unsigned rounds) {
+  print_head("batch, us per query", ENGINES);
+  for (unsigned t = 0; t < task_count; t++) {
+    if (tasks[t].action != FIND_BATCH) continue;
+    print_row(&tasks[t], ENGINES, rounds, BATCH_SIZE * 1e-6);
+    printf("   %u visits\n", count_visits(expected[t].bytes));
   }
 }
 
@@ -386,6 +448,7 @@ int main(int arguments, char **argument) {
     return 2;
   }
   add_searches();
+  add_batches();
   add_fills();
   add_tests();
   add_openings();
@@ -397,6 +460,7 @@ int main(int arguments, char **argument) {
     run_round(round);
   }
   print_tasks(rounds);
+  print_batches(rounds);
   print_by_maps(rounds);
   return 0;
 }

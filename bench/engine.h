@@ -57,6 +57,9 @@ struct engine {
   /* Finds a plan and writes its rule numbers. */
   struct answer (*find)(const uint8_t *block, size_t length, const struct query *query, const uint32_t *table,
                         uint8_t *plan);
+  /* The same with the block of the last `find`, which is not prepared again; only the tuned engine has it. */
+  struct answer (*find_again)(const uint8_t *block, size_t length, const struct query *query, const uint32_t *table,
+                              uint8_t *plan);
 };
 
 /* The library's fill and search with further maps, which the other engines do not have: each map is K and a byte for
@@ -66,9 +69,16 @@ void library_fill_by_maps(const uint8_t *block, size_t length, const uint8_t *ma
 struct answer library_find_by_maps(const uint8_t *block, size_t length, const uint8_t *maps, size_t maps_length,
                                    const struct query *query, const uint32_t *table, uint8_t *plan);
 
+/* The library's search of a whole batch in one call, which the other engines do not have: records of queries, and room
+ * for those of the answers. Gives the bytes that were written. */
+size_t library_find_batch(const uint8_t *block, size_t length, const uint8_t *queries, size_t queries_length,
+                          const uint32_t *table, uint8_t *answers, size_t room);
+
 extern const struct engine library_engine;
 extern const struct engine plain_engine;
 extern const struct engine tuned_engine;
 extern const struct engine generated_engine;
+/* The library once more, of which a batch is asked one query a call. */
+extern const struct engine single_engine;
 
 #endif

@@ -207,6 +207,49 @@ const struct search_input *search_named(const char *name) {
   return NULL;
 }
 
+/* ---- a batch of queries for each search ---- */
+
+/* Makes a state into what a rule makes of it; false where the rule does not apply. In the rules of the searches no
+ * variable stands twice on the left, so that constants alone decide that. */
+static bool follow_rule(const struct exercise *e, unsigned r, uint8_t *state) {
+  const uint8_t *left = left_side(e, r), *right = right_side(e, r);
+  uint8_t bound[BEHIND_VARIABLES];
+  for (unsigned i = 0; i < e->positions; i++) {
+    if (is_label(left[i]) && left[i] != state[i]) return false;
+    if (is_variable(left[i])) bound[left[i]] = state[i];
+  }
+  for (unsigned i = 0; i < e->positions; i++) {
+    if (right[i] != DASH) state[i] = is_label(right[i]) ? right[i] : bound[right[i]];
+  }
+  return true;
+}
+
+/* Whether one of the first queries has this start. */
+static bool is_start(const struct query *queries, unsigned count, const uint8_t *state, unsigned positions) {
+  unsigned q = 0;
+  while (q < count && memcmp(queries[q].start, state, positions) != 0) q++;
+  return q < count;
+}
+
+/* The goal of a search is a state, and each of its rules is undone by one of the same cost: so the states that rules
+ * lead to from the goal, taken in order, are those from which fewest rules lead there. */
+void make_batch(const struct search_input *search, struct input *input, struct query_batch *batch) {
+  search->make(input, &batch->queries[0]);
+  struct exercise e = open_block(input->block);
+  memcpy(batch->queries[0].start, goal_at(&e, 0), e.positions);
+  unsigned count = 1;
+  for (unsigned q = 0; count < BATCH_SIZE; q++) {
+    for (unsigned r = 0; r < e.rules && count < BATCH_SIZE; r++) {
+      struct query next = batch->queries[q];
+      if (!follow_rule(&e, r, next.start) || is_start(batch->queries, count, next.start, e.positions)) continue;
+      batch->queries[count++] = next;
+    }
+  }
+  uint8_t *end = batch->records;
+  for (unsigned q = 0; q < BATCH_SIZE; q++) end = write_query(end, &batch->queries[q], e.positions);
+  batch->length = (size_t)(end - batch->records);
+}
+
 /* ---- for tables: seven digits below 4, or 14 below 2 ---- */
 
 enum { DIGITS = 7, BASE = 4, BITS = 14 };

@@ -4,6 +4,7 @@
 
 #include "block.h"
 #include "engine.h"
+#include "records.h"
 
 enum { MOST_TEXT = 2 * MOST_BLOCK + 2 + MOST_RULES + MOST_GOALS };
 
@@ -38,6 +39,9 @@ const struct search_input *search_named(const char *name);
 /* The exercise of a search for one to four maps, its own included, and the bytes of the further ones. Visits are enough
  * for the plan to be found. */
 size_t make_for_maps(const struct search_input *search, unsigned maps, struct input *input, struct query *query);
+
+/* The exercise of a search, and a batch of queries with its limits, from the states that are nearest to its goal. */
+void make_batch(const struct search_input *search, struct input *input, struct query_batch *batch);
 
 /* For tables, all of 16,384 entries. */
 void make_counter(struct input *input, bool reversed);

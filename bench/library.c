@@ -60,4 +60,14 @@ struct answer library_find_by_maps(const uint8_t *block, size_t length, const ui
                                       table, MOST_ENTRIES, plan, query->steps));
 }
 
-const struct engine library_engine = {"ours", read_text, mikjuqan_check_block, fill, test, find};
+size_t library_find_batch(const uint8_t *block, size_t length, const uint8_t *queries, size_t queries_length,
+                          const uint32_t *table, uint8_t *answers, size_t room) {
+  struct exercise e = open_block(block);
+  mikjuqan_length done =
+      mikjuqan_find_plans(block, length, NULL, 0, queries, queries_length, table, count_entries(&e), answers, room);
+  must_accept("search of a batch", done.refusal);
+  return done.bytes;
+}
+
+const struct engine library_engine = {"ours", read_text, mikjuqan_check_block, fill, test, find, NULL};
+const struct engine single_engine = {.name = "singly", .find = find};

@@ -419,4 +419,4 @@ static struct answer find(const uint8_t *block, size_t length, const struct quer
   return answer;
 }
 
-const struct engine plain_engine = {"plain", read_text, check, fill, test, find};
+const struct engine plain_engine = {"plain", read_text, check, fill, test, find, NULL};

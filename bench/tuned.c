@@ -545,13 +545,16 @@ static uint32_t run_rounds(uint32_t cost_limit, uint16_t rank) {
   return NO_PLAN;
 }
 
-/* Compiles the exercise and puts the start at the front of the path; gives its rank. */
-static uint16_t begin_search(const struct exercise *e, const struct query *query) {
-  uint32_t rank = 0;
+static void compile_exercise(const struct exercise *e) {
   search.rules = e->rules;
   search.goals = e->goals;
   for (unsigned r = 0; r < e->rules; r++) compile_rule(e, r, &search.rule[r]);
   for (unsigned g = 0; g < e->goals; g++) compile_side(goal_at(e, g), e->positions, &search.goal[g]);
+}
+
+/* Puts the start at the front of the path; gives its rank. */
+static uint16_t begin_search(const struct exercise *e, const struct query *query) {
+  uint32_t rank = 0;
   search.steps = query->steps;
   search.allowance = query->visits;
   search.visits = search.plan_steps = search.plan_cost = 0;
@@ -563,8 +566,9 @@ static uint16_t begin_search(const struct exercise *e, const struct query *query
   return (uint16_t)rank;
 }
 
-static struct answer find(const uint8_t *block, size_t length, const struct query *query, const uint32_t *table,
-                          uint8_t *plan) {
+/* Searches in the exercise that was compiled last. */
+static struct answer find_again(const uint8_t *block, size_t length, const struct query *query, const uint32_t *table,
+                                uint8_t *plan) {
   struct exercise e = open_block(block);
   (void)length;
   search.table = table;
@@ -574,4 +578,11 @@ static struct answer find(const uint8_t *block, size_t length, const struct quer
   return (struct answer){status, search.plan_steps, search.plan_cost, search.visits, goal};
 }
 
-const struct engine tuned_engine = {"tuned", read_text, check, fill, test, find};
+static struct answer find(const uint8_t *block, size_t length, const struct query *query, const uint32_t *table,
+                          uint8_t *plan) {
+  struct exercise e = open_block(block);
+  compile_exercise(&e);
+  return find_again(block, length, query, table, plan);
+}
+
+const struct engine tuned_engine = {"tuned", read_text, check, fill, test, find, find_again};

@@ -31,6 +31,10 @@ extern "C" {
 #define MIKJUQAN_TABLE_LENGTH 16384  /* entries of a table, and of all tables together */
 #define MIKJUQAN_PLAN_LENGTH 64      /* bytes of a plan, and the largest step limit */
 #define MIKJUQAN_LIST_LENGTH 4096    /* the longest list that is replayed */
+#define MIKJUQAN_QUERIES 256         /* query records that one call takes */
+#define MIKJUQAN_LIMITS_LENGTH 9     /* bytes of a query record behind its start */
+#define MIKJUQAN_ANSWER_LENGTH 75    /* bytes of an answer record */
+#define MIKJUQAN_ANSWER_PLAN 11      /* those of them in front of a plan */
 
 /* The entry 'no path' of a table. */
 #define MIKJUQAN_NO_PATH UINT32_C(4294967295)
@@ -39,9 +43,9 @@ extern "C" {
 #define MIKJUQAN_NO_GOAL 255
 
 /* ---- refusals ----
- * The lowest number wins, but 14 and 15 come behind 7 and before 8; the order of mikjuqan_read_exercise is 1, 2 (head
- * line), 3, 2 (others), 11, 5, 6, 7. Each comment begins with the number, in decimal and as the two digits that the
- * program `par` prints. */
+ * The lowest number wins, but 14 and 15 come behind 7 and before 8, and 16 comes behind 11 and before 12; the order of
+ * mikjuqan_read_exercise is 1, 2 (head line), 3, 2 (others), 11, 5, 6, 7. Each comment begins with the number, in
+ * decimal and as the two digits that the program `par` prints. */
 
 enum {
   MIKJUQAN_ACCEPTED = 0,
@@ -63,8 +67,10 @@ enum {
   MIKJUQAN_REFUSED_TABLE_FAILS = 13, /* 13 = 0D: the table fails the lower-bound test, or one of several does */
   MIKJUQAN_REFUSED_MAPS = 14,        /* 14 = 0E: there are more than three further maps, or their bytes are not K and
                                         L bytes for each */
-  MIKJUQAN_REFUSED_MAP_RANGE = 15    /* 15 = 0F: the K of a further map is not 1 to L, a byte of it is not below its
+  MIKJUQAN_REFUSED_MAP_RANGE = 15,   /* 15 = 0F: the K of a further map is not 1 to L, a byte of it is not below its
                                         K, or all tables together have more than 16,384 entries */
+  MIKJUQAN_REFUSED_RECORDS = 16      /* 16 = 10: there are no query records or more than 256, their bytes are no whole
+                                        number of records, or the answers do not fit */
 };
 
 /* What a number in `refusal` says, as a sentence without its full stop. The text lasts as long as the program. */
@@ -86,6 +92,7 @@ static inline const char *mikjuqan_refusal_text(uint32_t refusal) {
     case MIKJUQAN_REFUSED_TABLE_FAILS: return "the table fails the lower-bound test";
     case MIKJUQAN_REFUSED_MAPS: return "there are more than three further maps, or a part of one";
     case MIKJUQAN_REFUSED_MAP_RANGE: return "a further map is out of range, or the tables have too many entries";
+    case MIKJUQAN_REFUSED_RECORDS: return "the queries are none, over 256 or not whole, or the answers do not fit";
     default: return "no refusal has this number";
   }
 }
@@ -239,6 +246,55 @@ typedef struct {
 mikjuqan_search mikjuqan_find_plan(const uint8_t *block, size_t block_length, const uint8_t *maps, size_t maps_length,
                                    const uint8_t *start, size_t start_length, mikjuqan_limits limits,
                                    const uint32_t *table, size_t table_length, uint8_t *plan, size_t plan_length);
+
+/* ---- many searches in one call ----
+ * A query record is n + MIKJUQAN_LIMITS_LENGTH bytes, those of a query line of `par`: the start, and the limits in the
+ * order of mikjuqan_limits, steps as one byte, cost and visits as four each, the high byte first. An answer record is
+ * MIKJUQAN_ANSWER_LENGTH bytes, first those of the line that `par` prints, here in hexadecimal, then zeros:
+ *
+ *   found      00, goal, steps, cost (four bytes, the high byte first), visits (four), the plan
+ *   no plan    01, steps and cost, which are 0, visits
+ *   spent      02, likewise
+ *   refused    FF, the number, which is 08 or 0A
+ *
+ * Only a plan has a goal: steps stand at offset 2 where one is found, and at offset 1 where none is. */
+
+/* Answers query records, which stand back to back, with an answer record for each: what mikjuqan_find_plan tells of it
+ * with the same maps and tables. A record whose start is no state (8), or whose step limit is over 64 (10), is refused
+ * by itself, and the others go on. Tells the length of all answer records. The call itself is refused with 3 to 7, 14,
+ * 15, 16, 12, 13. Needs at most 320 KiB of stack. */
+mikjuqan_length mikjuqan_find_plans(const uint8_t *block, size_t block_length, const uint8_t *maps, size_t maps_length,
+                                    const uint8_t *queries, size_t queries_length, const uint32_t *table,
+                                    size_t table_length, uint8_t *answers, size_t answers_length);
+
+/* Writes limits as they stand in a query record behind the start: MIKJUQAN_LIMITS_LENGTH bytes. A step limit above 255
+ * is written as 255, which is refused with 10 as well. */
+static inline void mikjuqan_write_limits(mikjuqan_limits limits, uint8_t *out) {
+  out[0] = limits.steps < 255 ? (uint8_t)limits.steps : 255;
+  for (int i = 0; i < 4; i++) {
+    out[1 + i] = (uint8_t)(limits.cost >> (24 - 8 * i));
+    out[5 + i] = (uint8_t)(limits.visits >> (24 - 8 * i));
+  }
+}
+
+/* What an answer record holds, told as mikjuqan_find_plan tells it: for a record that is refused its number stands in
+ * `refusal`. The rules of a plan stand in the record itself, from MIKJUQAN_ANSWER_PLAN on. */
+static inline mikjuqan_search mikjuqan_read_answer(const uint8_t *record) {
+  mikjuqan_search told = {0, 0, {0, 0, 0, MIKJUQAN_NO_GOAL}};
+  if (record[0] == 0xFF) {
+    told.refusal = record[1];
+    return told;
+  }
+  told.status = record[0];
+  const uint8_t *numbers = record + 1;
+  if (told.status == MIKJUQAN_FOUND) told.plan.goal = *numbers++;
+  told.plan.steps = numbers[0];
+  for (int i = 0; i < 4; i++) {
+    told.plan.cost = told.plan.cost << 8 | numbers[1 + i];
+    told.plan.visits = told.plan.visits << 8 | numbers[5 + i];
+  }
+  return told;
+}
 
 #ifdef __cplusplus
 }

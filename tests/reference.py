@@ -1,5 +1,6 @@
 """An independent reading of the language: blocks, states, matching, applying, goals, relabelling, stepping back,
-reversible rules, replay, further maps, tables, search, exercises as text, and what the program `par` prints.
+reversible rules, replay, further maps, tables, search, many searches in one call, exercises as text, and what the
+program `par` prints.
 
 It shares nothing with the crates, nor with the model in Rust. The worked exercises (worked.py) and the samples
 (samples.py) are made from it.
@@ -18,6 +19,10 @@ NO_GOAL = 0xFF
 # The most entries that all tables have together, and the most maps that are lent beside the block's own.
 MOST_ENTRIES = 16384
 MOST_MAPS = 3
+
+# The most queries that are answered in one call, and how many bytes an answer takes there.
+MOST_QUERIES = 256
+ANSWER_LENGTH = 75
 
 
 class Refused(Exception):
@@ -546,6 +551,41 @@ def find_plan(block, maps, start, steps, limit, allowance, table, plan):
         return r.number, list(plan)
 
 
+def query_length(block):
+    """How many bytes a query has: a label for each position, the step limit, four for each of the other limits."""
+    return block[0] + 1 + 4 + 4
+
+
+def answer_query(block, maps, query, table):
+    """The bytes that tell the answer to a query; it may be refused, but all else is accepted."""
+    n = block[0]
+    limit, allowance = (int.from_bytes(query[at : at + 4], 'big') for at in (n + 1, n + 5))
+    found, plan = find_plan(block, maps, query[:n], query[n], limit, allowance, table, [0] * 64)
+    if not isinstance(found, tuple):
+        return bytes([255, found])
+    status, steps, cost, visits, *goal = found
+    number = ['found', 'no plan', 'spent'].index(status)
+    return bytes([number, *goal, steps, *cost.to_bytes(4, 'big'), *visits.to_bytes(4, 'big'), *plan[:steps]])
+
+
+def find_plans(block, maps, queries, table, answers):
+    """The answer, ('done', length) or a number, and the contents of the buffer afterwards."""
+    try:
+        tables, width = Tables(block, maps), query_length(block)
+        count, rest = divmod(len(queries), width)
+        if rest or not 1 <= count <= MOST_QUERIES or len(answers) < count * ANSWER_LENGTH:
+            raise Refused(16)
+        tables.accept(table)
+        if not tables.passes(table):
+            raise Refused(13)
+        told = []
+        for at in range(0, len(queries), width):
+            told += answer_query(block, maps, queries[at : at + width], table).ljust(ANSWER_LENGTH, b'\0')
+        return ('done', len(told)), written(told, answers)
+    except Refused as r:
+        return r.number, list(answers)
+
+
 def lines_of(text):
     """The lines of a text, each with its line feed; an unended last one has none."""
     *ended, rest = bytes(text).split(b'\n')
@@ -592,19 +632,13 @@ def exercise_lines(lines):
         return 1
 
 
-def answer_query(block, table, line):
+def answer_line(block, table, line):
     """The bytes that `par` prints for a query line."""
     try:
-        query, n = frame_of(line), block[0]
-        if len(query) != n + 9:
+        query = frame_of(line)
+        if len(query) != query_length(block):
             raise Refused(2)
-        limit, allowance = (int.from_bytes(query[at : at + 4], 'big') for at in (n + 1, n + 5))
-        found, plan = find_plan(block, [], query[:n], query[n], limit, allowance, table, [0] * 64)
-        if not isinstance(found, tuple):
-            raise Refused(found)
-        status, steps, cost, visits, *goal = found
-        number = ['found', 'no plan', 'spent'].index(status)
-        return bytes([number, *goal, steps, *cost.to_bytes(4, 'big'), *visits.to_bytes(4, 'big'), *plan[:steps]])
+        return answer_query(block, [], query, table)
     except Refused as r:
         return bytes([255, r.number])
 
@@ -620,7 +654,7 @@ def answer_frames(data):
         return [bytes([255, found])]
     block = block[: found[1]]
     table = abstraction(tuple(block)).least_costs()
-    return [answer_query(block, table, line) for line in lines[count:]]
+    return [answer_line(block, table, line) for line in lines[count:]]
 
 
 def par(data):

@@ -7,11 +7,11 @@ worked.py NAME prints them; its output is kept as tests/vectors/NAME.txt. A line
     CALL ARGUMENT .. = ANSWER [BUFFER]
 
 where BUFFER is what the buffer, the last argument, holds afterwards, and arguments stand in the order of the calls:
-block, further maps where the call takes some, subject, limits, table, buffer. Bytes are pairs of hexadecimal digits,
-parts of them joined by '+', PAIR*COUNT for a run; entries of a table are decimal numbers joined by ',', ENTRY*COUNT
-for a run; '-' stands for none. Lines with '#' say what follows. worked.py fill_order_input prints what the program
-fill_order reads, worked.py fill_order what it must print; likewise match_parts_input and match_parts; and worked.py
-two_maps what the samples two_maps must print.
+block, further maps where the call takes some, subject, limits (queries hold both), table, buffer. Bytes are pairs of
+hexadecimal digits, parts of them joined by '+', PAIR*COUNT for a run; entries of a table are decimal numbers joined by
+',', ENTRY*COUNT for a run; '-' stands for none. Lines with '#' say what follows. worked.py fill_order_input prints what
+the program fill_order reads, worked.py fill_order what it must print; likewise match_parts_input and match_parts; and
+worked.py two_maps and worked.py many_starts what the samples of these names must print.
 """
 import functools
 import itertools
@@ -491,9 +491,9 @@ def listing(block, start, steps):
     return reference.Listing(reference.exercise_of(block), start, steps)
 
 
-def find_plan(block, start, steps, limit, allowance, table, plan, maps=()):
-    """The search by its rounds, told, and compared with the listing of all open lists, which has no rounds, and whose
-    plan has no table. A plan that is replayed has the same cost and goal."""
+def find_and_compare(block, start, steps, limit, allowance, table, plan, maps=()):
+    """The search by its rounds, compared with the listing of all open lists, which has no rounds, and whose plan has no
+    table. A plan that is replayed has the same cost and goal."""
     value, out = reference.find_plan(block, maps, start, steps, limit, allowance, table, plan)
     if isinstance(value, tuple):
         status, length, cost, visits, *goal = value
@@ -509,6 +509,11 @@ def find_plan(block, start, steps, limit, allowance, table, plan, maps=()):
             assert (out, cost) == (cheapest[0] + plan[len(cheapest[0]) :], cheapest[1])
         if status == 'found':
             assert reference.replay(block, start, out[:length], start)[0] == ('done', cost, *goal)
+    return value, out
+
+
+def find_plan(block, start, steps, limit, allowance, table, plan, maps=()):
+    value, out = find_and_compare(block, start, steps, limit, allowance, table, plan, maps)
     query = [packed_bytes(block), packed_bytes(maps), packed_bytes(start), steps, limit, allowance]
     return line('find_plan', [*query, packed_entries(table), packed_bytes(plan)], value, packed_bytes(out))
 
@@ -814,9 +819,12 @@ def texts():
     largest_texts()
 
 
-def query_line(start, steps, limit, allowance):
-    query = bytes([*start, steps]) + limit.to_bytes(4, 'big') + allowance.to_bytes(4, 'big')
-    return query.hex().upper().encode() + b'\n'
+def query_bytes(start, steps, limit, allowance):
+    return bytes([*start, steps]) + limit.to_bytes(4, 'big') + allowance.to_bytes(4, 'big')
+
+
+def query_line(*asked):
+    return query_bytes(*asked).hex().upper().encode() + b'\n'
 
 
 # A query of input E that finds its plan, and input E with this query.
@@ -926,15 +934,18 @@ def session(block, *all_asked):
     par(text_of(block) + b''.join(query_line(*asked) for asked in all_asked))
 
 
+# Four positions of which each turns from 0 to 1 and back; no state meets the goal.
+FLIPPED = [(1, '-' * i + a + '-' * (3 - i), '-' * i + b + '-' * (3 - i)) for i in range(4) for a, b in ('01', '10')]
+FLIPS = block_of(4, 3, FLIPPED, ['2222'])
+
+
 def large_sessions():
     title('64 steps of cost 255: D = 64, B = 16320, V = 65; V = 64; B = 16319; D = 63; then 63 steps')
     start = [0] * 7
     bounds = [(64, 16320, 65), (64, 16320, 64), (64, 16319, 65), (63, 16320, 65)]
     session(DEEP, *((start, *bound) for bound in bounds), ([0] * 6 + [1], 63, 16065, 64))
     title('no plan within 11 steps, after 81140 visits: V = 100000, 81140, 81139, 70000')
-    flips = [(1, '-' * i + a + '-' * (3 - i), '-' * i + b + '-' * (3 - i)) for i in range(4) for a, b in ('01', '10')]
-    allowances = (100000, 81140, 81139, 70000)
-    session(block_of(4, 3, flips, ['2222']), *(([0] * 4, 11, 100, allowance) for allowance in allowances))
+    session(FLIPS, *(([0] * 4, 11, 100, allowance) for allowance in (100000, 81140, 81139, 70000)))
     title('a table of 16384 entries: from <0,0,0,0,0,0,0>; from <3,2,1,0,1,2,3>, with D = 13; from the goal')
     raised = [(label + 2, f'{label}------', f'{label + 1}------') for label in range(3)]
     ring = block_of(7, 4, [(1, 'ABCDEFG', 'BCDEFGA'), *raised], ['3333333'], [0, 1, 2, 3])
@@ -1125,7 +1136,15 @@ def random_small_block(random):
 E_MAPS = [[2, 0, 0, 1], [3, 0, 1, 2], [2, 0, 1, 0], [1, 0, 0, 0], [2, 0, 1, 1]]
 
 # What turns back a call that is lent maps, in the order in which it is looked for.
-ORDER = [3, 4, 5, 6, 7, 14, 15, 8, 10, 11, 12, 13]
+ORDER = [3, 4, 5, 6, 7, 14, 15, 8, 10, 11, 16, 12, 13]
+
+
+def first_fault(faults):
+    return next((number for number in ORDER if number in faults), None)
+
+
+def refusal_of(answer):
+    return answer if isinstance(answer, int) and not isinstance(answer, bool) else None
 
 
 def joined(records):
@@ -1150,8 +1169,8 @@ def call_all(block, maps, state, table, refusal=None):
         look_up(block, state, table, maps),
         search(block, state, 5, 100, 100, table, 6, maps),
     ]
-    refusals = [answer for answer in answers if isinstance(answer, int) and not isinstance(answer, bool)]
-    assert refusals == ([] if refusal is None else [refusal] * 4), (answers, refusal)
+    refusals = [refusal_of(answer) for answer in answers]
+    assert refusals == [refusal] * 4, (answers, refusal)
 
 
 def maps_of_e():
@@ -1364,66 +1383,66 @@ def searches_with_large_entries():
                 search(block, [0], steps, limit, allowance, table, 6, maps)
 
 
+def random_lending(random, most_positions, most_goals, count):
+    """Positions and labels, an exercise with them, and so many further maps."""
+    n, labels = random.randint(1, most_positions), random.randint(1, 4)
+    sizes = random.randint(1, labels), random.randint(0, 6), random.randint(1, most_goals)
+    block = random_block(random, n, labels, *sizes)
+    numbers = [random.randint(1, labels) for _ in range(count)]
+    return n, labels, block, joined([k, *(random.randrange(k) for _ in range(labels))] for k in numbers)
+
+
 def random_maps():
     title('random exercises with none to three further maps: the fill, the test, an estimate, a search by it, on zeros')
     random = Random(2)
     for number in range(48):
-        n, labels = random.randint(1, 3), random.randint(1, 4)
-        block = random_block(random, n, labels, random.randint(1, labels), random.randint(0, 6), random.randint(1, 2))
-        numbers = [random.randint(1, labels) for _ in range(number % 4)]
-        maps = joined([k, *(random.randrange(k) for _ in range(labels))] for k in numbers)
+        n, labels, block, maps = random_lending(random, 3, 2, number % 4)
         state = [random.randrange(labels) for _ in range(n)]
         call_all(block, maps, state, filled(block, maps))
         search(block, state, 5, 100, 1000, [0] * entries_of(block, maps), 6, maps)
 
 
-def faulty_maps():
+def faulty_arguments(faults, extra=(1,), wrong=(5, 4)):
+    """Input E, two further maps, a state and their tables, with faults; further bytes for 14, a place and a byte there
+    for 15."""
     names = {3: 'head', 4: 'length', 5: 'map', 6: 'term', 7: 'variable'}
-    lent = joined(E_MAPS[:2])
-    table = filled(E, lent)
+    maps = joined(E_MAPS[:2])
+    table = filled(E, maps)
+    if 15 in faults:
+        maps[wrong[0] - 1] = wrong[1]
+    contents = [1 if 13 in faults and entry == 0 else entry for entry in table]
+    block = faulty({name for number, name in names.items() if number in faults})
+    state = [1, 2, 3 if 8 in faults else 0]
+    return block, maps + list(extra) * (14 in faults), state, contents[: 42 if 12 in faults else 43]
 
-    def arguments(faults, extra=(1,), wrong=(5, 4)):
-        """Block, maps, state, table with faults; further bytes for 14, a place and a byte there for 15."""
-        maps = list(lent)
-        if 15 in faults:
-            maps[wrong[0] - 1] = wrong[1]
-        contents = [1 if 13 in faults and entry == 0 else entry for entry in table]
-        block = faulty({name for number, name in names.items() if number in faults})
-        state = [1, 2, 3 if 8 in faults else 0]
-        return block, maps + list(extra) * (14 in faults), state, contents[: 42 if 12 in faults else 43]
 
-    def lowest(faults):
-        return next((number for number in ORDER if number in faults), None)
-
-    def refused(answer):
-        return answer if isinstance(answer, int) and not isinstance(answer, bool) else None
-
+def faulty_maps():
     title('input E with two further maps, and every set of faults 7, 14, 15, 12: the fill, the test')
     for k in range(16):
         faults = subset(k, [7, 14, 15, 12])
-        block, maps, _, contents = arguments(faults)
-        assert refused(fill_table(block, contents, maps)[0]) == lowest(faults)
-        assert refused(test_table(block, contents, maps)) == lowest(faults)
+        block, maps, _, contents = faulty_arguments(faults)
+        assert refusal_of(fill_table(block, contents, maps)[0]) == first_fault(faults)
+        assert refusal_of(test_table(block, contents, maps)) == first_fault(faults)
     title('7, 14, 15, 8, 12: the estimate')
     for k in range(32):
         faults = subset(k, [7, 14, 15, 8, 12])
-        block, maps, state, contents = arguments(faults)
-        assert refused(look_up(block, state, contents, maps)) == lowest(faults)
+        block, maps, state, contents = faulty_arguments(faults)
+        assert refusal_of(look_up(block, state, contents, maps)) == first_fault(faults)
     title('7, 14, 15, 8, 10, 11, 12, 13: the search')
     for k in range(256):
         faults = subset(k, [7, 14, 15, 8, 10, 11, 12, 13])
-        block, maps, state, contents = arguments(faults)
+        block, maps, state, contents = faulty_arguments(faults)
         steps, room = 65 if 10 in faults else 6, 5 if 11 in faults else 6
-        assert refused(search(block, state, steps, 100, 100, contents, room, maps)) == lowest(faults)
+        assert refusal_of(search(block, state, steps, 100, 100, contents, room, maps)) == first_fault(faults)
     title('each of 3 to 7 with 14, with 15, with both: the four calls')
     for number, further in itertools.product(range(3, 8), [{14}, {15}, {14, 15}]):
-        block, maps, state, contents = arguments({number, *further})
+        block, maps, state, contents = faulty_arguments({number, *further})
         call_all(block, maps, state, contents, number)
     title('14 by one byte, by two maps more; 15 by K of 0, by K of 4, by a byte: each, both, with 8 and 12')
     for extra, wrong in itertools.product([(1,), (1, 0, 0, 0) * 2], [(1, 0), (5, 4), (8, 3)]):
         for faults in ({14}, {15}, {14, 15}, {14, 8, 12}, {15, 8, 12}):
-            block, maps, state, contents = arguments(faults, extra, wrong)
-            call_all(block, maps, state, contents, lowest(faults))
+            block, maps, state, contents = faulty_arguments(faults, extra, wrong)
+            call_all(block, maps, state, contents, first_fault(faults))
     title('15 by too many entries, and a byte more; with a state of three labels; with both')
     wide = [14, 2, 1, 0, 1] + [0] * 16
     for more, count in itertools.product(([], [0]), (14, 3)):
@@ -1443,6 +1462,307 @@ def maps():
     faulty_maps()
 
 
+def taken_apart(record):
+    """What an answer record says, as a single search tells it: its answer and its plan, in a buffer of zeros."""
+    status, *rest = record
+    if status == 255:
+        return rest[0], rest[9:73]
+    goal = [rest.pop(0)] if status == 0 else []
+    cost, visits = (int.from_bytes(rest[at : at + 4], 'big') for at in (1, 5))
+    return (['found', 'no plan', 'spent'][status], rest[0], cost, visits, *goal), rest[9:73]
+
+
+def find_plans(block, queries, table, answers, maps=()):
+    """Many searches in one call. Each record tells what a single search does; its other bytes are 0."""
+    answer, after = reference.find_plans(block, maps, queries, table, answers)
+    if isinstance(answer, tuple):
+        width, (_, length) = block[0] + 9, answer
+        asked = [queries[at : at + width] for at in range(0, len(queries), width)]
+        records = [after[at : at + 75] for at in range(0, length, 75)]
+        assert len(asked) == len(records)
+        for query, record in zip(asked, records):
+            start, (steps, *numbers) = query[: block[0]], query[block[0] :]
+            limits = [int.from_bytes(numbers[at : at + 4], 'big') for at in (0, 4)]
+            told = find_and_compare(block, start, steps, *limits, table, [0] * 64, maps)
+            used = {0: 75, 255: 2}.get(record[0], 10)
+            assert taken_apart(record) == told and not any(record[used:]), (record, told)
+    arguments = [packed_bytes(part) for part in (block, maps, queries)]
+    return line('find_plans', [*arguments, packed_entries(table), packed_bytes(answers)], answer, packed_bytes(after))
+
+
+def queries_of(asked):
+    return [byte for each in asked for byte in query_bytes(*each)]
+
+
+def batch(block, asked, table, maps=(), room=None):
+    """Queries of a start and limits in one call; where no room is given, with three bytes behind the answers."""
+    answers = [170] * (75 * len(asked) + 3 if room is None else room)
+    return find_plans(block, queries_of(asked), table, answers, maps)
+
+
+def batch_of_e(asked, count, room):
+    """So many queries of input E, those behind the given ones zeros throughout: from <0,0,0>, which is marked."""
+    queries = queries_of(asked)
+    return find_plans(E, queries + [0] * (12 * count - len(queries)), E_TABLE, [170] * room)
+
+
+# Queries of input E: a plan, spent, no plan at this cost, none in so few steps, D is too large, at the goal, no label,
+# no path.
+E_ASKED = [([1, 2, 0], *limits) for limits in [(8, 100, 100), (8, 100, 9), (8, 4, 100), (2, 100, 100), (65, 100, 100)]]
+E_ASKED += [(start, 8, 100, 100) for start in ([2, 1, 0], [1, 2, 3], [0, 0, 0])]
+
+
+def batches_of_e():
+    title('eight queries of input E: in one call, in reverse; on zeros')
+    for table in (E_TABLE, [0] * 8):
+        batch(E, E_ASKED, table)
+        batch(E, E_ASKED[::-1], table)
+    title('each of them alone, and behind each')
+    for asked in E_ASKED:
+        batch(E, [asked], E_TABLE)
+    for pair in itertools.product(E_ASKED, E_ASKED):
+        batch(E, pair, E_TABLE)
+    title('from each state of input E: D = 8, B = 100, V = 100; V = 5')
+    for allowance in (100, 5):
+        batch(E, [(start, 8, 100, allowance) for start in all_states(3, 3)], E_TABLE)
+
+
+def numbers_of_queries():
+    title('input E: no records, 1, 2, 3, 255, 256')
+    for count in (0, 1, 2, 3, 255, 256):
+        answer = batch(E, list(itertools.islice(itertools.cycle(E_ASKED), count)), E_TABLE)
+        assert answer == (('done', 75 * count) if count else 16)
+    title('eight queries, and zeros up to 255, 256, 257, 258, 511, 512, 513 records')
+    for count in (255, 256, 257, 258, 511, 512, 513):
+        assert (batch_of_e(E_ASKED, count, 75 * count) == 16) == (count > 256)
+    title('one position: 255, 256, 257, 65535, 65536, 65537, 65792 and 131072 records of zeros')
+    for count in (255, 256, 257, 65535, 65536, 65537, 65792, 131072):
+        find_plans(DEAD_END, [0] * (10 * count), [0], [170] * (75 * count))
+
+
+def lengths_of_queries():
+    def lend(block, asked, table, lengths):
+        queries = queries_of(asked)
+        for length in lengths:
+            answer = find_plans(block, queries[:length], table, [170] * (75 * len(asked)))
+            assert (answer != 16) == (length > 0 and length % (block[0] + 9) == 0)
+
+    title('input E: the first 0 to 38 bytes of queries, into room for four answers')
+    lend(E, E_ASKED[:4], E_TABLE, range(39))
+    title('one position: the first 0 to 32 bytes')
+    lend(DEAD_END, [([start], 5, 100, 100) for start in range(4)], [0], range(33))
+    title('sixteen positions: the first 0, 1, 9, 10, 16, 17, 24, 25, 26, 49, 50, 51, 74, 75, 76 bytes')
+    lend(TURNED, TURNED_ASKED, [0], [0, 1, 9, 10, 16, 17, 24, 25, 26, 49, 50, 51, 74, 75, 76])
+    title('input E: a byte less than 256 records have, as many, one more; of zeros behind the first eight')
+    lend(E, E_ASKED + [([0] * 3, 0, 0, 0)] * 249, E_TABLE, [3071, 3072, 3073])
+
+
+# Sixteen positions and labels, and a rule that turns a state by one position; the goal is five steps away from the
+# first start.
+TURNED = block_of(16, 16, [(3, 'ABCDEFGHIJKLMNOP', 'BCDEFGHIJKLMNOPA')], ['56789abcdef01234'])
+TURNED_ASKED = [(list(range(16)), *limits) for limits in [(12, 15, 21), (4, 15, 21), (12, 14, 21), (12, 15, 20)]]
+TURNED_ASKED += [([5, *range(1, 16)], 64, 15, 21), ([*range(15), 16], 64, 15, 21)]
+
+
+def rooms_for_answers():
+    title('input E, one query: into 0, 1, 2, 10, 11, 14, 64, 73, 74, 75, 76, 150 bytes')
+    for room in (0, 1, 2, 10, 11, 14, 64, 73, 74, 75, 76, 150):
+        assert (batch(E, E_ASKED[:1], E_TABLE, (), room) == 16) == (room < 75)
+    title('two and three: into two bytes less than they need, one less, as many, one more, 75 more')
+    for count, more in itertools.product((2, 3), (-2, -1, 0, 1, 75)):
+        assert (batch(E, E_ASKED[:count], E_TABLE, (), 75 * count + more) == 16) == (more < 0)
+    title('256, of zeros behind the first eight: likewise, and into 0, 75, 1024 bytes')
+    for room in (19198, 19199, 19200, 19201, 19275, 0, 75, 1024):
+        assert (batch_of_e(E_ASKED, 256, room) == 16) == (room < 19200)
+    title('a query that is refused, alone: into 2, 74, 75 bytes')
+    for room in (2, 74, 75):
+        batch(E, E_ASKED[4:5], E_TABLE, (), room)
+    title('what the buffer held: zeros, 1, 255, and bytes that count up')
+    for stale in ([0] * 605, [1] * 605, [255] * 605, [byte % 256 for byte in range(605)]):
+        find_plans(E, queries_of(E_ASKED), E_TABLE, stale)
+
+
+def refused_queries():
+    good = [([1, 2, 0], 8, 100, 100), ([2, 1, 0], 8, 100, 100), ([1, 2, 0], 2, 100, 100), ([1, 0, 2], 8, 100, 3)]
+
+    def spoilt(asked, faults):
+        start, steps, *limits = asked
+        return [3, *start[1:]] if 8 in faults else start, 65 if 10 in faults else steps, *limits
+
+    title('four queries of which each set has a label 3, D = 65, both')
+    for faults, k in itertools.product([{8}, {10}, {8, 10}], range(1, 16)):
+        places = subset(k, range(4))
+        batch(E, [spoilt(asked, faults if place in places else {}) for place, asked in enumerate(good)], E_TABLE)
+    title('256 queries of zeros, the first, the 128th, the last, all with a label 3; with D = 65')
+    zero = [0] * 3, 0, 0, 0
+    for faults, places in itertools.product([{8}, {10}], [{0}, {127}, {255}, set(range(256))]):
+        batch(E, [spoilt(zero, faults if place in places else {}) for place in range(256)], E_TABLE)
+    title('at each position a label 2, 3, 4, 15, 16, 31, 32, 127, 128, 255')
+    labels = (2, 3, 4, 15, 16, 31, 32, 127, 128, 255)
+    starts = [[label if i == place else 0 for i in range(3)] for place in range(3) for label in labels]
+    batch(E, [(start, 8, 100, 100) for start in starts], E_TABLE)
+    title('D = 0, 1, 2, 3, 63, 64, 65, 66, 127, 128, 129, 254, 255; the same from <1,2,3>')
+    steps = (0, 1, 2, 3, 63, 64, 65, 66, 127, 128, 129, 254, 255)
+    for start in ([1, 2, 0], [1, 2, 3]):
+        batch(E, [(start, each, 100, 100) for each in steps], E_TABLE)
+
+
+def limits_of_queries():
+    title('input E, V from 0 to 11 in one call, falling, in turn with 100; on zeros from 0 to 20, falling')
+    rising = [([1, 2, 0], 8, 100, allowance) for allowance in range(12)]
+    batch(E, rising, E_TABLE)
+    batch(E, rising[::-1], E_TABLE)
+    batch(E, [each for asked in rising for each in (E_ASKED[0], asked)], E_TABLE)
+    rising = [([1, 2, 0], 8, 100, allowance) for allowance in range(21)]
+    batch(E, rising, [0] * 8)
+    batch(E, rising[::-1], [0] * 8)
+    title('ten times as many visits as are needed; one fewer')
+    for allowance in (10, 9):
+        batch(E, [([1, 2, 0], 8, 100, allowance)] * 10, E_TABLE)
+    title('B from 0 to 7, falling; D from 0 to 9, falling')
+    for asked in [([1, 2, 0], 8, limit, 100) for limit in range(8)], [([1, 2, 0], d, 100, 100) for d in range(10)]:
+        batch(E, asked, E_TABLE)
+        batch(E, asked[::-1], E_TABLE)
+    title('B = 0, 5, 1280, 327680, 83886080, 4294967295; V = 0, 10, 2560, 655360, 167772160, 4294967295')
+    batch(E, [([1, 2, 0], 8, limit, 100) for limit in (0, 5, 1280, 327680, 83886080, 4294967295)], E_TABLE)
+    batch(E, [([1, 2, 0], 8, 100, v) for v in (0, 10, 2560, 655360, 167772160, 4294967295)], E_TABLE)
+    title('from <2,1,0>, <0,1,2>, <0,0,0>, on zeros too: B = 0, 1, 2, 100 with V = 0, 1, 100')
+    starts, pairs = ([2, 1, 0], [0, 1, 2], [0, 0, 0]), list(itertools.product((0, 1, 2, 100), (0, 1, 100)))
+    for table in (E_TABLE, [0] * 8):
+        batch(E, [(start, 8, *pair) for start in starts for pair in pairs], table)
+    mark = reference.MARK
+    title('figures of 4294967294, 4294967295 and 4294967550: B around them, D and V small; the first estimate is 0 too')
+    block = block_of(1, 4, [(1, '0', '1'), (255, '1', '2')], ['3'], list(range(4)))
+    limits = [(6, mark - 2, 100), (6, mark - 1, 100), (6, mark, 100), (1, mark, 100), (0, mark, 100), (6, mark, 2)]
+    for first in (mark - 1, 0):
+        batch(block, [([0], *limit) for limit in limits], [first, mark - 1, mark - 1, 0])
+
+
+def batches_of_long_plans():
+    ends = ['1000001', '1111111'] * 3 + ['1111110', '1000000']
+    block = DEEP[:4] + [8] + DEEP[5:-7] + [int(label) for end in ends for label in end]
+    start, near = [0] * 7, [0] * 6 + [1]
+    asked = [(start, 64, 16320, 65), (near, 63, 16065, 64), ([1] + [0] * 6, 64, 0, 1), (start, 64, 16319, 65)]
+    asked += [(start, 64, 16320, 64), (start, 63, 16320, 65), (start, 65, 16320, 65), ([0] * 6 + [2], 64, 16320, 65)]
+    title('64 steps of cost 255 to goal 7 before and behind 63 steps, none; B, V and D too small; D = 65; no label')
+    for other in asked:
+        batch(block, [asked[0], other], filled(block))
+        batch(block, [other, asked[0]], filled(block))
+    title('all of them, in reverse; 64 steps three times; on zeros')
+    for table in (filled(block), [0] * 128):
+        for several in (asked, asked[::-1], asked[:1] * 3):
+            batch(block, [(*each[:3], 2145 if each[3] == 65 else each[3]) for each in several], table)
+    title('sixteen positions and labels')
+    batch(TURNED, TURNED_ASKED, [0])
+    batch(TURNED, TURNED_ASKED[::-1], [0])
+    title('no plan within 11 steps, after 81140 visits: V = 100000, 81140, 81139, 70000')
+    batch(FLIPS, [([0] * 4, 11, 100, allowance) for allowance in (100000, 81140, 81139, 70000)], [0])
+
+
+def batches_to_goals():
+    title('goal k is <k,1>: from <k,0>, <k,1> and <k,2>, for k from 0 to 7, then falling')
+    asked = [([k, last], 4, 100, 100) for k, last in itertools.product(range(8), range(3))]
+    batch(EIGHT_GOALS, asked, filled(EIGHT_GOALS))
+    batch(EIGHT_GOALS, asked[::-1], filled(EIGHT_GOALS))
+    title("input E's rules with eight goals, with four: from <0,0,0>, .., <2,2,2>")
+    for goals in (MIXED_GOALS, FAR_GOALS):
+        block = with_goals(E, goals)
+        batch(block, [(start, 4, 100, 100) for start in all_states(3, 3)], filled(block))
+
+
+def batches_by_maps():
+    title('input E with none to five further maps: eight queries by what is filled, on zeros, and elements behind them')
+    for count in range(6):
+        maps = joined(E_MAPS[:count])
+        table = filled(E, maps if count <= 3 else [])
+        for contents in (table, [0] * len(table), [*table, 7, 7]):
+            answer = batch(E, E_ASKED, contents, maps)
+            assert refusal_of(answer) == (14 if count > 3 else None)
+    title('from <0,0,0>, .., <2,2,2> by one, two, three')
+    for count in range(1, 4):
+        maps = joined(E_MAPS[:count])
+        batch(E, [(start, 8, 100, 100) for start in all_states(3, 3)], filled(E, maps), maps)
+    title('a way that ends nowhere: no further maps; a map that tells all labels first, second, third; from each start')
+    telling, blind = [6, *range(6)], [1] + [0] * 6
+    for maps in [[], *(joined([blind] * place + [telling] + [blind] * (2 - place)) for place in range(3))]:
+        batch(DEAD_END, [([start], 5, 100, 100) for start in range(6)], filled(DEAD_END, maps), maps)
+    title('five slots with none to three further maps, by what is filled, by zeros')
+    starts = ([1, 2, 3, 0, 0], [0, 3, 1, 2, 0], [2, 0, 0, 3, 1])
+    asked = [(start, 6, 100, allowance) for allowance in (100000, 10, 100) for start in starts]
+    for count in range(4):
+        maps = joined(SLOTS_MAPS[:count])
+        batch(SLOTS, asked, filled(SLOTS, maps), maps)
+        batch(SLOTS, asked, [0] * entries_of(SLOTS, maps), maps)
+    title("input E with three further maps: the goal's entry is 1 in every set of tables; one entry fewer")
+    maps = joined(E_MAPS[:3])
+    table = filled(E, maps)
+    goals = [place for place, entry in enumerate(table) if entry == 0]
+    for k in range(16):
+        failing = [1 if place in subset(k, goals) else entry for place, entry in enumerate(table)]
+        assert refusal_of(batch(E, E_ASKED, failing, maps)) == (13 if k else None)
+    assert batch(E, E_ASKED, table[:-1], maps) == 12
+
+
+def random_batches():
+    title('random exercises with none to three further maps, and one to six queries, by what is filled and on zeros')
+    random = Random(4)
+    for number in range(60):
+        n, labels, block, maps = random_lending(random, 4, 8, number % 4)
+        asked = []
+        for _ in range(random.randint(1, 6)):
+            start = [random.randrange(labels + (random.random() < 0.05)) for _ in range(n)]
+            limits = random.choice([0, 1, 2, 3, 100]), random.choice([0, 1, 2, 5, 1000])
+            asked.append((start, random.choice([0, 1, 2, 3, 4, 5, 65]), *limits))
+        for table in (filled(block, maps), [0] * entries_of(block, maps)):
+            batch(block, asked, table, maps)
+
+
+def faulty_batches():
+    def lend(faults, reason='part'):
+        """A call with faults; 16 is there by one of four reasons, 8 and 10 are faults of the second query alone."""
+        block, maps, state, contents = faulty_arguments(faults)
+        asked = [([1, 2, 0], 8, 100, 100), (state, 65 if 10 in faults else 8, 100, 100), ([2, 1, 0], 8, 100, 100)]
+        queries, answers = queries_of(asked), [170] * 228
+        if 16 in faults:
+            lent = {'none': [], 'many': queries + [0] * (12 * 254), 'part': queries[:-1], 'room': queries}
+            queries, answers = lent[reason], [170] * {'many': 19275, 'room': 224}.get(reason, 228)
+        answer = find_plans(block, queries, contents, answers, maps)
+        assert refusal_of(answer) == first_fault(set(faults) - {8, 10})
+
+    reasons, numbers = ('none', 'many', 'part', 'room'), [3, 4, 5, 6, 7, 14, 15, 16, 12, 13]
+    title('input E with two further maps, and every set of faults 7, 14, 15, 16, 12, 13; with 8 and 10 in a query too')
+    for further in ((), (8, 10)):
+        for k in range(64):
+            lend(subset(k, [7, 14, 15, 16, 12, 13]) | {*further})
+    title('8, 10, both in a query, and nothing else')
+    for faults in ({8}, {10}, {8, 10}):
+        lend(faults)
+    title('16 by no records, by 257, by a byte missing, by room for a byte less: alone, and with each other fault')
+    for reason, other in itertools.product(reasons, [*numbers, 8, 10]):
+        lend({16, other}, reason)
+    title('all other pairs of 3, 4, 5, 6, 7, 14, 15, 12, 13')
+    for pair in itertools.combinations([number for number in numbers if number != 16], 2):
+        lend(set(pair))
+    title('16 by two reasons: a part of a record, no room; 257 records, a part more; 257, no room; no records, no room')
+    queries = queries_of(E_ASKED[:1])
+    for lent, room in [(queries[:-1], 0), ([0] * 3085, 19500), ([0] * 3084, 19200), ([], 0)]:
+        assert find_plans(E, lent, E_TABLE, [170] * room) == 16
+
+
+def batches():
+    batches_of_e()
+    numbers_of_queries()
+    lengths_of_queries()
+    rooms_for_answers()
+    refused_queries()
+    limits_of_queries()
+    batches_of_long_plans()
+    batches_to_goals()
+    batches_by_maps()
+    random_batches()
+    faulty_batches()
+
+
 def two_maps():
     """What samples/two_maps.c and rust/examples/two_maps.rs print: seven pancakes, of which the first ones are turned
     over. The exercise's own map tells the last three from the others, the further one odd labels from even ones."""
@@ -1455,6 +1775,21 @@ def two_maps():
         _, steps, cost, visits, _ = found
         rules = ' '.join(map(str, plan[:steps]))
         print(f'{words}, {len(table)} entries: rules {rules}, cost {cost}, {visits} visits')
+
+
+def many_starts():
+    """What samples/many_starts.c and rust/examples/many_starts.rs print: input E from eight starts."""
+    starts = [*map(list, itertools.permutations(range(3))), [1, 1, 0], [1, 2, 3]]
+    queries = queries_of((start, 64, 100, 1000) for start in starts)
+    _, answers = reference.find_plans(E, [], queries, E_TABLE, [0] * (75 * len(starts)))
+    for number, start in enumerate(starts):
+        told, plan = taken_apart(answers[75 * number : 75 * number + 75])
+        if isinstance(told, int):
+            print(f'{start}: refused with {told}')
+            continue
+        status, steps, cost, visits, *_ = told
+        print(f'{start}: rules {plan[:steps]}, cost {cost}' if status == 'found' else f'{start}: {status}', end='')
+        print(f', {visits} visits')
 
 
 def fill_order_blocks():
@@ -1536,6 +1871,6 @@ def match_parts():
 
 if __name__ == '__main__':
     parts = [blocks, rules, predecessors, replays, tables, searches, texts, sessions, goals]
-    parts += [maps, two_maps, fill_order, fill_order_input, match_parts, match_parts_input]
+    parts += [maps, batches, two_maps, many_starts, fill_order, fill_order_input, match_parts, match_parts_input]
     by_name = {part.__name__: part for part in parts}
     by_name[usage.named('tests/worked.py NAME', by_name)[0]]()

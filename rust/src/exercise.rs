@@ -3,7 +3,7 @@
 use crate::answers;
 use crate::ffi;
 use crate::refusal::accepted;
-use crate::{Limits, Refusal, Replay, Search};
+use crate::{Answers, Limits, Refusal, Replay, Search};
 
 /// An exercise, told by its block. It has a method for each call on a block.
 ///
@@ -48,8 +48,8 @@ impl<'a> Exercise<'a> {
     ///
     /// A further map is a byte, its own number of abstract labels K, and a byte below that for each label; the next
     /// one stands directly behind. Each map has a table. In the table that is handed to [`fill_table`],
-    /// [`test_table`], [`look_up_estimate`] and [`find_plan`] that of the block's own map stands first, and those of
-    /// the further maps behind it, in their order. All together have at most
+    /// [`test_table`], [`look_up_estimate`], [`find_plan`] and [`find_plans`] that of the block's own map stands first,
+    /// and those of the further maps behind it, in their order. All together have at most
     /// [`TABLE_LENGTH`](crate::TABLE_LENGTH) entries. The estimate of a state is the largest of its entries, of which
     /// [`NO_PATH`](crate::NO_PATH) is above all. The other calls do not look at further maps.
     ///
@@ -81,6 +81,7 @@ impl<'a> Exercise<'a> {
     /// [`test_table`]: Exercise::test_table
     /// [`look_up_estimate`]: Exercise::look_up_estimate
     /// [`find_plan`]: Exercise::find_plan
+    /// [`find_plans`]: Exercise::find_plans
     pub const fn with_maps(self, maps: &'a [u8]) -> Exercise<'a> {
         Exercise { block: self.block, maps }
     }
@@ -358,5 +359,52 @@ impl<'a> Exercise<'a> {
     /// ```
     pub fn find_plan(self, start: &[u8], limits: Limits, table: &[u32], plan: &mut [u8]) -> Result<Search, Refusal> {
         answers::search(ffi::find_plan(self.block, self.maps, start, limits, table, plan))
+    }
+
+    /// Answers many queries by one table, each with what [`find_plan`](Exercise::find_plan) tells and with its plan.
+    ///
+    /// A query record is a start and the [bytes of its limits](Limits::to_bytes). Up to [`QUERIES`](crate::QUERIES) of
+    /// them stand back to back, and for each an answer record of [`ANSWER_LENGTH`](crate::ANSWER_LENGTH) bytes is
+    /// written: those that the program `par` prints for this query, and zeros behind them. [`Answers`] reads them. A
+    /// record whose start is no state (8), or whose step limit is over 64 (10), is refused by itself, and the others go
+    /// on.
+    ///
+    /// The call itself is refused with 3 to 7, 14, 15, 16, 12, 13. Needs at most 320 KiB of stack.
+    ///
+    /// ```
+    /// use mikjuqan::{Exercise, Limits, Refusal, Search, ANSWER_LENGTH};
+    ///
+    /// // One position, three labels, one abstract label. Rule 0 leads from 0 to 1 at cost 4, rule 1 from 1 to 2 at
+    /// // cost 2; goal 2.
+    /// let block = [1, 3, 1, 2, 1, 0, 0, 0, 4, 0, 1, 2, 1, 2, 2];
+    /// let exercise = Exercise::new(&block);
+    /// let limits = Limits { steps: 64, cost: 100, visits: 100 };
+    /// let mut queries = Vec::new();
+    /// for (start, limits) in [(0, limits), (1, limits), (1, Limits { visits: 2, ..limits }), (3, limits)] {
+    ///     queries.push(start);
+    ///     queries.extend(limits.to_bytes());
+    /// }
+    /// let mut room = [9; 4 * ANSWER_LENGTH];
+    /// let mut plans = Vec::new();
+    /// for answer in exercise.find_plans(&queries, &[0], &mut room)? {
+    ///     plans.push(match answer {
+    ///         Ok((Search::Found(found), rules)) => format!("{rules:?} at cost {}", found.cost),
+    ///         Ok((Search::NoPlan { .. }, _)) => "none".to_string(),
+    ///         Ok((other, _)) => format!("{other:?}"),
+    ///         Err(refusal) => refusal.number().to_string(),
+    ///     });
+    /// }
+    /// assert_eq!(plans, ["[0, 1] at cost 6", "[1] at cost 2", "Spent { visits: 2 }", "8"]);
+    ///
+    /// // The bytes of the second answer: found, goal 0, one step, cost 2, 3 visits, rule 1, and zeros.
+    /// assert_eq!(room[ANSWER_LENGTH..][..13], [0, 0, 1, 0, 0, 0, 2, 0, 0, 0, 3, 1, 0]);
+    ///
+    /// // Ten bytes are a query here.
+    /// assert_eq!(exercise.find_plans(&queries[..25], &[0], &mut room).err(), Some(Refusal::Records));
+    /// # Ok::<(), Refusal>(())
+    /// ```
+    pub fn find_plans<'b>(self, queries: &[u8], table: &[u32], answers: &'b mut [u8]) -> Result<Answers<'b>, Refusal> {
+        let written = answers::length(ffi::find_plans(self.block, self.maps, queries, table, answers))?;
+        Ok(Answers::new(&answers[..written]))
     }
 }

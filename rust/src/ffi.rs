@@ -159,6 +159,19 @@ mod c {
             plan: *mut u8,
             plan_length: usize,
         ) -> Search;
+
+        pub fn mikjuqan_find_plans(
+            block: *const u8,
+            block_length: usize,
+            maps: *const u8,
+            maps_length: usize,
+            queries: *const u8,
+            queries_length: usize,
+            table: *const u32,
+            table_length: usize,
+            answers: *mut u8,
+            answers_length: usize,
+        ) -> Length;
     }
 }
 
@@ -282,6 +295,23 @@ pub fn find_plan(block: &[u8], maps: &[u8], start: &[u8], limits: Limits, table:
             table.len(),
             plan.as_mut_ptr(),
             plan.len(),
+        )
+    }
+}
+
+pub fn find_plans(block: &[u8], maps: &[u8], queries: &[u8], table: &[u32], answers: &mut [u8]) -> Length {
+    unsafe {
+        c::mikjuqan_find_plans(
+            block.as_ptr(),
+            block.len(),
+            maps.as_ptr(),
+            maps.len(),
+            queries.as_ptr(),
+            queries.len(),
+            table.as_ptr(),
+            table.len(),
+            answers.as_mut_ptr(),
+            answers.len(),
         )
     }
 }

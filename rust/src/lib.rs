@@ -59,9 +59,12 @@
 //! # Ok::<(), mikjuqan::Refusal>(())
 //! ```
 //!
+//! Many starts of one exercise are answered in one call, [`Exercise::find_plans`]: its queries are bytes, and so are
+//! its answers, which [`Answers`] reads.
+//!
 //! Buffers of [`POSITIONS`], [`BLOCK_LENGTH`], [`MAPS_LENGTH`], [`TABLE_LENGTH`] and [`PLAN_LENGTH`] elements are long
-//! enough for every exercise. Buffers are measured before the answer is known: room for a state is asked for even where none is
-//! written.
+//! enough for every exercise. Buffers are measured before the answer is known: room for a state is asked for even where
+//! none is written.
 
 #![no_std]
 #![deny(unsafe_code, missing_docs)]
@@ -70,10 +73,12 @@ mod answers;
 mod exercise;
 #[allow(unsafe_code)]
 mod ffi;
+mod records;
 mod refusal;
 
 pub use answers::{Limits, Plan, Replay, RunEnd, Search};
 pub use exercise::Exercise;
+pub use records::Answers;
 pub use refusal::Refusal;
 
 /// The most labels that a state has.
@@ -93,6 +98,15 @@ pub const PLAN_LENGTH: usize = 64;
 
 /// The most rule numbers that are replayed.
 pub const LIST_LENGTH: usize = 4096;
+
+/// The most query records that one call takes.
+pub const QUERIES: usize = 256;
+
+/// The bytes of a query record behind its start.
+pub const LIMITS_LENGTH: usize = 9;
+
+/// The bytes of an answer record.
+pub const ANSWER_LENGTH: usize = 75;
 
 /// The entry of a table that says 'no path'.
 pub const NO_PATH: u32 = u32::MAX;

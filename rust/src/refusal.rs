@@ -3,8 +3,8 @@
 use core::error::Error;
 use core::fmt;
 
-/// Why a call was refused. Each case has a number; the lowest wins, but 14 and 15 come behind 7 and before 8, and
-/// [`read_exercise`](crate::read_exercise) has an order of its own.
+/// Why a call was refused. Each case has a number; the lowest wins, but 14 and 15 come behind 7 and before 8, 16 comes
+/// behind 11 and before 12, and [`read_exercise`](crate::read_exercise) has an order of its own.
 ///
 /// ```
 /// use mikjuqan::{Exercise, Refusal};
@@ -48,6 +48,9 @@ pub enum Refusal {
     /// 15: the K of a further map is 0 or above the number of labels, a byte of it is not below its K, or all tables
     /// together have more than 16,384 entries.
     MapRange = 15,
+    /// 16: there are no query records or more than 256, their bytes are no whole number of records, or the answers do
+    /// not fit.
+    Records = 16,
 }
 
 impl Refusal {
@@ -68,16 +71,17 @@ impl Refusal {
         Refusal::TableFails,
         Refusal::Maps,
         Refusal::MapRange,
+        Refusal::Records,
     ];
 
-    /// The number of this refusal, 1 to 15.
+    /// The number of this refusal, 1 to 16.
     ///
     /// ```
     /// use mikjuqan::Refusal;
     ///
     /// assert_eq!(Refusal::Character.number(), 1);
-    /// assert_eq!(Refusal::MapRange.number(), 15);
-    /// assert!(Refusal::ALL.iter().map(|refusal| refusal.number()).eq(1..=15));
+    /// assert_eq!(Refusal::Records.number(), 16);
+    /// assert!(Refusal::ALL.iter().map(|refusal| refusal.number()).eq(1..=16));
     /// ```
     pub fn number(self) -> u32 {
         self as u32
@@ -102,6 +106,7 @@ impl fmt::Display for Refusal {
             Refusal::TableFails => "the table fails the lower-bound test",
             Refusal::Maps => "there are more than three further maps, or a part of one",
             Refusal::MapRange => "a further map is out of range, or the tables have too many entries",
+            Refusal::Records => "the queries are none, over 256 or not whole, or the answers do not fit",
         };
         write!(formatter, "refused with {}: {reason}", self.number())
     }
@@ -113,7 +118,7 @@ impl Error for Refusal {}
 pub(crate) fn accepted(number: u32) -> Result<(), Refusal> {
     match number {
         0 => Ok(()),
-        1..=15 => Err(Refusal::ALL[number as usize - 1]),
+        1..=16 => Err(Refusal::ALL[number as usize - 1]),
         _ => unreachable!("the library has no refusal {number}"),
     }
 }

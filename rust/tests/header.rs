@@ -110,6 +110,10 @@ fn sizes() {
         ("MIKJUQAN_TABLE_LENGTH", mikjuqan::TABLE_LENGTH),
         ("MIKJUQAN_PLAN_LENGTH", mikjuqan::PLAN_LENGTH),
         ("MIKJUQAN_LIST_LENGTH", mikjuqan::LIST_LENGTH),
+        ("MIKJUQAN_QUERIES", mikjuqan::QUERIES),
+        ("MIKJUQAN_LIMITS_LENGTH", mikjuqan::LIMITS_LENGTH),
+        ("MIKJUQAN_ANSWER_LENGTH", mikjuqan::ANSWER_LENGTH),
+        ("MIKJUQAN_ANSWER_PLAN", mikjuqan::ANSWER_LENGTH - mikjuqan::PLAN_LENGTH),
     ];
     for (name, size) in sizes {
         assert_eq!(defined(name), size.to_string(), "{name}");
@@ -143,7 +147,7 @@ fn functions() {
     let lines: Vec<&str> = declared.lines().map(str::trim).filter(|line| !line.is_empty()).collect();
     let declared = lines.join(" ").replace("( ", "(").replace(", )", ")");
     let functions = header_functions(&header());
-    assert_eq!(functions.len(), 13);
+    assert_eq!(functions.len(), 14);
     assert_eq!(functions.len(), declared.matches("pub fn ").count());
     for function in functions {
         assert!(declared.contains(&function), "there is no\n{function}\nin\n{declared}");

@@ -54,6 +54,14 @@ static mikjuqan_limits within(size_t steps, uint32_t cost, uint32_t visits) {
   return limits;
 }
 
+enum { QUERY = POSITIONS + MIKJUQAN_LIMITS_LENGTH };
+
+/* Writes a query record. */
+static void write_query(uint8_t *record, const uint8_t *state, mikjuqan_limits limits) {
+  memcpy(record, state, POSITIONS);
+  mikjuqan_write_limits(limits, record + POSITIONS);
+}
+
 /* ---- the exercise ---- */
 
 /* Reads the exercise into `block`, and gives its length. */
@@ -257,6 +265,13 @@ static void search_by_maps(const uint8_t *block, size_t length, uint32_t *tables
   told = mikjuqan_find_plan(block, length, further, 3 * MAP, start, POSITIONS, limits, tables, ALL_ENTRIES, plan,
                             STEPS);
   expect(finds(told, 3, 5, 4, 0) && same(plan, 2, 0, 5), "by four maps as well");
+  uint8_t query[QUERY], answer[MIKJUQAN_ANSWER_LENGTH];
+  write_query(query, start, limits);
+  mikjuqan_length answered = mikjuqan_find_plans(block, length, further, 3 * MAP, query, sizeof query, tables,
+                                                 ALL_ENTRIES, answer, sizeof answer);
+  expect(answered.refusal == MIKJUQAN_ACCEPTED && finds(mikjuqan_read_answer(answer), 3, 5, 4, 0) &&
+             same(answer + MIKJUQAN_ANSWER_PLAN, 2, 0, 5),
+         "and in a call for many searches");
 
   tables[ENTRIES + 21] = 1; /* the goal's own entry in the second table */
   mikjuqan_decision passes = mikjuqan_test_table(block, length, further, 3 * MAP, tables, ALL_ENTRIES);
@@ -268,18 +283,21 @@ static void search_by_maps(const uint8_t *block, size_t length, uint32_t *tables
   tables[ENTRIES + 21] = 0;
 }
 
-/* Whether all four calls that take further maps are refused with a number. */
+/* Whether all five calls that take further maps are refused with a number. */
 static int refuse(const uint8_t *block, size_t length, const uint8_t *maps, size_t maps_length, uint32_t *tables,
                   uint32_t refusal) {
-  uint8_t plan[STEPS];
+  uint8_t plan[STEPS], query[QUERY], answer[MIKJUQAN_ANSWER_LENGTH];
   const size_t none = 0;
+  write_query(query, start, within(STEPS, 9, 9));
   mikjuqan_search told = mikjuqan_find_plan(block, length, maps, maps_length, start, POSITIONS, within(STEPS, 9, 9),
                                             tables, none, plan, STEPS);
   return mikjuqan_fill_table(block, length, maps, maps_length, tables, none) == refusal &&
          mikjuqan_test_table(block, length, maps, maps_length, tables, none).refusal == refusal &&
          mikjuqan_look_up_estimate(block, length, maps, maps_length, start, POSITIONS, tables, none).refusal ==
              refusal &&
-         is_refused(told, refusal);
+         is_refused(told, refusal) &&
+         mikjuqan_find_plans(block, length, maps, maps_length, query, QUERY, tables, none, answer, sizeof answer)
+                 .refusal == refusal;
 }
 
 static void further_maps(const uint8_t *block, size_t length) {
@@ -293,6 +311,103 @@ static void further_maps(const uint8_t *block, size_t length) {
   expect(refuse(block, length, high_k, MAP, tables, MIKJUQAN_REFUSED_MAP_RANGE), "a K above L: 15");
   expect(refuse(block, length, high_byte, MAP, tables, MIKJUQAN_REFUSED_MAP_RANGE), "a byte not below its K: 15");
   expect(refuse(block, length, further, MAP, tables, MIKJUQAN_REFUSED_TABLE_SHORT), "a good map and no table: 12");
+}
+
+/* ---- many searches in one call ---- */
+
+enum { ASKED = 6, ANSWERS = ASKED * MIKJUQAN_ANSWER_LENGTH };
+
+static void limits_as_bytes(void) {
+  static const uint8_t expected[] = {64, 1, 2, 3, 4, 0xFF, 0xFE, 0xFD, 0xFC, 77};
+  uint8_t bytes[MIKJUQAN_LIMITS_LENGTH + 1];
+  bytes[MIKJUQAN_LIMITS_LENGTH] = 77;
+  mikjuqan_write_limits(within(64, 0x01020304, 0xFFFEFDFC), bytes);
+  expect(memcmp(bytes, expected, sizeof expected) == 0, "limits are nine bytes, with the high bytes first");
+  mikjuqan_write_limits(within(254, 0, 0), bytes);
+  expect(bytes[0] == 254, "a step limit of 254 is written as it is");
+  mikjuqan_write_limits(within(SIZE_MAX, 0, 0), bytes);
+  expect(bytes[0] == 255, "one that does not fit as 255");
+}
+
+/* Whether a record holds these bytes, and zeros behind them. */
+static int holds(const uint8_t *record, const uint8_t *bytes, size_t length) {
+  for (size_t i = length; i < MIKJUQAN_ANSWER_LENGTH; i++) {
+    if (record[i] != 0) return 0;
+  }
+  return memcmp(record, bytes, length) == 0;
+}
+
+static void search_all(const uint8_t *block, size_t length, const uint32_t *table) {
+  static const uint8_t no_state[POSITIONS] = {1, 2, 3};
+  uint8_t queries[ASKED * QUERY], answers[ANSWERS + 1];
+  write_query(queries, start, within(STEPS, 100, 100));
+  write_query(queries + QUERY, start, within(STEPS, 100, 9));
+  write_query(queries + 2 * QUERY, start, within(STEPS, 4, 100));
+  write_query(queries + 3 * QUERY, start, within(MIKJUQAN_PLAN_LENGTH + 1, 100, 100));
+  write_query(queries + 4 * QUERY, no_state, within(MIKJUQAN_PLAN_LENGTH + 1, 100, 100));
+  write_query(queries + 5 * QUERY, goal, within(0, 0, 1));
+
+  memset(answers, 0xEE, sizeof answers);
+  mikjuqan_length told =
+      mikjuqan_find_plans(block, length, NULL, 0, queries, sizeof queries, table, ENTRIES, answers, sizeof answers);
+  expect(told.refusal == MIKJUQAN_ACCEPTED && told.bytes == ANSWERS && answers[ANSWERS] == 0xEE,
+         "six queries in one call: six answers, and nothing behind them");
+  const uint8_t *record = answers;
+  expect(finds(mikjuqan_read_answer(record), 3, 5, 10, 0) && same(record + MIKJUQAN_ANSWER_PLAN, 2, 0, 5),
+         "the first is the plan 2, 0, 5");
+  static const uint8_t found[] = {0, 0, 3, 0, 0, 0, 5, 0, 0, 0, 10, 2, 0, 5};
+  expect(holds(record, found, sizeof found), "its bytes are those that `par` prints, and zeros");
+  record += MIKJUQAN_ANSWER_LENGTH;
+  static const uint8_t spent[] = {2, 0, 0, 0, 0, 0, 0, 0, 0, 9};
+  expect(lacks(mikjuqan_read_answer(record), MIKJUQAN_SPENT, 9) && holds(record, spent, sizeof spent),
+         "the second is spent after 9 visits of its own");
+  record += MIKJUQAN_ANSWER_LENGTH;
+  expect(lacks(mikjuqan_read_answer(record), MIKJUQAN_NO_PLAN, 6), "for the third there is no plan");
+  record += MIKJUQAN_ANSWER_LENGTH;
+  static const uint8_t refused[] = {0xFF, MIKJUQAN_REFUSED_LIMIT};
+  expect(is_refused(mikjuqan_read_answer(record), MIKJUQAN_REFUSED_LIMIT) && holds(record, refused, sizeof refused),
+         "the fourth has a step limit of 65, and is refused by itself with 10");
+  record += MIKJUQAN_ANSWER_LENGTH;
+  expect(is_refused(mikjuqan_read_answer(record), MIKJUQAN_REFUSED_STATE), "the fifth is no state either: 8");
+  record += MIKJUQAN_ANSWER_LENGTH;
+  expect(finds(mikjuqan_read_answer(record), 0, 0, 1, 0), "the sixth begins at the goal");
+}
+
+/* Records with numbers that are large in every byte. */
+static void read_records(void) {
+  uint8_t record[MIKJUQAN_ANSWER_LENGTH] = {0, 7, 64, 1, 2, 3, 4, 0xF5, 6, 0xF7, 8};
+  mikjuqan_search told = mikjuqan_read_answer(record);
+  expect(finds(told, 64, 0x01020304, 0xF506F708, 7), "a plan is read with all bytes of its numbers");
+  static const uint8_t no_plan[MIKJUQAN_ANSWER_LENGTH] = {1, 0, 0, 0, 0, 0, 0xF1, 2, 3, 4};
+  expect(lacks(mikjuqan_read_answer(no_plan), MIKJUQAN_NO_PLAN, 0xF1020304), "and so are the visits without a plan");
+}
+
+static void many_searches(const uint8_t *block, size_t length, uint32_t *table) {
+  static uint8_t queries[(MIKJUQAN_QUERIES + 1) * QUERY];
+  static uint8_t answers[(MIKJUQAN_QUERIES + 1) * MIKJUQAN_ANSWER_LENGTH];
+  limits_as_bytes();
+  search_all(block, length, table);
+  read_records();
+
+  for (size_t i = 0; i <= MIKJUQAN_QUERIES; i++) write_query(queries + i * QUERY, goal, within(0, 0, 1));
+  const size_t all = MIKJUQAN_QUERIES * QUERY;
+  mikjuqan_length told =
+      mikjuqan_find_plans(block, length, NULL, 0, queries, all, table, ENTRIES, answers, sizeof answers);
+  expect(told.refusal == MIKJUQAN_ACCEPTED && told.bytes == MIKJUQAN_QUERIES * MIKJUQAN_ANSWER_LENGTH,
+         "256 queries are answered");
+  answers[0] = 77;
+  told = mikjuqan_find_plans(block, length, NULL, 0, queries, all + QUERY, table, ENTRIES, answers, sizeof answers);
+  expect(told.refusal == MIKJUQAN_REFUSED_RECORDS && told.bytes == 0 && answers[0] == 77,
+         "257 are refused with 16, and nothing is written");
+  told = mikjuqan_find_plans(block, length, NULL, 0, queries, QUERY + 1, table, ENTRIES, answers, sizeof answers);
+  expect(told.refusal == MIKJUQAN_REFUSED_RECORDS && told.bytes == 0, "so are a query and a byte");
+  told = mikjuqan_find_plans(block, length, NULL, 0, queries, QUERY, table, ENTRIES, answers,
+                             MIKJUQAN_ANSWER_LENGTH - 1);
+  expect(told.refusal == MIKJUQAN_REFUSED_RECORDS && told.bytes == 0, "and one with room for 74 bytes");
+  table[6] = 1; /* the goal's own entry */
+  told = mikjuqan_find_plans(block, length, NULL, 0, queries, QUERY, table, ENTRIES, answers, sizeof answers);
+  expect(told.refusal == MIKJUQAN_REFUSED_TABLE_FAILS && told.bytes == 0, "a table with 1 for the goal: 13");
+  table[6] = 0;
 }
 
 /* ---- several goals ---- */
@@ -343,7 +458,7 @@ static void null_text(void) {
 }
 
 static void null_block(const uint32_t *table) {
-  uint8_t out[STEPS];
+  uint8_t out[STEPS], query[QUERY], answer[MIKJUQAN_ANSWER_LENGTH];
   uint32_t filled[ENTRIES];
   mikjuqan_limits limits = within(STEPS, 100, 100);
   const uint32_t refused = MIKJUQAN_REFUSED_HEAD;
@@ -363,6 +478,9 @@ static void null_block(const uint32_t *table) {
          "and look_up_estimate");
   mikjuqan_search told = mikjuqan_find_plan(NULL, 0, NULL, 0, start, POSITIONS, limits, table, ENTRIES, out, STEPS);
   expect(is_refused(told, refused), "and find_plan");
+  write_query(query, start, limits);
+  expect(mikjuqan_find_plans(NULL, 0, NULL, 0, query, QUERY, table, ENTRIES, answer, sizeof answer).refusal == refused,
+         "and find_plans");
 }
 
 static void null_state(const uint8_t *block, size_t length, const uint32_t *table) {
@@ -386,7 +504,7 @@ static void null_state(const uint8_t *block, size_t length, const uint32_t *tabl
 }
 
 static void null_table(const uint8_t *block, size_t length) {
-  uint8_t plan[STEPS];
+  uint8_t plan[STEPS], query[QUERY], answer[MIKJUQAN_ANSWER_LENGTH];
   mikjuqan_limits limits = within(STEPS, 100, 100);
   const uint32_t refused = MIKJUQAN_REFUSED_TABLE_SHORT;
   expect(mikjuqan_fill_table(block, length, NULL, 0, NULL, 0) == refused,
@@ -396,6 +514,19 @@ static void null_table(const uint8_t *block, size_t length) {
          "and look_up_estimate");
   mikjuqan_search told = mikjuqan_find_plan(block, length, NULL, 0, start, POSITIONS, limits, NULL, 0, plan, STEPS);
   expect(is_refused(told, refused), "and find_plan");
+  write_query(query, start, limits);
+  expect(mikjuqan_find_plans(block, length, NULL, 0, query, QUERY, NULL, 0, answer, sizeof answer).refusal == refused,
+         "and find_plans");
+}
+
+static void null_queries(const uint8_t *block, size_t length, const uint32_t *table) {
+  uint8_t query[QUERY], answer[MIKJUQAN_ANSWER_LENGTH];
+  const uint32_t refused = MIKJUQAN_REFUSED_RECORDS;
+  write_query(query, start, within(STEPS, 100, 100));
+  expect(mikjuqan_find_plans(block, length, NULL, 0, NULL, 0, table, ENTRIES, answer, sizeof answer).refusal == refused,
+         "NULL as queries: find_plans is refused with 16");
+  expect(mikjuqan_find_plans(block, length, NULL, 0, query, QUERY, table, ENTRIES, NULL, 0).refusal == refused,
+         "so it is for NULL to write answers to");
 }
 
 static void null_out(const uint8_t *block, size_t length, const uint32_t *table) {
@@ -438,11 +569,13 @@ int main(void) {
   fill_and_look_up(block, length, table);
   search(block, length, table);
   further_maps(block, length);
+  many_searches(block, length, table);
   several_goals();
   null_text();
   null_block(table);
   null_state(block, length, table);
   null_table(block, length);
+  null_queries(block, length, table);
   null_out(block, length, table);
   null_accepted(block, length, table);
   check_texts();

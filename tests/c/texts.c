@@ -7,7 +7,7 @@
 #include <string.h>
 
 /* One more than the highest number of a refusal. */
-enum { NO_REFUSAL = 16 };
+enum { NO_REFUSAL = 17 };
 
 /* Whether the text of a number is that of no number below. */
 static int is_new(uint32_t number) {
@@ -24,10 +24,10 @@ void check_texts(void) {
     all_new = all_new && is_new(number);
     all_unended = all_unended && strlen(text) > 0 && text[strlen(text) - 1] != '.';
   }
-  expect(all_new, "each number from 0 to 15 has a text of its own, and 16 has another");
+  expect(all_new, "each number from 0 to 16 has a text of its own, and 17 has another");
   expect(all_unended, "no text is empty or ends with a full stop");
   expect(strcmp(mikjuqan_refusal_text(UINT32_MAX), mikjuqan_refusal_text(NO_REFUSAL)) == 0,
-         "all numbers above 15 have the same text");
+         "all numbers above 16 have the same text");
   expect(strcmp(mikjuqan_refusal_text(MIKJUQAN_REFUSED_BUFFER), "the buffer is too short") == 0,
          "that of 11 says that the buffer is too short");
 }

@@ -109,7 +109,8 @@ impl Kind for Search {
 
 impl<T: Kind> Kind for Result<T, Refusal> {
     fn kind(&self) -> &'static str {
-        const REFUSED: [&str; 15] = ["1", "2", "3", "4", "5", "6", "7", "8", "9", "10", "11", "12", "13", "14", "15"];
+        const REFUSED: [&str; 16] =
+            ["1", "2", "3", "4", "5", "6", "7", "8", "9", "10", "11", "12", "13", "14", "15", "16"];
         match self {
             Ok(answer) => answer.kind(),
             Err(refusal) => REFUSED[refusal.number() as usize - 1],

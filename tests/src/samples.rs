@@ -23,13 +23,28 @@ pub struct Sample {
 impl Sample {
     /// The block of the sample's exercise, and the start of its first query.
     pub fn block_and_start(&self) -> (Vec<u8>, Vec<u8>) {
-        let lines = split_lines(&self.input);
-        let read_front = |count: usize| Some((count, read(&lines[..count].concat(), usize::MAX).ok()?));
-        let (count, block) = (1..lines.len()).find_map(read_front).expect("a sample has an exercise and a query");
-        let mut start = decode_line(lines[count]).expect("a sample's query is a line of digits");
+        let (block, mut queries) = self.block_and_queries();
+        let mut start = queries.swap_remove(0);
         start.truncate(block[0].into());
         (block, start)
     }
+
+    /// The block of the sample's exercise, and the bytes of each query.
+    pub fn block_and_queries(&self) -> (Vec<u8>, Vec<Vec<u8>>) {
+        let lines = split_lines(&self.input);
+        let read_front = |count: usize| Some((count, read(&lines[..count].concat(), usize::MAX).ok()?));
+        let (count, block) = (1..lines.len()).find_map(read_front).expect("a sample has an exercise and a query");
+        (block, decode_lines(&lines[count..]))
+    }
+
+    /// The bytes of each answer.
+    pub fn answer_bytes(&self) -> Vec<Vec<u8>> {
+        decode_lines(&split_lines(&self.answers))
+    }
+}
+
+fn decode_lines(lines: &[&[u8]]) -> Vec<Vec<u8>> {
+    lines.iter().map(|line| decode_line(line).expect("a sample's lines are lines of digits")).collect()
 }
 
 /// The directory of the repository.

@@ -6,7 +6,7 @@ use crate::model::answers::{Replay, Search};
 use crate::program;
 use crate::random::Random;
 use crate::samples::repository;
-use mikjuqan::{Exercise, Limits, Refusal};
+use mikjuqan::{Exercise, Limits, Refusal, ANSWER_LENGTH};
 use std::fs;
 
 /// The lines of a file, without its comments.
@@ -61,9 +61,9 @@ fn unpack<T: Copy>(packed: &str, between: char, part: impl Fn(&str) -> Vec<T>) -
 /// The answer of a call in the words of a line, with the buffer that the line expects; other contents are an error
 /// here.
 fn run(name: &str, a: &Arguments, expected: &str) -> String {
-    // What is handed over first is the block, but in two cases. Four calls take further maps behind it.
+    // What is handed over first is the block, but in two cases. Five calls take further maps behind it.
     let block = a.bytes(0);
-    let takes_maps = ["fill_table", "test_table", "look_up_estimate", "find_plan"].contains(&name);
+    let takes_maps = ["fill_table", "test_table", "look_up_estimate", "find_plan", "find_plans"].contains(&name);
     let maps = if takes_maps { a.bytes(1) } else { Vec::new() };
     let exercise = Exercise::new(&block).with_maps(&maps);
     let written = |place: usize, call: &dyn Fn(&mut [u8]) -> String| {
@@ -91,6 +91,10 @@ fn run(name: &str, a: &Arguments, expected: &str) -> String {
         "find_plan" => written(7, &|plan| {
             let limits = Limits { steps: a.number(3), cost: a.number(4), visits: a.number(5) };
             words(exercise.find_plan(&a.bytes(2), limits, &a.entries(6), plan).map(Search::from))
+        }),
+        "find_plans" => written(4, &|answers| {
+            let told = exercise.find_plans(&a.bytes(2), &a.entries(3), answers);
+            words(told.map(|told| told.len() * ANSWER_LENGTH))
         }),
         "fill_table" => fill(exercise, a, expected),
         _ => panic!("there is no call {name}"),

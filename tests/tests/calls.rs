@@ -1,14 +1,16 @@
-//! Random and damaged inputs for each of the thirteen calls, compared with the model: the answer and all lent memory.
+//! Random and damaged inputs for each of the fourteen calls, compared with the model: the answer and all lent memory.
 //!
 //! Each test lists the answers and refusals that its call can give, and fails if one of them was not met; those that
 //! are lent further maps do so for each number of them.
 
+use mikjuqan::ANSWER_LENGTH;
 use outside::compare;
 use outside::draw::arguments::{
     change_list, damage_sometimes, draw_back, draw_goal_state, draw_room, draw_rule_number, draw_state,
 };
 use outside::draw::limits::draw_limits;
 use outside::draw::maps::DrawnMaps;
+use outside::draw::queries::{count_records, draw_queries};
 use outside::draw::tables::draw_table;
 use outside::draw::text::draw_text;
 use outside::draw::Drawn;
@@ -165,5 +167,22 @@ fn find_plan() {
         let limits = draw_limits(random, &drawn.block, &maps.bytes, &start, &table);
         let room = draw_room(random, limits.steps.min(70));
         compare::find_plan(random, &drawn.block, &maps.bytes, &start, limits, &table, room).0
+    });
+}
+
+/// Of the answers one is counted: 8 and 10 are those of a query.
+#[test]
+fn find_plans() {
+    let answers = format!("found at the start, found near, found far, {GOALS}, no plan, spent, 8, 10");
+    let possible = format!("{answers}, 3, 4, 5, 6, 7, 14, 15, 16, 12, 13");
+    repeat_by_maps("find_plans", &possible, |random, count| {
+        let (drawn, start) = Drawn::with_start(random, FEW);
+        let maps = DrawnMaps::new(random, &drawn.draft, count, FEW);
+        let table = draw_table(random, &drawn, &maps);
+        let queries = draw_queries(random, &drawn, &maps.bytes, &start, &table);
+        let room = draw_room(random, ANSWER_LENGTH * count_records(&drawn.draft, &queries));
+        let answers = compare::find_plans(random, &drawn.block, &maps.bytes, &queries, &table, room).0?;
+        let answer = &answers[random.below(answers.len())];
+        Ok(answer.as_ref().map(|told| told.0).map_err(|&refusal| refusal))
     });
 }

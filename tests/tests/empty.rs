@@ -1,6 +1,6 @@
 //! Every slice of every call handed over empty once, as `&[]`, whose pointer points nowhere.
 
-use mikjuqan::{read_exercise, Exercise, Limits, Refusal, BLOCK_LENGTH, NO_PATH};
+use mikjuqan::{read_exercise, Exercise, Limits, Refusal, ANSWER_LENGTH, BLOCK_LENGTH, NO_PATH};
 use outside::model::answers::{Replay, Search};
 use outside::samples::{e_block, E_TEXT};
 
@@ -8,6 +8,9 @@ const START: [u8; 3] = [1, 2, 0];
 const GOAL: [u8; 3] = [2, 1, 0];
 const TABLE: [u32; 8] = [0; 8];
 const LIMITS: Limits = Limits { steps: 8, cost: 100, visits: 100 };
+
+/// The start and the limits as a query record.
+const QUERY: [u8; 12] = [1, 2, 0, 8, 0, 0, 0, 100, 0, 0, 0, 100];
 
 /// Calls with input E, and asserts that a call that is refused has not written to the buffer it was handed.
 fn with_e<T>(call: impl FnOnce(Exercise, &mut [u8]) -> Result<T, Refusal>) -> Result<T, Refusal> {
@@ -30,7 +33,7 @@ fn text() {
 #[test]
 fn block() {
     let nothing = Exercise::new(&[]);
-    let mut out = [0xEE; 64];
+    let mut out = [0xEE; ANSWER_LENGTH];
     let mut table = [0xEEEE; 8];
     let refused = Refusal::Head;
     assert_eq!(nothing.check_block(), Err(refused));
@@ -45,7 +48,8 @@ fn block() {
     assert_eq!(nothing.test_table(&TABLE), Err(refused));
     assert_eq!(nothing.look_up_estimate(&START, &TABLE), Err(refused));
     assert_eq!(nothing.find_plan(&START, LIMITS, &TABLE, &mut out), Err(refused));
-    assert_eq!((out, table), ([0xEE; 64], [0xEEEE; 8]));
+    assert_eq!(nothing.find_plans(&QUERY, &TABLE, &mut out).err(), Some(refused));
+    assert_eq!((out, table), ([0xEE; ANSWER_LENGTH], [0xEEEE; 8]));
 }
 
 #[test]
@@ -71,14 +75,16 @@ fn maps() {
     assert_eq!(with_e(|e, _| e.with_maps(&[]).look_up_estimate(&START, &table)), Ok(Some(0)));
     let found = with_e(|e, plan| e.with_maps(&[]).find_plan(&START, LIMITS, &table, plan)).map(Search::from);
     assert_eq!(found, Ok(Search::Found { steps: 3, cost: 5, visits: 10, goal: 0 }));
+    assert_eq!(with_e(|e, answers| e.with_maps(&[]).find_plans(&QUERY, &table, answers).map(|told| told.len())), Ok(1));
     let nothing = Exercise::new(&[]).with_maps(&[]);
     assert_eq!(nothing.fill_table(&mut table), Err(Refusal::Head));
     assert_eq!(nothing.test_table(&table), Err(Refusal::Head));
     assert_eq!(nothing.look_up_estimate(&[], &[]), Err(Refusal::Head));
     assert_eq!(nothing.find_plan(&[], LIMITS, &[], &mut []).map(Search::from), Err(Refusal::Head));
+    assert_eq!(nothing.find_plans(&[], &[], &mut []).err(), Some(Refusal::Head));
 }
 
-/// With a further map all else may be empty: the state, the table, the plan.
+/// With a further map all else may be empty: the state, the table, the plan; the queries and the answers.
 #[test]
 fn all_but_maps() {
     const MAP: [u8; 4] = [2, 0, 0, 1];
@@ -90,6 +96,22 @@ fn all_but_maps() {
     assert_eq!(find(&[], &mut []), Err(Refusal::State));
     assert_eq!(find(&START, &mut []), Err(Refusal::Buffer));
     assert_eq!(find(&START, &mut [0; 8]), Err(Refusal::TableShort));
+    let find_all = |queries: &[u8], answers: &mut [u8]| {
+        with_e(|e, _| e.with_maps(&MAP).find_plans(queries, &[], answers).map(|told| told.len()))
+    };
+    assert_eq!(find_all(&[], &mut []), Err(Refusal::Records));
+    assert_eq!(find_all(&[], &mut [0; ANSWER_LENGTH]), Err(Refusal::Records));
+    assert_eq!(find_all(&QUERY, &mut []), Err(Refusal::Records));
+    assert_eq!(find_all(&QUERY, &mut [0; ANSWER_LENGTH]), Err(Refusal::TableShort));
+}
+
+/// No queries are no answer of none: at least one is asked for.
+#[test]
+fn queries_and_answers() {
+    let refused = Refusal::Records;
+    assert_eq!(with_e(|e, answers| e.find_plans(&[], &TABLE, answers).map(|told| told.len())), Err(refused));
+    assert_eq!(with_e(|e, _| e.find_plans(&QUERY, &TABLE, &mut []).map(|told| told.len())), Err(refused));
+    assert_eq!(with_e(|e, _| e.find_plans(&[], &TABLE, &mut []).map(|told| told.len())), Err(refused));
 }
 
 #[test]
@@ -99,6 +121,7 @@ fn tables() {
     assert_eq!(with_e(|e, _| e.test_table(&[])), Err(refused));
     assert_eq!(with_e(|e, _| e.look_up_estimate(&START, &[])), Err(refused));
     assert_eq!(with_e(|e, plan| e.find_plan(&START, LIMITS, &[], plan)), Err(refused));
+    assert_eq!(with_e(|e, answers| e.find_plans(&QUERY, &[], answers).map(|told| told.len())), Err(refused));
 }
 
 #[test]

@@ -112,19 +112,36 @@ fn goals_that_are_one_for_the_table() {
     assert_eq!(goal_found(&block, &[0]), 1);
 }
 
-/// A plan of 64 rules to goal 7, which makes the longest line there is: 75 bytes.
-#[test]
-fn longest_line() {
+/// A plan of 64 rules to goal 7, which makes the longest answer there is: 75 bytes. The frames of its exercise, the
+/// query, and the answer.
+fn longest() -> (Vec<Vec<u8>>, Vec<u8>, Vec<u8>) {
     let state = |number: u8| [number / 8, number % 8];
     let rules: [(u8, [u8; 2], [u8; 2]); 64] = std::array::from_fn(|k| (255, state(k as u8), state(k as u8 + 1)));
     let mut goals = [[8, 8]; 8];
     goals[7] = state(64);
     let query = [0, 0, 64, 0, 0, 0x3F, 0xC0, 0, 0, 0, 65];
     let answer = [[0, 7, 64, 0, 0, 0x3F, 0xC0, 0, 0, 0, 65].as_slice(), &(0..64).collect::<Vec<u8>>()].concat();
-    let input: Vec<u8> = frames(9, &rules, &goals).iter().flat_map(|frame| encode_line(frame)).collect();
-    let input = [input, encode_line(&query)].concat();
+    (frames(9, &rules, &goals), query.to_vec(), answer)
+}
+
+#[test]
+fn longest_line() {
+    let (frames, query, answer) = longest();
+    let input: Vec<u8> = frames.iter().chain([&query]).flat_map(|frame| encode_line(frame)).collect();
     let line = encode_line(&answer);
     assert_eq!(line.len(), 151);
     assert_eq!(session::print(&input), line);
     assert_eq!(program::run(&input).printed, line);
+}
+
+#[test]
+fn longest_record() {
+    let (frames, query, answer) = longest();
+    let (block, random) = (frames.concat(), &mut Random::new(1));
+    let table = compare::fill_table(random, &block, &[], 81).1;
+    let queries = [query.as_slice(), &[8, 0, 64, 0, 0, 0, 0, 0, 0, 0, 1], &query].concat();
+    let (told, answers) = compare::find_plans(random, &block, &[], &queries, &table, 3 * answer.len());
+    assert!(told.is_ok());
+    let short = [[0, 7, 0, 0, 0, 0, 0, 0, 0, 0, 1].as_slice(), &[0; 64]].concat();
+    assert_eq!(answers, [answer.clone(), short, answer].concat());
 }

@@ -2,7 +2,7 @@
 //!
 //! Besides comparing with the model, each test states at which lengths its call is accepted.
 
-use mikjuqan::{Limits, Refusal, TABLE_LENGTH};
+use mikjuqan::{Limits, Refusal, ANSWER_LENGTH, QUERIES, TABLE_LENGTH};
 use outside::compare;
 use outside::draw::arguments::draw_run;
 use outside::model::block::check;
@@ -333,5 +333,47 @@ fn find_plan() {
             assert_eq!(tried.refusals, [Refusal::Limit], "step limits of {}", subject.name);
         }
         try_maps(&subject, |maps, tables| compare::find_plan(random, block, maps, state, limits, tables, 64).0);
+    }
+}
+
+#[test]
+fn find_plans() {
+    let random = &mut Random::new(14);
+    let limits = Limits { steps: 64, cost: 100, visits: 20 };
+    for subject in subjects() {
+        let Subject { block, state, .. } = &subject;
+        let query = [state.as_slice(), &limits.to_bytes()].concat();
+        let (width, three, room) = (query.len(), query.repeat(3), 3 * ANSWER_LENGTH);
+        for maps in &subject.lendings() {
+            let tables = subject.tables(maps);
+            let mut find = |block: &[u8], queries: &[u8], tables: &[u32], room: usize| {
+                compare::find_plans(random, block, maps, queries, tables, room).0
+            };
+            try_blocks(&subject, |block| find(block, &three, &tables, room));
+            try_rooms(tables.len(), Refusal::TableShort, |length| {
+                find(block, &three, &with_length(&tables, length), room)
+            });
+            try_rooms(room, Refusal::Records, |room| find(block, &three, &tables, room));
+            let tried = try_lengths(three.len(), |length| find(block, &with_length(&three, length), &tables, room));
+            assert_eq!(tried.accepted, [width, 2 * width, 3 * width], "queries of {}", subject.name);
+            assert_eq!(tried.refusals, [Refusal::Records], "queries of {}", subject.name);
+        }
+        try_maps(&subject, |maps, tables| compare::find_plans(random, block, maps, &three, tables, room).0);
+    }
+}
+
+#[test]
+fn numbers_of_queries() {
+    let random = &mut Random::new(15);
+    let limits = Limits { steps: 64, cost: 100, visits: 2 };
+    // Other tables are tested for too long, once for each query.
+    for subject in subjects().into_iter().filter(|subject| subject.exercise.abstract_states() <= 8) {
+        let query = [subject.state.as_slice(), &limits.to_bytes()].concat();
+        let table = subject.tables(&[]);
+        let tried = try_lengths(QUERIES, |count| {
+            compare::find_plans(random, &subject.block, &[], &query.repeat(count), &table, ANSWER_LENGTH * count).0
+        });
+        assert_eq!(tried.accepted, (1..=QUERIES).collect::<Vec<_>>(), "queries of {}", subject.name);
+        assert_eq!(tried.refusals, [Refusal::Records], "queries of {}", subject.name);
     }
 }

@@ -1,7 +1,7 @@
 //! Further maps: what is said of them in words, each through the library and through the model, and every reason to
 //! refuse them, at random.
 
-use mikjuqan::{Exercise, Limits, Refusal, NO_PATH, TABLE_LENGTH};
+use mikjuqan::{Exercise, Limits, Refusal, ANSWER_LENGTH, NO_PATH, TABLE_LENGTH};
 use outside::compare;
 use outside::draw::maps::DrawnMaps;
 use outside::draw::Drawn;
@@ -35,14 +35,16 @@ fn find(maps: &[u8], tables: &[u32]) -> Result<Search, Refusal> {
     compare::find_plan(&mut Random::new(3), &e_block(), maps, &START, LIMITS, tables, 8).0
 }
 
-/// The refusals of the four calls that are lent maps, for a block and a state, by a table of no entries.
-fn refusals(block: &[u8], maps: &[u8], state: &[u8]) -> [Option<Refusal>; 4] {
+/// The refusals of the five calls that are lent maps, for a block and a state, by a table of no entries.
+fn refusals(block: &[u8], maps: &[u8], state: &[u8]) -> [Option<Refusal>; 5] {
     let random = &mut Random::new(4);
+    let query = [state, &LIMITS.to_bytes()].concat();
     [
         compare::fill_table(random, block, maps, 0).0.err(),
         compare::test_table(random, block, maps, &[]).err(),
         compare::look_up_estimate(random, block, maps, state, &[]).err(),
         compare::find_plan(random, block, maps, state, LIMITS, &[], 8).0.err(),
+        compare::find_plans(random, block, maps, &query, &[], ANSWER_LENGTH).0.err(),
     ]
 }
 
@@ -111,12 +113,12 @@ fn order_of_refusals() {
     let both = [0, 0, 0, 0, 1];
     let out_of_range = [0, 0, 0, 0];
     let no_state = [1, 2, 3];
-    assert_eq!(refusals(&unbound, &both, &no_state), [Some(Refusal::Unbound); 4]);
-    assert_eq!(refusals(&good, &both, &no_state), [Some(Refusal::Maps); 4]);
-    assert_eq!(refusals(&good, &out_of_range, &no_state), [Some(Refusal::MapRange); 4]);
+    assert_eq!(refusals(&unbound, &both, &no_state), [Some(Refusal::Unbound); 5]);
+    assert_eq!(refusals(&good, &both, &no_state), [Some(Refusal::Maps); 5]);
+    assert_eq!(refusals(&good, &out_of_range, &no_state), [Some(Refusal::MapRange); 5]);
     let [short, state] = [Some(Refusal::TableShort), Some(Refusal::State)];
-    assert_eq!(refusals(&good, &IDENTITY, &no_state), [short, short, state, state]);
-    assert_eq!(refusals(&good, &IDENTITY, &START), [short; 4]);
+    assert_eq!(refusals(&good, &IDENTITY, &no_state), [short, short, state, state, short]);
+    assert_eq!(refusals(&good, &IDENTITY, &START), [short; 5]);
 }
 
 /// Positions, and the K of each map, the block's own first.
@@ -129,7 +131,7 @@ fn entries_of_all_tables_together() {
         let state = vec![0; positions.into()];
         let block = [vec![positions, labels, numbers[0], 0, 1], vec![0; labels.into()], state.clone()].concat();
         let [first, others @ ..] = refusals(&block, &maps, &state);
-        assert_eq!(others, [first; 3]);
+        assert_eq!(others, [first; 4]);
         first
     };
     let within: [(u8, &[u8]); 4] = [(14, &[2]), (13, &[2, 2]), (12, &[2, 2, 2, 2]), (3, &[16, 16, 16, 16])];

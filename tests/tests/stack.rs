@@ -1,6 +1,6 @@
 //! The most stack that calls and the program use.
 
-use mikjuqan::{Exercise, Limits, BLOCK_LENGTH, LIST_LENGTH, PLAN_LENGTH, TABLE_LENGTH};
+use mikjuqan::{Exercise, Limits, ANSWER_LENGTH, BLOCK_LENGTH, LIST_LENGTH, PLAN_LENGTH, TABLE_LENGTH};
 use outside::model::answers::Search;
 use outside::model::text::encode_line;
 use outside::model::{calls, session};
@@ -57,6 +57,9 @@ fn deep_frames(side: Side) -> Vec<Vec<u8>> {
 /// One label 1 in each ring.
 const DEEP_START: [u8; 16] = [0, 1, 0, 0, 1, 0, 0, 0, 0, 1, 0, 0, 0, 0, 0, 0];
 
+/// With a cost limit of 0 there is but one round.
+const DEEP_LIMITS: Limits = Limits { steps: 64, cost: 0, visits: 10_000 };
+
 fn deep_text(side: Side) -> Vec<u8> {
     deep_frames(side).iter().flat_map(|frame| encode_line(frame)).collect()
 }
@@ -83,8 +86,7 @@ fn report(name: &str, bytes: usize, most_kib: usize) {
 
 /// The most stack of a search that goes as deep as can be, by none or three further maps, each to one abstract label.
 fn used_by_searches(maps: &[u8]) -> usize {
-    // With a cost limit of 0 there is but one round.
-    let limits = Limits { steps: 64, cost: 0, visits: 10_000 };
+    let limits = DEEP_LIMITS;
     let used = |side: Side| {
         let block = deep_frames(side).concat();
         let mut plan = [0; PLAN_LENGTH];
@@ -103,6 +105,33 @@ fn used_by_searches(maps: &[u8]) -> usize {
 fn find_plan() {
     report("find_plan", used_by_searches(&[]), 320);
     report("find_plan with three further maps", used_by_searches(&[1, 0, 0, 0].repeat(3)), 320);
+}
+
+/// The most stack of a call with two such searches.
+fn used_by_queries(maps: &[u8]) -> usize {
+    let queries = [DEEP_START.as_slice(), &DEEP_LIMITS.to_bytes()].concat().repeat(2);
+    let used = |side: Side| {
+        let block = deep_frames(side).concat();
+        let mut expected = [0xEE; 2 * ANSWER_LENGTH];
+        assert_eq!(calls::find_plans(&block, maps, &queries, &[0; 4], &mut expected), Ok(expected.len()));
+        let mut answers = [0; 2 * ANSWER_LENGTH];
+        let exercise = Exercise::new(&block).with_maps(maps);
+        let used = used_by(|| assert!(exercise.find_plans(&queries, &[0; 4], &mut answers).is_ok()));
+        assert_eq!(answers, expected, "side extensions {side:?}");
+        used
+    };
+    SIDES.map(used).into_iter().max().expect("there are sides")
+}
+
+/// They take no more than one of them, and a few hundred bytes.
+#[test]
+fn find_plans() {
+    for (name, maps) in [("find_plans", vec![]), ("find_plans with three further maps", [1, 0, 0, 0].repeat(3))] {
+        let (many, one) = (used_by_queries(&maps), used_by_searches(&maps));
+        println!("stack: {name} uses {many} bytes, and a single search {one}");
+        report(name, many, 320);
+        assert!(many <= one + 512, "{name} uses {many} bytes of stack, and a single search {one}");
+    }
 }
 
 /// Large exercises with further maps: one map and 16,384 abstract states, and four maps with 4,096 each.

@@ -61,6 +61,11 @@ fn maps() {
     check_all("maps", 2300);
 }
 
+#[test]
+fn batches() {
+    check_all("batches", 700);
+}
+
 /// A line with another answer, or another buffer, is noticed.
 #[test]
 fn faults() {

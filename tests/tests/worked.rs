@@ -151,10 +151,10 @@ fn relabelling_twice_changes_nothing_more() {
 
 #[test]
 fn numbers_of_refusals() {
-    let names =
-        "Character Line Head Length Map Term Unbound State Rule Limit Buffer TableShort TableFails Maps MapRange";
+    let names = "Character Line Head Length Map Term Unbound State Rule Limit Buffer TableShort TableFails Maps \
+                 MapRange Records";
     let numbers: Vec<u32> = Refusal::ALL.iter().map(|refusal| refusal.number()).collect();
-    assert_eq!(numbers, (1..=15).collect::<Vec<u32>>());
+    assert_eq!(numbers, (1..=16).collect::<Vec<u32>>());
     let shown: Vec<String> = Refusal::ALL.iter().map(|refusal| format!("{refusal:?}")).collect();
     assert_eq!(shown.join(" "), names);
 }

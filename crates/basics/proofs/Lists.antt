@@ -11,7 +11,8 @@ use native.Mathlib.Numerals.{add-one}
 use lib.ListN.{length, getD, set, take, drop, length-append, List·getD-append, length-drop, drop-of-length-le}
 use lib.ListN.{length-set}
 use lib.Seq.{ext-getD, getD-append-add, getD-set-same, getD-set-other, set-append-left, take-length, take-at}
-use lib.Seq.{sets, sets-eq, take-all, take-append-seam, drop-append-seam, drop-append-add, drop-drop}
+use lib.Seq.{sets, sets-eq, take-all, take-append-seam, drop-append-seam, drop-append-add, drop-append-le, drop-at}
+use lib.Seq.{drop-drop}
 use borrow.Author.Count.{below-more}
 use borrow.Rule.Slice.PartMut.{midOf, putMid}
 use Rattle.basics.specs.Lists.{tabulateFrom, tabulate, joined, atFront}
@@ -101,6 +102,19 @@ joined-within f (suc n) r l =
     (λ k. let ih = joined-within f n r k in omega arith)
     (eq-or-lt-of-le (le-of-suc-le-suc l))
 
+-- list r of those of one length w that stand at the front
+pub joined-part :
+    (f : ℕ → List ℕ) (w n : ℕ) → ((r : ℕ) → r < n → length (f r) ≡ w) → (rest : List ℕ) (r : ℕ) → r < n
+    → take w (drop (r * w) (joined n f ++ rest)) ≡ f r
+joined-part f w zero h rest r l = absurd (not-suc-le-zero l)
+joined-part f w (suc n) h rest r l =
+    let before = length-joined f w n (λ k m. h k (omega arith)) in
+    let last : take w (drop (n * w) (joined n f ++ (f n ++ rest))) ≡ f n =
+    ap (take w) (drop-at (joined n f) (f n ++ rest) (n * w) before) ∙ take-at (f n) rest w (h n (omega arith)) in
+    ap (λ (t : List ℕ). take w (drop (r * w) t)) (append-assoc (joined n f) (f n) rest)
+    ∙ ⊎-elim (λ q. rw q last) (λ k. joined-part f w n (λ i m. h i (omega arith)) (f n ++ rest) r k)
+    (eq-or-lt-of-le (le-of-suc-le-suc l))
+
 pub joined-ext : (f g : ℕ → List ℕ) (n : ℕ) → ((r : ℕ) → r < n → f r ≡ g r) → joined n f ≡ joined n g
 joined-ext f g zero h = refl
 joined-ext f g (suc n) h = ap₂ _++_ (joined-ext f g n (λ r l. h r (omega arith))) (h n (omega arith))
@@ -174,6 +188,18 @@ front-over new first old l =
     ∙ drop-append-add first (drop (length first) old) d
     ∙ drop-drop d (length first) old
     ∙ ap (λ (k : ℕ). drop k old) (sym e))
+
+-- a list at the front of one that has a longer list at its front
+pub front-within :
+    (new first old : List ℕ) → length new ≤ length first
+    → atFront new (atFront first old) ≡ atFront (atFront new first) old
+front-within new first old l =
+    let behind = drop (length new) first in
+    let same : length (new ++ behind) ≡ length first =
+    omega (arith, length-append new behind, length-drop (length new) first) in
+    ap (λ (rest : List ℕ). new ++ rest) (drop-append-le (length new) first (drop (length first) old) l)
+    ∙ sym (append-assoc new behind (drop (length first) old))
+    ∙ ap (λ (k : ℕ). (new ++ behind) ++ drop k old) (sym same)
 
 -- one list more in the part of a list behind what stands at its front
 module _ (front more old : List ℕ) where

@@ -46,6 +46,9 @@ use Rattle.table_calls.specs.declared.estimating.Estimate.the-variants as estim
 use Rattle.search_calls.specs.Searching.{searchOf}
 use Rattle.search_calls.specs.declared.searching.Search.{Search}
 use Rattle.search_calls.specs.declared.searching.Search.the-variants as searched
+use Rattle.batch_calls.specs.Batches.{batchOf}
+use Rattle.batch_calls.specs.declared.batches.Batch.{Batch}
+use Rattle.batch_calls.specs.declared.batches.Batch.the-variants as batch
 use Rattle.c_answers.specs.Numbers.{refusalOf, decisionOf, appliedOf, goalNumbersOf, lengthOf, entryOf, replayNumbersOf, searchNumbersOf}
 use Rattle.c_answers.specs.Numbers.{toldBy, doneTold, decisionTold, appliedTold, goalTold, lengthTold, entryTold, replayTold, searchTold}
 
@@ -66,6 +69,7 @@ refused-told a refusal.TableShort = refl
 refused-told a refusal.TableFails = refl
 refused-told a refusal.Maps = refl
 refused-told a refusal.MapRange = refl
+refused-told a refusal.Records = refl
 
 -- one number
 pub verdict-told : (x : Verdict) → doneTold (refusalOf (verdictOf x)) ≡ verdictOf x
@@ -109,6 +113,10 @@ reading-told (reading.Refused x) = refused-told _ x
 pub relabelling-told : (x : Relabelling) → lengthTold (lengthOf (relabellingOf x)) ≡ relabellingOf x
 relabelling-told (relabelling.Done bytes) = refl
 relabelling-told (relabelling.Refused x) = refused-told _ x
+
+pub batch-told : (x : Batch) → lengthTold (lengthOf (batchOf x)) ≡ batchOf x
+batch-told (batch.Done bytes) = refl
+batch-told (batch.Refused x) = refused-told _ x
 
 pub replay-told : (x : Replay) → replayTold (replayNumbersOf (replayOf x)) ≡ replayOf x
 replay-told (replay.Done end) = refl

@@ -44,7 +44,7 @@ abbrev pub goalNumbersOf : Answer (Option ℕ) → GoalNumbers
 goalNumbersOf (refused number) = record { refusal = number; goal = noGoal }
 goalNumbersOf (told met) = record { refusal = 0; goal = goalByte met }
 
--- the length of the block that was written
+-- the length of the block, or of the answer records, that were written
 abbrev pub lengthOf : Answer ℕ → Length
 lengthOf (refused number) = record { refusal = number; bytes = 0 }
 lengthOf (told bytes) = record { refusal = 0; bytes = bytes }
@@ -98,7 +98,7 @@ goalRead goal = cond (eqb goal noGoal) none (some goal)
 abbrev pub goalTold : GoalNumbers → Answer (Option ℕ)
 goalTold r = toldBy (r .refusal) (goalRead (r .goal))
 
--- the length of the block that was written
+-- the length of the block, or of the answer records, that were written
 abbrev pub lengthTold : Length → Answer ℕ
 lengthTold r = toldBy (r .refusal) (r .bytes)
 

@@ -1,11 +1,13 @@
-// Calls that write a block, and answer its length.
+// Calls that write a block or answer records, and answer their length.
 ghost use mathlib.Core.Path.{_≡_};
 ghost use Rattle.refusals.specs.Answers.{refused};
 ghost use Rattle.refusals.specs.Refusals.{refusalNumber};
 ghost use Rattle.frames.specs.Reading.{readingOf};
 ghost use Rattle.psvn_calls.specs.Relabelling.{relabellingOf};
+ghost use Rattle.batch_calls.specs.Batches.{batchOf};
 ghost use Rattle.c_answers.specs.Numbers.{lengthOf};
 use super::verdicts::number_of;
+use engine::Batch;
 use engine::Reading;
 use engine::Relabelling;
 use refusals::Refusal;
@@ -44,5 +46,15 @@ pub fn relabelled(relabelling: Relabelling) -> Length
     match relabelling {
         Relabelling::Done(bytes) => Length { refusal: 0, bytes },
         Relabelling::Refused(refusal) => not_written(refusal),
+    }
+}
+
+// What searching from many starts answers.
+pub fn answered(batch: Batch) -> Length
+    ensures { λ r. ⌜ r ≡ lengthOf (batchOf batch) ⌝ }
+{
+    match batch {
+        Batch::Done(bytes) => Length { refusal: 0, bytes },
+        Batch::Refused(refusal) => not_written(refusal),
     }
 }

@@ -20,6 +20,7 @@ pub use entries::looked_up;
 pub use goals::GoalNumbers;
 pub use goals::met;
 pub use lengths::Length;
+pub use lengths::answered;
 pub use lengths::read;
 pub use lengths::relabelled;
 pub use replays::ReplayNumbers;

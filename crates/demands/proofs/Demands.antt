@@ -57,7 +57,9 @@ use Rattle.run_calls.specs.Replaying.{replayConditions, replayRun}
 use Rattle.table_calls.specs.WholeTables.{tableConditions, fillTable, testTable}
 use Rattle.table_calls.specs.Estimating.{lookUpConditions, lookUpEstimate}
 use Rattle.table_calls.proofs.OneTable.{one-fill, one-test, one-look-up}
-use Rattle.search_calls.specs.Searching.{lentConditions, searchConditions, findPlan}
+use Rattle.batch_calls.specs.Batches.{batchConditions, findPlans}
+use Rattle.batch_calls.proofs.Promises.{batch-kept}
+use Rattle.search_calls.specs.Searching.{tablesConditions, lentConditions, searchConditions, findPlan}
 use Rattle.search_calls.proofs.OneTable.{one-plan}
 use Rattle.par_queries.specs.QueryLines.{queryLineConditions}
 use Rattle.par_outputs.proofs.Meaning.{par-means}
@@ -82,7 +84,8 @@ unfolding
     relabelConditions relabelExercise stateConditions applyConditions applyRule testGoals stepBackConditions
     stepBackFrom reversibleConditions testReversible replayConditions replayRun mapConditions
     exerciseConditions tableConditions fillTable testTable
-    lookUpConditions lookUpEstimate searchConditions queryConditions lentConditions findPlan queryLineConditions
+    lookUpConditions lookUpEstimate searchConditions queryConditions lentConditions tablesConditions findPlan
+    batchConditions findPlans queryLineConditions
 demand1 =
     record {
       reading = λ text. refuses _ _ _ _ (λ room. refl) (λ out. refl) (λ out. (_, refl));
@@ -100,7 +103,9 @@ demand1 =
       testing = λ b maps t. refuses-answer _ _ _ _ refl refl;
       looking-up = λ b maps s t. refuses-answer _ _ _ _ refl refl;
       searching = λ b maps s l t. refuses _ _ _ _ (λ room. refl) (λ out. refl) (λ out. (_, refl));
+      searching-many = λ b maps queries t. refuses _ _ _ _ (λ room. refl) (λ out. refl) (λ out. (_, refl));
       query = λ b line. refl;
+      query-record = λ b q. refl;
       valid = λ b. (accepted-valid b, valid-accepted b);
       written-read = read-written;
     }
@@ -217,6 +222,7 @@ demands =
       search = demand3;
       search-by-tables = λ b maps t k passes small.
           demand3 b (estimateOf b maps t) (k .valid 0 (omega arith)) (tables-passing b maps t k small passes);
+      record-by-record = batch-kept;
       one-table = one-table;
       program = par-means;
     }

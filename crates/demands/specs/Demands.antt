@@ -58,6 +58,8 @@ use Rattle.map_fills.specs.MapFills.{allFilled, LeastEntries}
 use Rattle.table_calls.specs.WholeTables.{tableConditions, fillTable, testTable}
 use Rattle.table_calls.specs.Estimating.{lookUpConditions, lookUpEstimate}
 use Rattle.search_calls.specs.Searching.{reported, searchConditions, findPlan}
+use Rattle.records.specs.Records.{recordConditions}
+use Rattle.batch_calls.specs.Batches.{batchConditions, findPlans, BatchKept}
 use Rattle.par_queries.specs.QueryLines.{queryLineConditions}
 use Rattle.par_outputs.specs.Output.{parOutput}
 use Rattle.par_outputs.specs.Promises.{Means}
@@ -129,8 +131,14 @@ pub record Demand1 : Type 0 where
       (b maps s : List ℕ) (l : Limits) (t : List ℕ)
       → Refuses (3 ∷ 4 ∷ 5 ∷ 6 ∷ 7 ∷ 14 ∷ 15 ∷ 8 ∷ 10 ∷ 11 ∷ 12 ∷ 13 ∷ []) (searchConditions b maps s l t)
       (findPlan b maps s l t)
-  -- "A query is checked for 1, 2 (its length), 8, 10"
+  -- 16 is "checked after 11; 8 and 10 then arise only per record" (F-4)
+  pub searching-many :
+      (b maps queries t : List ℕ)
+      → Refuses (3 ∷ 4 ∷ 5 ∷ 6 ∷ 7 ∷ 14 ∷ 15 ∷ 16 ∷ 12 ∷ 13 ∷ []) (batchConditions b maps (length queries) t)
+      (findPlans b maps queries t)
+  -- "A query is checked for 1, 2 (its length), 8, 10", and a query record for 8, 10
   pub query : (b line : List ℕ) → numbers (queryLineConditions b line) ≡ 1 ∷ 2 ∷ 8 ∷ 10 ∷ []
+  pub query-record : (b q : List ℕ) → numbers (recordConditions b q) ≡ 8 ∷ 10 ∷ []
   -- nothing is refused that is right: a block is accepted exactly where it is valid
   pub valid : (b : List ℕ) → (checkBlock b ≡ told tt) ↔ Valid b
   -- and every valid block is read from its text, given the room
@@ -309,6 +317,10 @@ pub record Demands : Type 0 where
   pub search-by-tables :
       (b maps t : List ℕ) → Mapped b maps → allPass b maps t ≡ true → ((k : ℕ) → getD t k 0 ≤ mark)
       → (s : List ℕ) → stateOk b s ≡ true → (l : Limits) → Demand3 b (estimateOf b maps t) s l
+  -- each record of a call on many queries is what a single call gives, with demand 3 (F-4)
+  pub record-by-record :
+      (b maps queries t answers : List ℕ) → Bytes queries → ((k : ℕ) → getD t k 0 ≤ mark)
+      → (let o = findPlans b maps queries t answers in BatchKept b maps queries t (o .answer) (o .out))
   pub one-table : (b : List ℕ) → OneTable b
   -- for every input, what is printed means what it should, demand 3 included
   pub program : (x : List ℕ) → Means x (parOutput x)

@@ -5,6 +5,8 @@ pub use backward_calls::Reversibility;
 pub use backward_calls::first_predecessor;
 pub use backward_calls::next_predecessor;
 pub use backward_calls::test_reversible;
+pub use batch_calls::Batch;
+pub use batch_calls::find_plans;
 pub use psvn_calls::Application;
 pub use psvn_calls::GoalTest;
 pub use psvn_calls::NO_GOAL;

@@ -1,8 +1,11 @@
-// The calls on lists of rules: replaying one that is given, and searching for a plan.
+// The calls on lists of rules: replaying one that is given, and searching for plans.
 ghost use mathlib.Core.Path.{_≡_};
 ghost use Rattle.run_calls.specs.Replaying.{replayRun, ReplayKept};
 ghost use Rattle.search_calls.specs.Searching.{findPlan, PlanKept};
-ghost use Rattle.c_answers.specs.Numbers.{replayNumbersOf, searchNumbersOf, replayTold, searchTold};
+ghost use Rattle.batch_calls.specs.Batches.{findPlans, BatchKept};
+ghost use Rattle.c_answers.specs.Numbers.{lengthOf, replayNumbersOf, searchNumbersOf};
+ghost use Rattle.c_answers.specs.Numbers.{lengthTold, replayTold, searchTold};
+use c_answers::Length;
 use c_answers::ReplayNumbers;
 use c_answers::SearchNumbers;
 use queries::Limits;
@@ -42,4 +45,24 @@ pub extern "C" fn mikjuqan_find_plan(
 {
     let search = engine::find_plan(block, maps, start, limits, table, plan);
     c_answers::searched(search)
+}
+
+// Searches from the start of each query record; the length is that of the answer records, which then stand at the front
+// of `answers`.
+#[no_mangle]
+pub extern "C" fn mikjuqan_find_plans(
+    block: &[u8],
+    maps: &[u8],
+    queries: &[u8],
+    table: &[u32],
+    answers: &mut [u8],
+) -> Length
+    ensures { λ r. ⌜ (let o = findPlans (now (block .entry)) (now (maps .entry)) (now (queries .entry))
+        (now (table .entry)) (now (answers .entry))
+        in (r ≡ lengthOf (o .answer)) × (now (answers .exit) ≡ o .out)) ⌝ }
+    ensures { λ r. ⌜ BatchKept (now (block .entry)) (now (maps .entry)) (now (queries .entry))
+        (now (table .entry)) (lengthTold r) (now (answers .exit)) ⌝ }
+{
+    let batch = engine::find_plans(block, maps, queries, table, answers);
+    c_answers::answered(batch)
 }

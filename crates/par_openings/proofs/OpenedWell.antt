@@ -6,30 +6,26 @@ use mathlib.Core.List.{List}
 use Prim.Native.Nat.{ℕ, _≤_}
 use native.Mathlib.Omega.{arith}
 use lib.Dec.{leb}
-use lib.ListN.{length, take}
+use lib.ListN.{length, getD, take, drop, List·getD-append}
 use Rattle.basics.specs.Lists.{atFront}
 use Rattle.basics.proofs.Lists.{front-taken, front-fits}
 use Rattle.refusals.specs.Answers.{Answer, refused, told, verdict}
 use Rattle.refusals.proofs.Verdicts.{told-refused, verdict-told}
-use Rattle.blocks.specs.Layout.{abstractStates}
 use Rattle.blocks.specs.Validity.{Valid}
 use Rattle.filling.specs.FilledTables.{filled}
-use Rattle.filling.proofs.LeastEntries.{cost-bytes, filled-length}
 use Rattle.frames.specs.Lines.{linesOf}
 use Rattle.frames.specs.Reading.{readConditions}
 use Rattle.frames.proofs.AcceptedText.{read-valid}
-use Rattle.frames.proofs.ReadBytes.{block-small}
 use Rattle.par_openings.specs.Openings.{longestInput, blockRoom, exerciseLines, exerciseEnd, exerciseBlock}
 use Rattle.par_openings.specs.Openings.{openConditions, Exercise, exercise, OpenOutcome, openOutcome, openedFor}
-use Rattle.par_openings.specs.Openings.{openExercise}
+use Rattle.par_openings.specs.Openings.{openExercise, FilledFront}
 
-pub record OpenedWell (x block table : List ℕ) (bytes states queriesAt : ℕ) : Type 0 where
+pub record OpenedWell (x block table : List ℕ) (bytes queriesAt : ℕ) : Type 0 where
   pub accepted : verdict (openConditions x) ≡ told tt
   pub part : take bytes block ≡ exerciseBlock x
   pub valid : Valid (take bytes block)
-  pub entries : take states table ≡ filled (take bytes block)
+  pub entries : FilledFront (take bytes block) table
   pub block-fits : bytes ≤ length block
-  pub table-fits : states ≤ length table
   pub begins : queriesAt ≡ exerciseEnd x
 
 -- an accepted exercise is valid
@@ -55,18 +51,18 @@ module _ (x block table block′ table′ : List ℕ) (k : ℕ) where
   unfolding openExercise
   opened-not e = refused-with (verdict (openConditions x)) e
 
-module _ (x block table block′ table′ : List ℕ) (bytes states queriesAt : ℕ) where
+module _ (x block table block′ table′ : List ℕ) (bytes queriesAt : ℕ) where
   -- what is told of the exercise, and what is so
   abbrev given : Exercise
-  given = exercise bytes states queriesAt
+  given = exercise bytes queriesAt
 
   abbrev due : Exercise
-  due = exercise (length (exerciseBlock x)) (abstractStates (exerciseBlock x)) (exerciseEnd x)
+  due = exercise (length (exerciseBlock x)) (exerciseEnd x)
 
   by-verdict :
       (v : Answer (Unit {0})) → verdict (openConditions x) ≡ v
       → openOutcome (told given) block′ table′ ≡ openedFor v x block table
-      → OpenedWell x block′ table′ bytes states queriesAt
+      → OpenedWell x block′ table′ bytes queriesAt
   by-verdict (refused k) h e =
       let answers : _≡_ {A = Answer Exercise} (told given) (refused k) = ap (λ (s : OpenOutcome). s .answer) e in
       absurd (told-refused refl answers)
@@ -78,21 +74,22 @@ module _ (x block table block′ table′ : List ℕ) (bytes states queriesAt : 
       let filled-in : table′ ≡ atFront (filled b) table = ap (λ (s : OpenOutcome). s .table) e in
       let long : bytes ≡ length b = ap (λ (o : Exercise). o .bytes) same in
       let valid = open-valid x h in
-      let entries = filled-length b valid (cost-bytes b (block-small (exerciseLines (linesOf x)))) in
-      let many : states ≡ length (filled b) = ap (λ (o : Exercise). o .states) same ∙ sym entries in
       let part : take bytes block′ ≡ b = ap (take bytes) left ∙ front-taken b block bytes long in
       record {
         accepted = h;
         part = part;
         valid = subst Valid (sym part) valid;
-        entries = ap (take states) filled-in ∙ front-taken (filled b) table states many ∙ ap filled (sym part);
+        entries = λ k l.
+            let own = ap filled part in
+            ap (λ (t : List ℕ). getD t k 0) filled-in
+            ∙ List·getD-append (filled b) (drop (length (filled b)) table) 0 k (omega (arith, ap length own))
+            ∙ ap (λ (t : List ℕ). getD t k 0) (sym own);
         block-fits = omega (arith, long, ap length left, front-fits b block);
-        table-fits = omega (arith, many, ap length filled-in, front-fits (filled b) table);
         begins = ap (λ (o : Exercise). o .queriesAt) same;
       }
 
   pub opened-well :
-      openOutcome (told (exercise bytes states queriesAt)) block′ table′ ≡ openExercise x block table
-      → OpenedWell x block′ table′ bytes states queriesAt
+      openOutcome (told (exercise bytes queriesAt)) block′ table′ ≡ openExercise x block table
+      → OpenedWell x block′ table′ bytes queriesAt
   unfolding openExercise
   opened-well e = by-verdict (verdict (openConditions x)) refl e

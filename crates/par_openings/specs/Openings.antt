@@ -1,16 +1,17 @@
 -- Opening an exercise: which lines the reader receives (`exerciseLines`) and where they end (`exerciseEnd`), what turns
--- an input back (`openConditions`), and what opening leaves, for every input (`openExercise`). `openingOf` gives the
--- document's answer for each case of the enum.
+-- an input back (`openConditions`), and what opening leaves, for every input (`openExercise`), the filled table at the
+-- front of its buffer (`FilledFront`). `openingOf` gives the document's answer for each case of the enum.
 -- The functions that open an exercise, and the whole output of `par`, are stated with these.
-use Prim.Native.Nat.{ℕ, _+_}
+use mathlib.Core.Path.{_≡_}
+use Prim.Native.Nat.{ℕ, _+_, _<_}
 use mathlib.Core.Bool.{Bool, cond, _&&_}
 use mathlib.Core.List.{List, _∷_, flatten}
 use lib.Dec.{leb}
-use lib.ListN.{length, take, drop}
+use lib.ListN.{length, getD, take, drop}
 use Rattle.basics.specs.Lists.{atFront}
 use Rattle.refusals.specs.Answers.{Answer, refused, told, Condition, _unless_, verdict}
 use Rattle.refusals.specs.Refusals.{refusalNumber}
-use Rattle.blocks.specs.Layout.{frameCount, abstractStates}
+use Rattle.blocks.specs.Layout.{frameCount}
 use Rattle.blocks.specs.Validity.{headOk}
 use Rattle.filling.specs.FilledTables.{filled}
 use Rattle.frames.specs.Lines.{linesOf, lineOk}
@@ -57,17 +58,16 @@ exerciseBlock x = blockOf (exerciseLines (linesOf x))
 unfoldable pub openConditions : List ℕ → List Condition
 openConditions x = 2 unless leb (length x) longestInput ∷ readConditions (exerciseLines (linesOf x)) blockRoom
 
--- an open exercise: how many bytes its block has, the number of its abstract states, and where its query lines begin
+-- an open exercise: how many bytes its block has, and where its query lines begin
 pub record Exercise : Type 0 where
   pub bytes : ℕ
-  pub states : ℕ
   pub queriesAt : ℕ
 
-abbrev pub exercise : ℕ → ℕ → ℕ → Exercise
-exercise bytes states queriesAt = record { bytes = bytes; states = states; queriesAt = queriesAt }
+abbrev pub exercise : ℕ → ℕ → Exercise
+exercise bytes queriesAt = record { bytes = bytes; queriesAt = queriesAt }
 
 abbrev pub openingOf : Opening → Answer Exercise
-openingOf (Opened bytes states queriesAt) = told (exercise bytes states queriesAt)
+openingOf (Opened bytes queriesAt) = told (exercise bytes queriesAt)
 openingOf (Refused refusal) = refused (refusalNumber refusal)
 
 -- the answer, and the final contents of the lent block and table
@@ -83,8 +83,12 @@ openOutcome answer block table = record { answer = answer; block = block; table 
 abbrev pub openedFor : Answer (Unit {0}) → List ℕ → List ℕ → List ℕ → OpenOutcome
 openedFor (refused number) x block table = openOutcome (refused number) block table
 openedFor (told u) x block table =
-    openOutcome (told (exercise (length (exerciseBlock x)) (abstractStates (exerciseBlock x)) (exerciseEnd x)))
-    (atFront (exerciseBlock x) block) (atFront (filled (exerciseBlock x)) table)
+    openOutcome (told (exercise (length (exerciseBlock x)) (exerciseEnd x))) (atFront (exerciseBlock x) block)
+    (atFront (filled (exerciseBlock x)) table)
 
 unfoldable pub openExercise : List ℕ → List ℕ → List ℕ → OpenOutcome
 openExercise x block table = openedFor (verdict (openConditions x)) x block table
+
+-- the filled table of the block b stands at the front of t
+abbrev pub FilledFront : List ℕ → List ℕ → Type 0
+FilledFront b t = (k : ℕ) → k < length (filled b) → getD t k 0 ≡ getD (filled b) k 0

@@ -1,12 +1,8 @@
 // Opening an exercise: its lines are read, and its table is filled.
 ghost use mathlib.Core.Path.{_≡_};
-ghost use Prim.Native.Nat.{_+_, _≤_};
+ghost use Prim.Native.Nat.{_+_};
 ghost use mathlib.Core.List.{flatten};
 ghost use lib.ListN.{length, take, drop};
-ghost use Rattle.basics.specs.Lists.{atFront};
-ghost use Rattle.blocks.specs.Layout.{abstractStates};
-ghost use Rattle.blocks.specs.Validity.{Valid};
-ghost use Rattle.filling.specs.FilledTables.{filled};
 ghost use Rattle.frames.specs.Lines.{linesOf};
 ghost use Rattle.frames.specs.Reading.{HeadRead};
 ghost use Rattle.par_openings.specs.Openings.{blockRoom, tableRoom, exerciseEnd};
@@ -25,13 +21,9 @@ use refusals::Verdict;
 // The most bytes of input.
 pub const LONGEST_INPUT: usize = 32768;
 
-// What opening answers: how many bytes the block has, how many entries its table has, and where the query lines begin.
+// What opening answers: how many bytes the block has, and where the query lines begin.
 pub enum Opening {
-    Opened {
-        bytes: usize,
-        states: usize,
-        queries_at: usize,
-    },
+    Opened { bytes: usize, queries_at: usize },
     Refused(Refusal),
 }
 
@@ -65,16 +57,6 @@ fn exercise_end(input: &[u8], heading: Heading) -> usize
     lines_end(input, next, layout::frame_count(&head))
 }
 
-// Fills the table of a block, and gives the number of its entries.
-fn fill_whole(block: &[u8], table: &mut [u32]) -> usize
-    requires { ⌜ Valid (now block) × (abstractStates (now block) ≤ length (now table)) ⌝ }
-    ensures { λ r. ⌜ (r ≡ abstractStates (now (block .entry)))
-        × (now (table .exit) ≡ atFront (filled (now (block .entry))) (now (table .entry))) ⌝ }
-{
-    filling::fill(block, table);
-    layout::abstract_states(block)
-}
-
 // Opens the exercise in buffers that hold every block and every table.
 fn open_within(input: &[u8], block: &mut [u8], table: &mut [u32]) -> Opening
     requires { ⌜ (length (now block) ≡ blockRoom) × (length (now table) ≡ tableRoom) ⌝ }
@@ -90,12 +72,8 @@ fn open_within(input: &[u8], block: &mut [u8], table: &mut [u32]) -> Opening
     match reading {
         Reading::Refused(refusal) => Opening::Refused(refusal),
         Reading::Done(bytes) => {
-            let states = fill_whole(&block[..bytes], table);
-            Opening::Opened {
-                bytes,
-                states,
-                queries_at,
-            }
+            filling::fill(&block[..bytes], table);
+            Opening::Opened { bytes, queries_at }
         }
     }
 }

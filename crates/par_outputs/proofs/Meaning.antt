@@ -1,28 +1,18 @@
--- The output of `par` means what specs/Promises.antt says: `par-means`. A query that is not refused keeps demand 3
--- since the estimates of the filled table of an exercise that is read from text pass; and its plan's goal is the
--- lowest. The contract of a session promises this of what it prints.
-use mathlib.Core.Path.{_≡_, ap, subst, _∙_}
-use mathlib.Core.List.{List, []}
-use Prim.Native.Nat.{ℕ, _+_, _≤_, _<_}
-use native.Mathlib.Omega.{arith}
-use lib.ListN.{length, drop}
-use Rattle.basics.specs.Lists.{Bytes}
-use Rattle.basics.proofs.ByteLists.{bytes-drop}
+-- The output of `par` means what specs/Promises.antt says: `par-means`. A query that is not refused is answered as
+-- records are (`query-means`), since the estimates of the filled table of an exercise that is read from text pass, and
+-- its line is short (`query-short`). The contract of a session promises this of what it prints.
+use mathlib.Core.Path.{_≡_, ap, _∙_}
+use mathlib.Core.List.{List}
+use Prim.Native.Nat.{ℕ, _≤_}
+use lib.ListN.{length}
 use Rattle.refusals.specs.Answers.{Answer, refused, told, verdict, answered}
 use Rattle.refusals.proofs.Verdicts.{verdict-parts}
-use Rattle.blocks.specs.Layout.{positions}
 use Rattle.blocks.specs.Validity.{Valid}
-use Rattle.filling.specs.FilledTables.{filled, CostBytes}
+use Rattle.filling.specs.FilledTables.{CostBytes}
 use Rattle.filling.proofs.LeastEntries.{cost-bytes}
 use Rattle.rounds.specs.Rounds as rounds
-use Rattle.queries.specs.Queries.{longestPlan}
-use Rattle.queries.proofs.QueryLaws.{QueryAccepted, query-accepted}
-use Rattle.search.specs.Exercises.{estimateOf}
-use Rattle.search.specs.Promises.{SearchKept, GoalKept}
-use Rattle.search.proofs.Demand.{kept, visits-within, cost-within, plan-reaching, goal-kept}
-use Rattle.records.specs.Records.{numberOf, startOf, limitsOf, recordConditions, searchAsked}
-use Rattle.records.specs.Records.{answerBytes, goalAsked, recordOf}
-use Rattle.records.proofs.AnswerBytes.{bytes-within, answer-small, four-below, four-back}
+use Rattle.records.specs.Records.{recordConditions, recordRoom, answerBytes, goalAsked, recordOf}
+use Rattle.records.proofs.AnswerMeaning.{answered-small, answered-short, answer-means}
 use Rattle.frames.specs.Lines.{linesOf, lineBytes, lineOf}
 use Rattle.frames.specs.Reading.{readConditions}
 use Rattle.frames.proofs.AcceptedText.{read-valid}
@@ -56,49 +46,24 @@ module _
   abbrev told-bytes : List ℕ
   told-bytes = answerBytes (goalAsked b q answer) answer
 
-  -- the start is a state, and the step limit is not too large
-  content : QueryAccepted b (startOf b q) (limitsOf b q)
+  -- its bytes are a query that is not refused
+  asked : verdict (recordConditions b q) ≡ told tt
   unfolding queryLineConditions
-  content = query-accepted b (startOf b q) (limitsOf b q) (verdict-parts (lineConditions b line) (recordConditions b q) h .1)
+  asked = verdict-parts (lineConditions b line) (recordConditions b q) h .1
 
-  promised : SearchKept b (estimateOf b [] (filled b)) (startOf b q) (limitsOf b q) answer
-  unfolding searchAsked
-  promised = kept valid (filled-passing b valid bytes) (startOf b q) (limitsOf b q) (content .state)
-
-  -- the limits are numbers of four bytes
-  limit-below : (k : ℕ) → numberOf (drop k q) < 4294967296
-  limit-below k = four-below (drop k q) (bytes-drop k q (line-small line))
-
-  -- a plan has at most as many steps as a step limit may have
-  pub few-steps : (u c : ℕ) (p : List ℕ) → answer ≡ rounds.found u p c → length p ≤ longestPlan
-  few-steps u c p e = omega (arith, promised .plan u c p e .0 .steps, content .steps-few)
-
-  -- a plan's goal is below FF
-  goal-low : (u c : ℕ) (p : List ℕ) → answer ≡ rounds.found u p c → goalAsked b q answer ≤ 255
-  goal-low u c p e =
-      let found-goal = subst (λ (a : rounds.Answer). GoalKept b (startOf b q) a (goalAsked b q a)) e (goal-kept promised valid) in
-      omega (arith, found-goal .1, ap (goalAsked b q) e)
-
-  -- the numbers of the answer line are bytes: a plan has few steps, and each is the number of one of at most 64 rules
-  small : Bytes told-bytes
-  small =
-      answer-small (goalAsked b q answer) answer (λ u c p e.
-      let numbers = plan-reaching promised u c p e .numbers in
-      let few = valid .sized .headed .sizes .r-high in
-      (goal-low u c p e, omega (arith, few-steps u c p e), bytes-within p (λ i l. omega (arith, numbers i l, few))))
+  pub query-short : length told-bytes ≤ recordRoom
+  query-short = answered-short valid (filled-passing b valid bytes) q asked
 
   shown : answerLine b line ≡ lineOf told-bytes
   shown = line-by b line (told tt) h
 
   pub query-means : QueryMeans b line
   query-means =
+      let passing = filled-passing b valid bytes in
       record {
         shown = shown;
-        read-back = ap lineBytes shown ∙ written-bytes told-bytes small;
-        kept = promised;
-        goal = goal-kept promised valid;
-        cost-whole = four-back (rounds.planCost answer) (omega (arith, cost-within promised, limit-below (positions b + 1)));
-        visits-whole = four-back (rounds.visits answer) (omega (arith, visits-within promised, limit-below (positions b + 5)));
+        read-back = ap lineBytes shown ∙ written-bytes told-bytes (answered-small valid passing q asked);
+        means = answer-means valid passing q asked (line-small line);
       }
 
 module _ (x : List ℕ) where

@@ -16,9 +16,7 @@ use Rattle.refusals.proofs.Verdicts.{verdict-told, verdict-parts}
 use Rattle.blocks.specs.Validity.{Valid}
 use Rattle.filling.specs.FilledTables.{CostBytes}
 use Rattle.filling.proofs.LeastEntries.{cost-bytes}
-use Rattle.rounds.specs.Rounds as rounds
-use Rattle.queries.specs.Queries.{longestPlan}
-use Rattle.records.specs.Records.{queryLength, recordRoom, recordConditions, planFront, answerBytes, refusalBytes, goalAsked}
+use Rattle.records.specs.Records.{queryLength, recordConditions, answerBytes, refusalBytes, goalAsked}
 use Rattle.frames.specs.Lines.{linesOf, lineOk, lineBytes}
 use Rattle.frames.specs.Places.{lineFrom}
 use Rattle.frames.specs.Reading.{readConditions}
@@ -30,17 +28,8 @@ use Rattle.par_openings.specs.Openings.{longestInput, blockRoom, exerciseLines,
 use Rattle.par_openings.proofs.OpeningLaws.{end-inside}
 use Rattle.par_openings.proofs.OpenedWell.{open-valid}
 use Rattle.par_outputs.specs.Output.{parOutput, answersFrom}
-use Rattle.par_outputs.proofs.Meaning.{line-by, query-means, few-steps}
+use Rattle.par_outputs.proofs.Meaning.{line-by, query-means, query-short}
 use Rattle.par_outputs.proofs.Whole.{answers-next, answers-end, output-refused, output-answers}
-
--- a record has eleven bytes in front of its plan, and ten where there is none
-record-short :
-    (goal : ℕ) (a : rounds.Answer) → ((u c : ℕ) (p : List ℕ) → a ≡ rounds.found u p c → length p ≤ longestPlan)
-    → length (answerBytes goal a) ≤ recordRoom
-record-short goal (rounds.found u p c) h =
-    omega (arith, h u c p refl, length-append (planFront (length p) c (rounds.visits (rounds.found u p c))) p)
-record-short goal (rounds.noPlan u) h = omega arith
-record-short goal (rounds.spent u) h = omega arith
 
 -- a line has two characters for each of its bytes
 bytes-half : (line : List ℕ) → 2 * length (lineBytes line) ≤ length line
@@ -64,7 +53,7 @@ module _ (b : List ℕ) (valid : Valid b) (bytes : CostBytes b) where
         let right = verdict-parts (lineConditions b line) (recordConditions b q) h .0 in
         let fits = verdict-told 2 _ [] (verdict-told 1 (lineOk line) rest right .1) .0 in
         let long = eqb-true (length q) (queryLength b) fits in
-        let short = record-short goal answer (few-steps b valid bytes line h) in
+        let short = query-short b valid bytes line h in
         let shown = ap length (query-means b valid bytes line h .shown) in
         omega (arith, bytes-half line, long, valid .sized .headed .sizes .n-low, short, shown, line-length (answerBytes goal answer))
 

@@ -2,40 +2,30 @@
 -- for each query that is not refused demand 3 and the goal reached (`QueryMeans`). It is shown of `parOutput` in
 -- proofs/Meaning.antt.
 use mathlib.Core.Path.{_≡_}
-use mathlib.Core.List.{List, [], flatMap}
+use mathlib.Core.List.{List, flatMap}
 use Prim.Native.Nat.{ℕ, _≤_, _<_}
 use lib.ListN.{length}
 use Rattle.refusals.specs.Answers.{refused, told, verdict}
 use Rattle.blocks.specs.Validity.{Valid}
-use Rattle.filling.specs.FilledTables.{filled}
 use Rattle.rounds.specs.Rounds as rounds
-use Rattle.search.specs.Exercises.{estimateOf}
-use Rattle.search.specs.Promises.{SearchKept, GoalKept}
 use Rattle.frames.specs.Lines.{linesOf, lineBytes, lineOf}
 use Rattle.frames.specs.Reading.{readConditions}
-use Rattle.records.specs.Records.{numberOf, bytesOf, startOf, limitsOf, answerBytes, goalAsked}
-use Rattle.par_queries.specs.QueryLines.{queryLineConditions, searchFor, refusalLine, answerLine}
+use Rattle.records.specs.Records.{answerBytes, goalAsked}
+use Rattle.records.specs.Meaning.{AnswerMeans}
+use Rattle.par_queries.specs.QueryLines.{queryLineConditions, filledEstimate, searchFor, refusalLine, answerLine}
 use Rattle.par_openings.specs.Openings.{longestInput, blockRoom, exerciseLines, queryLines, exerciseBlock}
 
--- four bytes are enough for a number
-abbrev pub FourBytes : ℕ → Type 0
-FourBytes x = numberOf (bytesOf x) ≡ x
-
 -- what the answer a, printed as `line`, means for a query of the exercise b, by its bytes q
-pub record AnswerMeans (b q : List ℕ) (a : rounds.Answer) (line : List ℕ) : Type 0 where
+pub record LineMeans (b q : List ℕ) (a : rounds.Answer) (line : List ℕ) : Type 0 where
   pub shown : line ≡ lineOf (answerBytes (goalAsked b q a) a)
   -- what is printed reads back as the answer's bytes, the goal's among them
   pub read-back : lineBytes line ≡ answerBytes (goalAsked b q a) a
-  -- demand 3, by the filled table, for the query's own start and limits
-  pub kept : SearchKept b (estimateOf b [] (filled b)) (startOf b q) (limitsOf b q) a
-  -- the goal printed is the lowest that the plan's last state meets
-  pub goal : GoalKept b (startOf b q) a (goalAsked b q a)
-  pub cost-whole : FourBytes (rounds.planCost a)
-  pub visits-whole : FourBytes (rounds.visits a)
+  -- demand 3, the goal and the numbers told, by the filled table
+  pub means : AnswerMeans b (filledEstimate b) q a
 
 -- a query line of the exercise b that is not refused: the answer of the search that its bytes ask for is printed
 abbrev pub QueryMeans : List ℕ → List ℕ → Type 0
-QueryMeans b line = AnswerMeans b (lineBytes line) (searchFor b (lineBytes line)) (answerLine b line)
+QueryMeans b line = LineMeans b (lineBytes line) (searchFor b (lineBytes line)) (answerLine b line)
 
 -- the output of an accepted exercise: a line for each query line, in their order
 pub record ExerciseMeans (x out : List ℕ) : Type 0 where

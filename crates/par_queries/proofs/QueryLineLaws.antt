@@ -16,13 +16,14 @@ use Rattle.map_tables.specs.MapTables.{largestEntry}
 use Rattle.map_tables.proofs.Largest.{one-entry}
 use Rattle.filling.specs.FilledTables.{filled, CostBytes}
 use Rattle.filling.proofs.LeastEntries.{filled-low, filled-small}
-use Rattle.search.specs.Exercises.{Passes, estimateOf}
+use Rattle.search.specs.Exercises.{Passes}
 use Rattle.search.proofs.Demand.{exercise-passing}
 use Rattle.records.specs.Records.{queryLength, recordConditions, recordOf, answerRecord}
 use Rattle.frames.specs.Lines.{lineOk, lineBytes, lineOf}
-use Rattle.par_queries.specs.QueryLines.{lineConditions, queryLineConditions, searchFor, refusalLine, answerLine}
+use Rattle.par_queries.specs.QueryLines.{lineConditions, queryLineConditions, filledEstimate, searchFor}
+use Rattle.par_queries.specs.QueryLines.{refusalLine, answerLine}
 
-pub filled-passing : (b : List ℕ) → Valid b → CostBytes b → Passes b (estimateOf b [] (filled b))
+pub filled-passing : (b : List ℕ) → Valid b → CostBytes b → Passes b (filledEstimate b)
 filled-passing b valid bytes =
     let own = fun-ext (one-entry b (filled b)) in
     exercise-passing b (largestEntry b [] (filled b)) (subst (LowerBound b) (sym own) (filled-low b valid bytes))
@@ -45,6 +46,7 @@ module _ (b line : List ℕ) where
 
   -- any other one by its bytes
   pub line-accepted :
-      verdict (lineConditions b line) ≡ told tt → answerLine b line ≡ lineOf (answerRecord b (lineBytes line) (filled b))
+      verdict (lineConditions b line) ≡ told tt
+      → answerLine b line ≡ lineOf (answerRecord b (filledEstimate b) (lineBytes line))
   unfolding answerLine queryLineConditions answerRecord
   line-accepted h = ap shown (verdict-behind (lineConditions b line) (recordConditions b (lineBytes line)) h)

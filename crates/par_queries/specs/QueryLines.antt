@@ -1,5 +1,5 @@
--- Query lines: what turns one back (`queryLineConditions`), the search that its bytes ask for (`searchFor`), and the
--- line that answers it (`answerLine`); the line of a refusal (`refusalLine`).
+-- Query lines: what turns one back (`queryLineConditions`), the search that its bytes ask for (`searchFor`) by the
+-- filled table (`filledEstimate`), and the line that answers it (`answerLine`); the line of a refusal (`refusalLine`).
 -- All that `par` prints for an accepted exercise is made of answer lines.
 use mathlib.Core.Path.{_≡_}
 use Prim.Native.Nat.{ℕ, _+_}
@@ -8,7 +8,9 @@ use lib.Dec.{eqb}
 use lib.ListN.{length}
 use Rattle.refusals.specs.Answers.{Condition, _unless_, verdict, answered}
 use Rattle.filling.specs.FilledTables.{filled}
+use Rattle.rounds.specs.Systems.{Estimate}
 use Rattle.rounds.specs.Rounds as rounds
+use Rattle.search.specs.Exercises.{estimateOf}
 use Rattle.records.specs.Records.{queryLength, recordConditions, searchAsked, refusalBytes, recordOf, Written}
 use Rattle.frames.specs.Lines.{lineOk, lineBytes, lineOf}
 use Rattle.frames.specs.Places.{lineFrom}
@@ -21,9 +23,12 @@ lineConditions b line = 1 unless lineOk line ∷ 2 unless eqb (length (lineBytes
 unfoldable pub queryLineConditions : List ℕ → List ℕ → List Condition
 queryLineConditions b line = lineConditions b line ++ recordConditions b (lineBytes line)
 
--- the search that a query's bytes ask for, with the filled table
+-- the estimate by the filled table, and the search by it that a query's bytes ask for
+abbrev pub filledEstimate : List ℕ → List ℕ → Estimate
+filledEstimate b = estimateOf b [] (filled b)
+
 abbrev pub searchFor : List ℕ → List ℕ → rounds.Answer
-searchFor b q = searchAsked b q (filled b)
+searchFor b q = searchAsked b (filledEstimate b) q
 
 -- room for every line: two digits for each byte of a record, and the line feed
 abbrev pub lineRoom : ℕ

@@ -5,20 +5,28 @@ ghost use Prim.Native.Nat.{_+_, _≤_};
 ghost use lib.IntN.{pos};
 ghost use lib.ListN.{length, take};
 ghost use Rattle.blocks.specs.Validity.{Valid};
-ghost use Rattle.filling.specs.FilledTables.{filled};
+ghost use Rattle.preparing.specs.Prepared.{Prepared};
+ghost use Rattle.search.specs.OnWords.{Rates};
 ghost use Rattle.records.specs.Records.{Written};
 ghost use Rattle.refusals.specs.Refusals.{refusalNumber};
-ghost use Rattle.par_queries.specs.QueryLines.{lineRoom, refusalLine};
+ghost use Rattle.par_openings.specs.Openings.{FilledFront};
+ghost use Rattle.par_queries.specs.QueryLines.{filledEstimate, lineRoom, refusalLine};
 ghost use Rattle.par_outputs.specs.Output.{parOutput, answersFrom, outputRoom};
 ghost use Rattle.par_outputs.specs.Promises.{Means};
 use blocks::layout::BLOCK_ROOM;
+use blocks::validity::Entries;
 use blocks::validity::MOST_STATES;
 use libc::STDIN_FILENO;
 use libc::STDOUT_FILENO;
 use par_openings::LONGEST_INPUT;
 use par_openings::Opening;
 use par_queries::LINE_ROOM;
+use preparing::prepare;
 use refusals::Refusal;
+use words::changes::CHANGES;
+use words::changes::Changes;
+use words::code::CODE;
+use words::code::Code;
 
 // One byte more than an input may have, so that a longer one is seen.
 pub const INPUT_ROOM: usize = LONGEST_INPUT + 1;
@@ -58,15 +66,19 @@ fn answer_refusal(refusal: Refusal, output: &mut [u8]) -> usize
     print_part(STDOUT_FILENO, output, 0, bytes)
 }
 
-// Prints the answer lines of the query lines from `from` on, and gives their length.
-fn answer_queries(
+// Prints the answer lines of the query lines from `from` on, and gives their length, by arrays that are prepared from
+// the block.
+fn answer_lines(
     block: &[u8],
+    code: &Code,
+    changes: &Changes,
+    entries: &Entries,
     input: &[u8],
     from: usize,
-    table: &[u32],
     output: &mut [u8],
 ) -> usize
-    requires { ⌜ Valid (now block) × (now table ≡ filled (now block)) ×
+    requires { ⌜ Prepared (now block) (now code) (now changes) ×
+        Rates (now block) (now changes) (now entries) (filledEstimate (now block)) ×
         (length (answersFrom (now block) (now input) from) + lineRoom ≤ length (now output)) ⌝ }
     ensures { λ n. ⌜ Written (answersFrom (now (block .entry)) (now (input .entry)) from)
         (now (output .entry)) n (now (output .exit)) ⌝ }
@@ -74,11 +86,38 @@ fn answer_queries(
     let mut at = from;
     let mut to: usize = 0;
     while at < input.len() {
-        let answered = par_queries::answer_line(block, input, at, table, &mut output[to..]);
+        let answered = par_queries::answer_line(
+            block,
+            code,
+            changes,
+            entries,
+            input,
+            at,
+            &mut output[to..],
+        );
         to = print_part(STDOUT_FILENO, output, to, answered.bytes);
         at = answered.next;
     }
     to
+}
+
+// The same for a block with its filled table: it is prepared once, for all query lines.
+fn answer_queries(
+    block: &[u8],
+    input: &[u8],
+    from: usize,
+    table: &Entries,
+    output: &mut [u8],
+) -> usize
+    requires { ⌜ Valid (now block) × FilledFront (now block) (now table) ×
+        (length (answersFrom (now block) (now input) from) + lineRoom ≤ length (now output)) ⌝ }
+    ensures { λ n. ⌜ Written (answersFrom (now (block .entry)) (now (input .entry)) from)
+        (now (output .entry)) n (now (output .exit)) ⌝ }
+{
+    let mut code = [0u64; CODE];
+    let mut changes = [0u64; CHANGES];
+    prepare(block, &block[..0], &mut code, &mut changes);
+    answer_lines(block, &code, &changes, table, input, from, output)
 }
 
 // Prints what `par` prints for an input, and gives its length.
@@ -91,11 +130,9 @@ fn answer_input(input: &[u8], output: &mut [u8]) -> usize
     let opening = par_openings::open(input, &mut block, &mut table);
     match opening {
         Opening::Refused(refusal) => answer_refusal(refusal, output),
-        Opening::Opened {
-            bytes,
-            states,
-            queries_at,
-        } => answer_queries(&block[..bytes], input, queries_at, &table[..states], output),
+        Opening::Opened { bytes, queries_at } => {
+            answer_queries(&block[..bytes], input, queries_at, &table, output)
+        }
     }
 }
 

@@ -1,6 +1,6 @@
 -- Records: what a query's bytes ask (`startOf`, `limitsOf`), the search that they ask for (`searchAsked`) and what
--- turns it back (`recordConditions`), and the bytes that answer it (`answerRecord`), with any table that passes.
--- A query line of `par` and the line that answers it are such records in digits.
+-- turns it back (`recordConditions`), and the bytes that answer it (`answerRecord`), by any estimate that passes.
+-- A query line of `par` and the line that answers it are such records in digits; a call answers many of them at once.
 use mathlib.Core.Path.{_≡_}
 use Prim.Native.Nat.{ℕ, _+_}
 use mathlib.Core.List.{List, [], _∷_, _++_}
@@ -11,8 +11,9 @@ use Rattle.refusals.specs.Answers.{Answer, refused, told, Condition, verdict, a
 use Rattle.blocks.specs.Layout.{positions}
 use Rattle.queries.specs.Queries.{queryConditions}
 use Rattle.queries.specs.declared.Limits.{Limits}
+use Rattle.rounds.specs.Systems.{Estimate}
 use Rattle.rounds.specs.Rounds as rounds
-use Rattle.search.specs.Exercises.{estimateOf, searchFrom, statusOf, planGoal}
+use Rattle.search.specs.Exercises.{searchFrom, statusOf, planGoal}
 
 -- four bytes, the highest first: the number that a list begins with, and the bytes of a number
 abbrev pub numberOf : List ℕ → ℕ
@@ -40,9 +41,9 @@ limitsOf b q =
 abbrev pub recordConditions : List ℕ → List ℕ → List Condition
 recordConditions b q = queryConditions b (startOf b q) (limitsOf b q)
 
--- the search that a query asks for, by the table t
-unfoldable pub searchAsked : List ℕ → List ℕ → List ℕ → rounds.Answer
-searchAsked b q t = searchFrom b (estimateOf b [] t) (startOf b q) (limitsOf b q)
+-- the search that a query asks for, by the estimate h
+unfoldable pub searchAsked : List ℕ → (List ℕ → Estimate) → List ℕ → rounds.Answer
+searchAsked b h q = searchFrom b h (startOf b q) (limitsOf b q)
 
 -- how many bytes hold every answer
 abbrev pub recordRoom : ℕ
@@ -79,9 +80,9 @@ abbrev pub recordOf : List ℕ → List ℕ → Answer rounds.Answer → List �
 recordOf b q (refused number) = refusalBytes number
 recordOf b q (told a) = answerBytes (goalAsked b q a) a
 
--- the record that answers a query, by the table t
-unfoldable pub answerRecord : List ℕ → List ℕ → List ℕ → List ℕ
-answerRecord b q t = recordOf b q (answered (verdict (recordConditions b q)) (searchAsked b q t))
+-- the record that answers a query, by the estimate h
+unfoldable pub answerRecord : List ℕ → (List ℕ → Estimate) → List ℕ → List ℕ
+answerRecord b h q = recordOf b q (answered (verdict (recordConditions b q)) (searchAsked b h q))
 
 -- bytes stand at the front of a buffer that held `old`, and n is their length
 pub record Written (bytes old : List ℕ) (n : ℕ) (new : List ℕ) : Type 0 where

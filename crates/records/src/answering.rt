@@ -1,20 +1,21 @@
 // The bytes that answer a query.
 ghost use mathlib.Core.Path.{_≡_};
-ghost use Prim.Native.Nat.{_+_, _≤_};
-ghost use mathlib.Core.List.{[], _∷_};
+ghost use Prim.Native.Nat.{ℕ, _+_, _≤_};
+ghost use mathlib.Core.List.{List, [], _∷_};
 ghost use lib.ListN.{length, take};
 ghost use Rattle.basics.specs.Lists.{atFront};
 ghost use Rattle.refusals.specs.Refusals.{refusalNumber};
-ghost use Rattle.blocks.specs.Layout.{abstractStates};
-ghost use Rattle.blocks.specs.Validity.{Valid};
+ghost use Rattle.preparing.specs.Prepared.{Prepared};
 ghost use Rattle.queries.specs.Queries.{longestPlan};
-ghost use Rattle.search.specs.Exercises.{Passes, estimateOf};
+ghost use Rattle.rounds.specs.Systems.{Estimate};
+ghost use Rattle.search.specs.OnWords.{Rates};
 ghost use Rattle.search.specs.Parts.{FoundWithin, answerOf, endingGoal};
 ghost use Rattle.records.specs.Records.{queryLength, recordRoom, planFront, planBytes, answerBytes, refusalBytes};
 ghost use Rattle.records.specs.Records.{answerRecord, Written};
 use super::asking::limits_of;
 use super::numbers::put_number;
 use basics::copy;
+use blocks::validity::Entries;
 use queries::LONGEST_PLAN;
 use queries::check_query;
 use refusals::Refusal;
@@ -23,6 +24,8 @@ use refusals::number;
 use search::Ending;
 use search::Plan;
 use search::planless;
+use words::changes::Changes;
+use words::code::Code;
 
 // How many bytes hold every answer: eleven in front, and a plan of at most 64 steps.
 pub const RECORD_ROOM: usize = 75;
@@ -104,14 +107,20 @@ fn write_answer(ending: Ending, rules: &Rules, out: &mut [u8]) -> usize
     }
 }
 
-// Answers a query at the front of `out`, and gives the answer's length, by the table of the block's own map alone,
-// whose estimates are known to pass.
-pub fn answer_query(block: &[u8], query: &[u8], table: &[u32], out: &mut [u8]) -> usize
-    requires { ⌜ Valid (now block) × (length (now query) ≡ queryLength (now block)) ×
-        (abstractStates (now block) ≤ length (now table)) × (recordRoom ≤ length (now out)) ⌝ }
-    requires { ⌜ Passes (now block) (estimateOf (now block) [] (now table)) ⌝ }
-    ensures { λ n. ⌜ Written (answerRecord (now (block .entry)) (now (query .entry)) (now (table .entry)))
-        (now (out .entry)) n (now (out .exit)) ⌝ }
+// Answers a query at the front of `out`, and gives the answer's length, by arrays that are prepared from the block.
+pub fn answer_query(
+    block: &[u8],
+    code: &Code,
+    changes: &Changes,
+    entries: &Entries,
+    query: &[u8],
+    out: &mut [u8],
+) -> usize
+    requires { ⌜ Prepared (now block) (now code) (now changes) × (length (now query) ≡ queryLength (now block)) ×
+        (recordRoom ≤ length (now out)) ⌝ }
+    ensures { λ n. ⌜ ((h : List ℕ → Estimate) →
+        Rates (now (block .entry)) (now (changes .entry)) (now (entries .entry)) h →
+        Written (answerRecord (now (block .entry)) h (now (query .entry))) (now (out .entry)) n (now (out .exit))) ⌝ }
 {
     let n = blocks::layout::positions(block);
     let limits = limits_of(block, query);
@@ -120,6 +129,14 @@ pub fn answer_query(block: &[u8], query: &[u8], table: &[u32], out: &mut [u8]) -
         return put_refusal(refusal, out);
     }
     let mut rules = [0u8; LONGEST_PLAN];
-    let ending = search::find_plan(block, &block[..0], &query[..n], limits, table, &mut rules);
+    let ending = search::find_plan(
+        block,
+        code,
+        changes,
+        entries,
+        &query[..n],
+        limits,
+        &mut rules,
+    );
     write_answer(ending, &rules, out)
 }

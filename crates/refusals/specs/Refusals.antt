@@ -5,7 +5,7 @@ use Rattle.refusals.specs.Answers.{Answer, refused, told}
 use Rattle.refusals.specs.declared.Refusal.{Refusal}
 use Rattle.refusals.specs.declared.Refusal.the-variants.{Character, Line, Head, Length, Map, Term, Unbound}
 use Rattle.refusals.specs.declared.Refusal.the-variants.{State, Rule, Limit, Buffer, TableShort, TableFails}
-use Rattle.refusals.specs.declared.Refusal.the-variants.{Maps, MapRange}
+use Rattle.refusals.specs.declared.Refusal.the-variants.{Maps, MapRange, Records}
 use Rattle.refusals.specs.declared.Verdict.{Verdict}
 use Rattle.refusals.specs.declared.Verdict.the-variants.{Accepted, Refused}
 
@@ -26,6 +26,7 @@ refusalNumber TableShort = 12
 refusalNumber TableFails = 13
 refusalNumber Maps = 14
 refusalNumber MapRange = 15
+refusalNumber Records = 16
 
 abbrev pub verdictOf : Verdict → Answer (Unit {0})
 verdictOf Accepted = told tt

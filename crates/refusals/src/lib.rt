@@ -19,6 +19,7 @@ pub enum Refusal {
     TableFails,
     Maps,
     MapRange,
+    Records,
 }
 
 // What the conditions of a call give: nothing against it, or the refusal.
@@ -47,5 +48,6 @@ pub fn number(refusal: Refusal) -> u8
         Refusal::TableFails => 13,
         Refusal::Maps => 14,
         Refusal::MapRange => 15,
+        Refusal::Records => 16,
     }
 }

@@ -19,7 +19,8 @@ use Rattle.rounds.specs.Rounds as rounds
 use Rattle.queries.specs.Queries.{queryConditions}
 use Rattle.queries.specs.declared.Limits.{Limits}
 use Rattle.search.specs.Exercises.{searchFrom, planGoal}
-use Rattle.search_calls.specs.Searching.{SearchAnswer, reported, lentConditions, searchConditions, findPlan}
+use Rattle.search_calls.specs.Searching.{SearchAnswer, reported, tablesConditions, lentConditions}
+use Rattle.search_calls.specs.Searching.{searchConditions, findPlan}
 
 -- what turns a search back where there is one table
 abbrev pub oneSearchConditions : List ℕ → List ℕ → Limits → List ℕ → ℕ → List Condition
@@ -36,7 +37,7 @@ givenBy b s l buffer h =
 
 module _ (b s : List ℕ) (l : Limits) (t : List ℕ) where
   one-searched : (room : ℕ) → verdict (searchConditions b [] s l t room) ≡ verdict (oneSearchConditions b s l t room)
-  unfolding searchConditions lentConditions
+  unfolding searchConditions lentConditions tablesConditions
   one-searched room =
       none-conditions b _
       ∙ ap₂

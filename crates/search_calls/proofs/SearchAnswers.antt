@@ -14,7 +14,7 @@ use Rattle.blocks.specs.Validity.{Valid}
 use Rattle.rounds.specs.Rounds as rounds
 use Rattle.search.specs.Exercises.{estimateOf, searchFrom, planGoal}
 use Rattle.search.specs.Promises.{SearchKept, GoalKept}
-use Rattle.search.specs.Parts.{Answers, answerOf, endingGoal}
+use Rattle.search.specs.Parts.{FoundWithin, Answers, answerOf, endingGoal}
 use Rattle.search.proofs.Demand.{goal-kept}
 use Rattle.queries.specs.declared.Limits.{Limits}
 use Rattle.search.specs.declared.running.Ending.{Ending}
@@ -42,17 +42,17 @@ module _ (b maps s : List ℕ) (l : Limits) (t buffer buffer′ : List ℕ) wher
   Ended r = Answers b (estimateOf b maps t) s l buffer buffer′ r
 
   pub answered-by :
-      l .steps ≤ length buffer → (r : Ending) → Ended r
+      l .steps ≤ length buffer → (r : Ending) → FoundWithin (l .steps) r → Ended r
       → outcome (searchOf (givenAs r)) buffer′ ≡ answering (reported (planGoal b s whole) whole) (atFront (rounds.plan whole) buffer)
   unfolding rounds.visits
-  answered-by room (ending.Found p) h =
+  answered-by room (ending.Found p) within h =
       let longer = front-longer (rounds.plan whole) buffer in
-      let n = length-take-le (p .steps) buffer′ (omega (arith, h .within, room, longer, ap length (h .written))) in
+      let n = length-take-le (p .steps) buffer′ (omega (arith, within, room, longer, ap length (h .written))) in
       ap₂ answering
       (ap (λ (k : ℕ). searchAnswer 0 k (p .cost) (p .visits) (p .goal)) (sym n) ∙ ap₂ reported (h .goal) (h .told))
       (h .written)
-  answered-by room (ending.NoPlan u) h = ap₂ answering (ap₂ reported (h .goal) (h .told)) (h .written)
-  answered-by room (ending.Spent u) h = ap₂ answering (ap₂ reported (h .goal) (h .told)) (h .written)
+  answered-by room (ending.NoPlan u) within h = ap₂ answering (ap₂ reported (h .goal) (h .told)) (h .written)
+  answered-by room (ending.Spent u) within h = ap₂ answering (ap₂ reported (h .goal) (h .told)) (h .written)
 
   -- what is promised, of an answer and the goal told with it
   abbrev Promised : rounds.Answer → ℕ → Type 0

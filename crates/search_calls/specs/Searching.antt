@@ -40,10 +40,13 @@ searchOf (Refused refusal) = refused (refusalNumber refusal)
 abbrev pub reported : ℕ → rounds.Answer → SearchAnswer
 reported goal a = searchAnswer (statusOf a) (rounds.steps a) (rounds.planCost a) (rounds.visits a) goal
 
--- 11 to 13, of a plan buffer of the length `room` for a plan of D steps, and of the tables of all maps
+-- 12 and 13, of the tables of all maps
+unfoldable pub tablesConditions : List ℕ → List ℕ → List ℕ → List Condition
+tablesConditions b maps t = 12 unless leb (allEntries b maps) (length t) ∷ 13 unless allPass b maps t ∷ []
+
+-- 11, of a plan buffer of the length `room` for a plan of D steps, then 12 and 13
 unfoldable pub lentConditions : List ℕ → List ℕ → ℕ → List ℕ → ℕ → List Condition
-lentConditions b maps D t room =
-    11 unless leb D room ∷ 12 unless leb (allEntries b maps) (length t) ∷ 13 unless allPass b maps t ∷ []
+lentConditions b maps D t room = 11 unless leb D room ∷ tablesConditions b maps t
 
 -- 3 to 7, 14 and 15, then 8 and 10, then 11 to 13
 unfoldable pub searchConditions : List ℕ → List ℕ → List ℕ → Limits → List ℕ → ℕ → List Condition

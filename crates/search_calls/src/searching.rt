@@ -3,12 +3,16 @@ ghost use mathlib.Core.Path.{_≡_};
 ghost use Rattle.refusals.specs.Answers.{verdict, outcome};
 ghost use Rattle.refusals.specs.Refusals.{verdictOf};
 ghost use Rattle.maps.specs.Maps.{Mapped};
-ghost use Rattle.search_calls.specs.Searching.{searchOf, lentConditions, searchConditions, findPlan, PlanKept};
+ghost use Rattle.search_calls.specs.Searching.{tablesConditions, lentConditions, searchConditions};
+ghost use Rattle.search_calls.specs.Searching.{searchOf, findPlan, PlanKept};
+use blocks::validity::MOST_STATES;
 use queries::Limits;
 use refusals::Refusal;
 use refusals::Verdict;
 use search::Ending;
 use search::Plan;
+use words::changes::CHANGES;
+use words::code::CODE;
 
 // What a search answers: a plan was found, with the goal that it reaches; or there is no plan, or the allowance is
 // spent, after so many visits.
@@ -19,7 +23,22 @@ pub enum Search {
     Refused(Refusal),
 }
 
-// The room for a plan of so many steps, and the tables of all maps: 11, 12, 13.
+// The tables of all maps that a search is lent: 12, 13.
+pub fn check_tables(block: &[u8], maps: &[u8], table: &[u32]) -> Verdict
+    requires { ⌜ Mapped (now block) (now maps) ⌝ }
+    ensures { λ r. ⌜ verdictOf r ≡
+        verdict (tablesConditions (now (block .entry)) (now (maps .entry)) (now (table .entry))) ⌝ }
+{
+    if table.len() < maps::all_entries(block, maps) {
+        return Verdict::Refused(Refusal::TableShort);
+    }
+    if map_tables::all_pass(block, maps, table) {
+        return Verdict::Accepted;
+    }
+    Verdict::Refused(Refusal::TableFails)
+}
+
+// The room for a plan of so many steps, and the tables: 11, 12, 13.
 fn check_lent(block: &[u8], maps: &[u8], steps: usize, table: &[u32], room: usize) -> Verdict
     requires { ⌜ Mapped (now block) (now maps) ⌝ }
     ensures { λ r. ⌜ verdictOf r ≡
@@ -28,13 +47,7 @@ fn check_lent(block: &[u8], maps: &[u8], steps: usize, table: &[u32], room: usiz
     if room < steps {
         return Verdict::Refused(Refusal::Buffer);
     }
-    if table.len() < maps::all_entries(block, maps) {
-        return Verdict::Refused(Refusal::TableShort);
-    }
-    if map_tables::all_pass(block, maps, table) {
-        return Verdict::Accepted;
-    }
-    Verdict::Refused(Refusal::TableFails)
+    check_tables(block, maps, table)
 }
 
 // Checks what a search is handed: the block with its further maps, then what is asked, then what is lent; `room` is the
@@ -83,7 +96,11 @@ pub fn find_plan(
     if let Verdict::Refused(refusal) = checked {
         return Search::Refused(refusal);
     }
-    let ending = search::find_plan(block, maps, start, limits, table, plan);
+    let mut code = [0u64; CODE];
+    let mut changes = [0u64; CHANGES];
+    let mut entries = [0u32; MOST_STATES];
+    search::make_ready(block, maps, table, &mut code, &mut changes, &mut entries);
+    let ending = search::find_plan(block, &code, &changes, &entries, start, limits, plan);
     match ending {
         Ending::Found(found) => Search::Found(found),
         Ending::NoPlan { visits } => Search::NoPlan { visits },

@@ -51,7 +51,7 @@ use Rattle.backward_calls.specs.Predecessors.{stepBackConditions, stepBackFrom}
 use Rattle.backward_calls.specs.Reversing.{reversibleConditions, testReversible}
 use Rattle.table_calls.specs.WholeTables.{tableConditions, fillTable, testTable}
 use Rattle.queries.specs.Queries.{queryConditions}
-use Rattle.search_calls.specs.Searching.{lentConditions, searchConditions, findPlan}
+use Rattle.search_calls.specs.Searching.{tablesConditions, lentConditions, searchConditions, findPlan}
 use Rattle.frames.specs.Lines.{isDigit, digitValue, digitOf}
 use Rattle.frames.specs.Reading.{frameConditions, readConditions}
 use Rattle.records.specs.Records.{searchAsked}
@@ -76,7 +76,7 @@ computing = tt
 searching : Unit {0}
 unfolding relabelState entry estimate largestEntry lower andThen behind takeUp conclude capped begin arrive offer extend visit
     round rounds roundsFrom search logThen logBehind logTake logArrive logExtend logVisit roundLog thresholdsFrom
-    thresholds visits searchFrom queryConditions lentConditions searchConditions findPlan
+    thresholds visits searchFrom queryConditions lentConditions tablesConditions searchConditions findPlan
 searching = tt
 
 -- and those for what `par` prints

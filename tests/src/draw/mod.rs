@@ -5,6 +5,7 @@ pub mod damage;
 pub mod draft;
 pub mod limits;
 pub mod maps;
+pub mod queries;
 pub mod session;
 pub mod sizes;
 pub mod tables;

@@ -1,4 +1,4 @@
-//! The thirteen calls: what each refuses, in the order of the numbers, what it answers, and what it writes.
+//! The fourteen calls: what each refuses, in the order of the numbers, what it answers, and what it writes.
 //!
 //! They take the block first, then the further maps where there are some, then what the methods of the wrapper take. A
 //! refused call returns before anything is written.
@@ -9,6 +9,7 @@ use super::exercise::{Exercise, Rule, State};
 use super::maps::Mapped;
 use super::matching::{apply, met_goal};
 use super::predecessors;
+use super::records::{answer_record, check_records};
 use super::relabel::relabel;
 use super::replay::replay;
 use super::reversible::is_reversible_by_form;
@@ -123,13 +124,26 @@ pub fn find_plan(
         return Err(Refusal::Limit);
     }
     check_room(plan.len(), limits.steps)?;
-    check_table(&mapped, table)?;
-    if !mapped.passes(table) {
-        return Err(Refusal::TableFails);
-    }
+    check_passing_table(&mapped, table)?;
     let (answer, rules) = find(mapped.own(), start, limits, &|state| mapped.estimate(table, state));
     write(&rules, plan);
     Ok(answer)
+}
+
+/// The number of bytes written.
+pub fn find_plans(
+    block: &[u8],
+    maps: &[u8],
+    queries: &[u8],
+    table: &[u32],
+    answers: &mut [u8],
+) -> Result<usize, Refusal> {
+    let mapped = Mapped::new(check(block)?, maps)?;
+    let records = check_records(mapped.own(), queries, answers.len())?;
+    check_passing_table(&mapped, table)?;
+    let estimate = |state: &[u8]| mapped.estimate(table, state);
+    let told: Vec<u8> = records.into_iter().flat_map(|query| answer_record(mapped.own(), query, &estimate)).collect();
+    Ok(write(&told, answers))
 }
 
 fn check_state(exercise: &Exercise, state: &[u8]) -> Result<(), Refusal> {
@@ -146,6 +160,11 @@ fn check_room(room: usize, needed: usize) -> Result<(), Refusal> {
 
 fn check_table(mapped: &Mapped, table: &[u32]) -> Result<(), Refusal> {
     (table.len() >= mapped.entries()).then_some(()).ok_or(Refusal::TableShort)
+}
+
+fn check_passing_table(mapped: &Mapped, table: &[u32]) -> Result<(), Refusal> {
+    check_table(mapped, table)?;
+    mapped.passes(table).then_some(()).ok_or(Refusal::TableFails)
 }
 
 /// Writes at the front of a buffer, and tells how much.

@@ -56,14 +56,14 @@ module _ (c : tie.After-known-told2) where
   block = take (c .before .opening2 .given .0 .0) (opened .«open» .last .1 .0)
 
   abbrev from : ℕ
-  from = c .before .opening2 .given .0 .1 .1 .0
+  from = c .before .opening2 .given .0 .1 .0
 
   left :
       (let told = c .before .opening2 .given .0 in
-      OpenedWell input (opened .«open» .last .1 .0) (opened .«open» .last .1 .1 .0) (told .0) (told .1 .0) from)
+      OpenedWell input (opened .«open» .last .1 .0) (opened .«open» .last .1 .1 .0) (told .0) from)
   left =
       let o = opened .«open» in
-      opened-well _ _ _ _ _ _ _ _
+      opened-well _ _ _ _ _ _ _
       (ap (λ (r : Opening). openOutcome (openingOf r) (o .last .1 .0) (o .last .1 .1 .0))
       (sym (c .before .opening2 .given .1))
       ∙ o .ensures)
@@ -79,12 +79,6 @@ array-share-prefix-block c = left c .block-fits
 
 slice-aggregate-answer-queries : tie.Need-slice-aggregate-answer-queries
 slice-aggregate-answer-queries c = sym (length-take-le _ _ (left (c .before) .block-fits))
-
-array-share-prefix-table : tie.Need-array-share-prefix-table
-array-share-prefix-table c = left (c .before) .table-fits
-
-slice-aggregate-answer-queries-2 : tie.Need-slice-aggregate-answer-queries-2
-slice-aggregate-answer-queries-2 c = sym (length-take-le _ _ (left (c .before .before) .table-fits))
 
 answer-queries-requires : tie.Need-answer-queries-requires
 answer-queries-requires c κs =
@@ -122,8 +116,6 @@ answer-input-spec =
     enum-known-opening-2
     array-share-prefix-block
     slice-aggregate-answer-queries
-    array-share-prefix-table
-    slice-aggregate-answer-queries-2
     answer-queries-requires
     same-length
     returns

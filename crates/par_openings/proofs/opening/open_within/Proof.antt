@@ -61,9 +61,9 @@ said s = verdict (readConditions (exerciseLines (linesOf (input s))) blockRoom)
 
 -- an open exercise, part by part
 told-so :
-    {n m k j p q : ℕ} {block block′ table table′ : List ℕ} → n ≡ m → k ≡ j → p ≡ q → block ≡ block′ → table ≡ table′
-    → openOutcome (told (exercise n k p)) block table ≡ openOutcome (told (exercise m j q)) block′ table′
-told-so a b c d e = λ i. openOutcome (told (exercise (a i) (b i) (c i))) (d i) (e i)
+    {n m p q : ℕ} {block block′ table table′ : List ℕ} → n ≡ m → p ≡ q → block ≡ block′ → table ≡ table′
+    → openOutcome (told (exercise n p)) block table ≡ openOutcome (told (exercise m q)) block′ table′
+told-so a b c d = λ i. openOutcome (told (exercise (a i) (b i))) (c i) (d i)
 
 returns : tie.Need-returns
 unfolding openExercise
@@ -159,18 +159,18 @@ enum-known-reading c = search needs
 enum-known-reading-2 : tie.Need-enum-known-reading-2
 enum-known-reading-2 c = search needs
 
-slice-reshare-prefix-fill-whole : tie.Need-slice-reshare-prefix-fill-whole
-slice-reshare-prefix-fill-whole c = fits (text-from-known2 c) _ (ap readingOf (c .before .reading2 .given .1))
+slice-reshare-prefix-fill : tie.Need-slice-reshare-prefix-fill
+slice-reshare-prefix-fill c = fits (text-from-known2 c) _ (ap readingOf (c .before .reading2 .given .1))
 
-slice-aggregate-fill-whole : tie.Need-slice-aggregate-fill-whole
-slice-aggregate-fill-whole c =
+slice-aggregate-fill : tie.Need-slice-aggregate-fill
+slice-aggregate-fill c =
     let k = c .before in
     let d = text-from-known2 k in
     let e = ap readingOf (k .before .reading2 .given .1) in
     done d _ e .1 ∙ sym (ap length (part d _ e))
 
-fill-whole-requires : tie.Need-fill-whole-requires
-fill-whole-requires c κs =
+fill-requires : tie.Need-fill-requires
+fill-requires c κs =
     let k = c .before .before in
     let d = text-from-known2 k in
     let e = ap readingOf (k .before .reading2 .given .1) in
@@ -205,11 +205,10 @@ returns-3 c =
     let s = start d in
     let e = ap readingOf (k .before .reading2 .given .1) in
     let yes = done d _ e in
-    let f = c .before .before .fill-whole in
     let same = part d _ e in
-    let states = f .ensures .0 ∙ ap abstractStates same in
-    let table = f .ensures .1 ∙ ap (λ (b : List ℕ). atFront (filled b) (now (s .args .table))) same in
-    told-so (yes .1) states (d .before .before .before .exercise-end .ensures) (yes .2) table
+    let table =
+    c .before .before .fill .ensures ∙ ap (λ (b : List ℕ). atFront (filled b) (now (s .args .table))) same in
+    told-so (yes .1) (d .before .before .before .exercise-end .ensures) (yes .2) table
     ∙ sym (ap (opened s) (judged d ∙ yes .0))
 
 pub open-within-spec : {M : Type 1} → statement M
@@ -223,9 +222,9 @@ open-within-spec =
     read-text-requires
     enum-known-reading
     enum-known-reading-2
-    slice-reshare-prefix-fill-whole
-    slice-aggregate-fill-whole
-    fill-whole-requires
+    slice-reshare-prefix-fill
+    slice-aggregate-fill
+    fill-requires
     same-length
     returns-2
     same-length-2

@@ -2,7 +2,7 @@
 -- Refused with 1 or 2 by the line itself, or answered by the record that answers its bytes.
 use mathlib.Core.Path.{_≡_, refl, sym, ap, _∙_, subst}
 use mathlib.Core.Bool.{true}
-use mathlib.Core.List.{List, []}
+use mathlib.Core.List.{List}
 use Prim.Native.Nat.{ℕ, _+_, _-_, _≤_, _<_}
 use native.Mathlib.Omega.{arith}
 use lib.ListN.{length, take, drop, replicate}
@@ -11,29 +11,22 @@ use denote.Ref.{now}
 use borrow.Author.Needs.{needs}
 use borrow.Author.Tests.{not-true, not-false, eq-eqb, ne-eqb}
 use Rattle.basics.proofs.Lists.{sets-front, front-taken}
-use Rattle.blocks.specs.Layout.{abstractStates}
-use Rattle.filling.specs.FilledTables.{filled}
-use Rattle.filling.proofs.LeastEntries.{cost-bytes, filled-length}
-use Rattle.search.specs.Exercises.{Passes, estimateOf}
 use Rattle.records.specs.Records.{queryLength, recordRoom, answerRecord, Written}
 use Rattle.records.proofs.RecordLaws.{written-fits, written-taken}
 use Rattle.frames.specs.Lines.{lineOk, lineBytes, lineOf}
 use Rattle.frames.specs.Places.{lineFrom}
 use Rattle.frames.specs.declared.lines.Line.{Line}
 use Rattle.frames.proofs.LineLaws.{line-part, line-inside, line-there}
-use Rattle.par_queries.specs.QueryLines.{answerLine, AnsweredAt}
+use Rattle.par_queries.specs.QueryLines.{filledEstimate, answerLine, AnsweredAt}
 use Rattle.par_queries.specs.declared.answering.Answered.{Answered}
 use Rattle.par_queries.proofs.PrintedLines.{line-length, line-of}
-use Rattle.par_queries.proofs.QueryLineLaws.{filled-passing, line-decided, line-refused, line-accepted}
+use Rattle.par_queries.proofs.QueryLineLaws.{line-decided, line-refused, line-accepted}
 use Rattle.par_queries.proofs.answering.answer_line.Statement.{statement}
 use Rattle.par_queries.proofs.answering.answer_line.Tie as tie
 
 -- the places that the facts below go back to
-abbrev block-from-found : tie.After-read-line → tie.After-shared-slice-known
-block-from-found c = c .before .before .before .before
-
 abbrev start-from-found : tie.After-read-line → tie.Start
-start-from-found c = block-from-found c .before
+start-from-found c = c .before .before .before .before
 
 abbrev found-from-measured : tie.Else2 → tie.After-read-line
 found-from-measured c = c .before .before .before .before .before
@@ -147,7 +140,7 @@ module _ (c : tie.Else2) where
   long = sym (counted found) ∙ c .if2 .left ∙ c .before .before .query-length .ensures .0
 
   short : length (lineBytes (line call)) ≤ 25
-  short = omega (arith, long, call .pre .0 .sized .headed .sizes .n-high)
+  short = omega (arith, long, call .pre .0 .compiled .valid .sized .headed .sizes .n-high)
 
   -- the part that is decoded is the line
   part : lineBytes (take (found .read-line .result .next - at) (drop at text)) ≡ lineBytes (line call)
@@ -156,7 +149,9 @@ module _ (c : tie.Else2) where
       ap lineBytes (ap (λ (k : ℕ). take k (drop at text)) e ∙ line-part text at)
 
   -- it is answered by its bytes
-  settled : answerLine (block call) (line call) ≡ lineOf (answerRecord (block call) (lineBytes (line call)) (filled (block call)))
+  settled :
+      answerLine (block call) (line call)
+      ≡ lineOf (answerRecord (block call) (filledEstimate (block call)) (lineBytes (line call)))
   settled =
       let fits = eq-eqb (length (lineBytes (line call))) (queryLength (block call)) long in
       line-accepted (block call) (line call)
@@ -208,16 +203,7 @@ slice-aggregate-answer-query-2 c = search needs
 answer-query-requires : tie.Need-answer-query-requires
 answer-query-requires c κs =
     let d = decoded-from-answer c in
-    let s = call (else d) in
-    let valid = s .pre .0 in
-    let known = block-from-found (found (else d)) .shared-slice-known .given in
-    let small = cost-bytes (block s) (λ i. omega (arith, known i)) in
-    let entries : abstractStates (block s) ≤ length (now (s .args .table)) =
-    omega (arith, ap length (s .pre .1), filled-length (block s) valid small) in (
-      (valid, ap length (bytes d) ∙ long (else d), entries, search needs),
-      subst (λ (t : List ℕ). Passes (block s) (estimateOf (block s) [] t)) (sym (s .pre .1))
-          (filled-passing (block s) valid small),
-    )
+    (call (else d) .pre .0, ap length (bytes d) ∙ long (else d), search needs)
 
 -- the record that answers the query
 module _ (c : tie.After-answer-query) where
@@ -228,25 +214,33 @@ module _ (c : tie.After-answer-query) where
   query-line = call (else decoded)
 
   abbrev record-bytes : List ℕ
-  record-bytes = answerRecord (block query-line) (asked decoded) (filled (block query-line))
+  record-bytes = answerRecord (block query-line) (filledEstimate (block query-line)) (asked decoded)
 
   abbrev told-bytes : List ℕ
-  told-bytes = take (c .answer-query .result) (c .answer-query .last .1 .1 .1 .0)
+  told-bytes = take (c .answer-query .result) (c .answer-query .last .1 .1 .1 .1 .1 .0)
+
+  -- the record stands at the front of what was lent
+  written :
+      (let s = query-line in
+      let line-bytes = take (decoded .decode-line .result) (decoded .decode-line .last .1 .0) in
+      Written (answerRecord (block s) (filledEstimate (block s)) line-bytes) (replicate 75 0) (c .answer-query .result)
+      (c .answer-query .last .1 .1 .1 .1 .1 .0))
+  written = c .answer-query .ensures (filledEstimate (block query-line)) (query-line .pre .1)
 
   answered : told-bytes ≡ record-bytes
   answered =
-      written-taken (c .answer-query .ensures)
-      ∙ (λ i. answerRecord (block query-line) (bytes decoded i) (query-line .pre .1 i))
+      written-taken written
+      ∙ ap (answerRecord (block query-line) (filledEstimate (block query-line))) (bytes decoded)
 
   fits : c .answer-query .result ≤ recordRoom
-  fits = omega (arith, written-fits (c .answer-query .ensures), c .answer-query .kept .1 .1 .1 .0)
+  fits = omega (arith, written-fits written, c .answer-query .kept .1 .1 .1 .1 .1 .0)
 
   told-length : length told-bytes ≡ c .answer-query .result
   told-length =
-      length-take-le (c .answer-query .result) (c .answer-query .last .1 .1 .1 .0) (written-fits (c .answer-query .ensures))
+      length-take-le (c .answer-query .result) (c .answer-query .last .1 .1 .1 .1 .1 .0) (written-fits written)
 
 array-share-prefix-answer : tie.Need-array-share-prefix-answer
-array-share-prefix-answer c = omega (arith, fits (c .before), c .before .answer-query .kept .1 .1 .1 .0)
+array-share-prefix-answer c = omega (arith, fits (c .before), c .before .answer-query .kept .1 .1 .1 .1 .1 .0)
 
 slice-aggregate-encode-line : tie.Need-slice-aggregate-encode-line
 slice-aggregate-encode-line c = sym (told-length (c .before .before))

@@ -1,7 +1,7 @@
 -- `records::answering::answer_query` meets its contract.
--- Refused with 8 or 10, or the bytes of the answer that the search gives with the table.
+-- Refused with 8 or 10, or the bytes of the answer that the search gives, by whatever estimate the arrays rate by.
 use mathlib.Core.Path.{_≡_, sym, ap, ap₂, _∙_, subst}
-use mathlib.Core.List.{List, []}
+use mathlib.Core.List.{List}
 use Prim.Native.Nat.{ℕ, _≤_}
 use native.Mathlib.Omega.{arith}
 use lib.ListN.{length, take}
@@ -14,8 +14,9 @@ use Rattle.blocks.specs.States.{stateOk}
 use Rattle.queries.specs.Queries.{longestPlan, queryConditions}
 use Rattle.queries.specs.declared.Limits.{Limits}
 use Rattle.queries.proofs.QueryLaws.{QueryAccepted, query-accepted}
-use Rattle.maps.proofs.MapLaws.{none-entries, none-mapped}
-use Rattle.search.specs.Exercises.{estimateOf, searchFrom, planGoal}
+use Rattle.rounds.specs.Systems.{Estimate}
+use Rattle.search.specs.Exercises.{searchFrom, planGoal}
+use Rattle.search.specs.OnWords.{Rates}
 use Rattle.search.specs.Parts.{FoundWithin, answerOf, endingGoal}
 use Rattle.records.specs.Records.{startOf, limitsOf, recordConditions, searchAsked}
 use Rattle.records.specs.Records.{answerBytes, goalAsked, recordOf, answerRecord, Written}
@@ -25,7 +26,7 @@ use Rattle.records.proofs.answering.answer_query.Tie as tie
 
 -- the places that the facts below go back to
 abbrev start-from-positions : tie.After-positions → tie.Start
-start-from-positions c = c .before .before .before .before .before
+start-from-positions c = c .before .before .before .before
 
 abbrev found-from-written : tie.After-write-answer → tie.After-find-plan
 found-from-written c = c .before .before .before .before
@@ -39,21 +40,18 @@ block s = now (s .args .block)
 abbrev query : tie.Start → List ℕ
 query s = now (s .args .query)
 
-abbrev table : tie.Start → List ℕ
-table s = now (s .args .table)
-
--- what is written by a verdict
-abbrev Shown : tie.Start → ℕ → List ℕ → Answer (Unit {0}) → Type 0
-Shown s n new v =
-    let a = answered v (searchAsked (block s) (query s) (table s)) in
+-- what is written by a verdict, and by an estimate
+abbrev Shown : tie.Start → (List ℕ → Estimate) → ℕ → List ℕ → Answer (Unit {0}) → Type 0
+Shown s h n new v =
+    let a = answered v (searchAsked (block s) h (query s)) in
     Written (recordOf (block s) (query s) a) (now (s .args .out)) n new
 
 shown :
-    (s : tie.Start) (n : ℕ) (new : List ℕ) (v : Answer (Unit {0}))
-    → verdict (recordConditions (block s) (query s)) ≡ v → Shown s n new v
-    → Written (answerRecord (block s) (query s) (table s)) (now (s .args .out)) n new
+    (s : tie.Start) (h : List ℕ → Estimate) (n : ℕ) (new : List ℕ) (v : Answer (Unit {0}))
+    → verdict (recordConditions (block s) (query s)) ≡ v → Shown s h n new v
+    → Written (answerRecord (block s) h (query s)) (now (s .args .out)) n new
 unfolding answerRecord
-shown s n new v e w = subst (Shown s n new) (sym e) w
+shown s h n new v e w = subst (Shown s h n new) (sym e) w
 
 positions-requires : tie.Need-positions-requires
 positions-requires c κs = search needs
@@ -72,7 +70,7 @@ begins-length :
     → length (take (c .positions .result) (query (start-from-positions c))) ≡ c .positions .result
 begins-length c =
     let s = start-from-positions c in
-    length-take-le (c .positions .result) (query s) (omega (arith, c .positions .ensures .0, s .pre .0 .1))
+    length-take-le (c .positions .result) (query s) (omega (arith, c .positions .ensures .0, s .pre .1))
 
 slice-aggregate-check-query : tie.Need-slice-aggregate-check-query
 slice-aggregate-check-query c = sym (begins-length (c .before .before))
@@ -106,11 +104,11 @@ same-length : tie.Need-same-length
 same-length c = search needs
 
 returns : tie.Need-returns
-returns c =
+returns c = λ h rates.
     let p = c .before .before in
     let d = checked-from-put p in
     let v = judged d ∙ ap verdictOf (p .before .before .before .asked .given .1) in
-    shown (start d) _ _ _ v (p .put-refusal .ensures)
+    shown (start d) h _ _ _ v (p .put-refusal .ensures)
 
 enum-told : tie.Need-enum-told
 enum-told c = search needs
@@ -132,26 +130,21 @@ module _ (c : tie.After-enum-told) where
   few = omega (arith, good .steps-few, ap (λ (l : Limits). l .steps) (limited checked))
 
 slice-aggregate-find-plan : tie.Need-slice-aggregate-find-plan
-slice-aggregate-find-plan c = search needs
+slice-aggregate-find-plan c = sym (begins-length (counted (checked (c .before))))
 
 slice-aggregate-find-plan-2 : tie.Need-slice-aggregate-find-plan-2
-slice-aggregate-find-plan-2 c = sym (begins-length (counted (checked (c .before .before))))
-
-slice-aggregate-find-plan-3 : tie.Need-slice-aggregate-find-plan-3
-slice-aggregate-find-plan-3 c = search needs
+slice-aggregate-find-plan-2 c = search needs
 
 find-plan-requires : tie.Need-find-plan-requires
 find-plan-requires c κs =
-    let d = c .before .before .before in
+    let d = c .before .before in
     let s = start (checked d) in
-    let state = ap (stateOk (block s)) (begins (counted (checked d))) ∙ good d .state in
-    let entries = none-entries (block s) in
-    ((none-mapped (block s) (s .pre .0 .0), state, few d, few d, omega (arith, entries, s .pre .0 .2)), s .pre .1)
+    (s .pre .0, ap (stateOk (block s)) (begins (counted (checked d))) ∙ good d .state, few d, few d)
 
 -- the search that the code makes is the one that the query asks for
 module _ (c : tie.After-find-plan) where
   abbrev settled : tie.After-enum-told
-  settled = c .before .before .before .before
+  settled = c .before .before .before
 
   abbrev asked : tie.Start
   asked = start (checked settled)
@@ -159,43 +152,47 @@ module _ (c : tie.After-find-plan) where
   within : FoundWithin longestPlan (c .find-plan .result)
   within =
       found-more (checked settled .before .before .limits-of .result .steps) longestPlan (few settled)
-      (c .find-plan .result) (c .find-plan .ensures .within)
+      (c .find-plan .result) (c .find-plan .ensures .0)
 
-  searched :
-      answerOf (c .find-plan .last .1 .1 .1 .1 .1 .0) (c .find-plan .result)
-      ≡ searchAsked (block asked) (query asked) (table asked)
-  unfolding searchAsked
-  searched =
-      let d = checked settled in
-      c .find-plan .ensures .told
-      ∙ ap₂ (searchFrom (block asked) (estimateOf (block asked) [] (table asked))) (begins (counted d)) (limited d)
+  -- the arrays rate by an estimate
+  abbrev RatesBy : (List ℕ → Estimate) → Type 0
+  RatesBy h = Rates (block asked) (now (asked .args .changes)) (now (asked .args .entries)) h
 
-  -- and its goal is the one that is told
-  goal-told :
-      endingGoal (c .find-plan .result)
-      ≡ goalAsked (block asked) (query asked) (searchAsked (block asked) (query asked) (table asked))
-  unfolding searchAsked
-  goal-told =
-      let d = checked settled in
-      c .find-plan .ensures .goal
-      ∙ ap₂ (λ (s : List ℕ) (l : Limits). planGoal (block asked) s
-      (searchFrom (block asked) (estimateOf (block asked) [] (table asked)) s l)) (begins (counted d)) (limited d)
+  module _ (h : List ℕ → Estimate) (rates : RatesBy h) where
+    searched :
+        answerOf (c .find-plan .last .1 .1 .1 .1 .1 .1 .0) (c .find-plan .result)
+        ≡ searchAsked (block asked) h (query asked)
+    unfolding searchAsked
+    searched =
+        let d = checked settled in
+        c .find-plan .ensures .1 h rates .told ∙ ap₂ (searchFrom (block asked) h) (begins (counted d)) (limited d)
+
+    -- and its goal is the one that is told
+    goal-told :
+        endingGoal (c .find-plan .result)
+        ≡ goalAsked (block asked) (query asked) (searchAsked (block asked) h (query asked))
+    unfolding searchAsked
+    goal-told =
+        let d = checked settled in
+        c .find-plan .ensures .1 h rates .goal
+        ∙ ap₂ (λ (s : List ℕ) (l : Limits). planGoal (block asked) s (searchFrom (block asked) h s l))
+        (begins (counted d)) (limited d)
 
 write-answer-requires : tie.Need-write-answer-requires
-write-answer-requires c κs = let f = c .before .before .before in (within f, asked f .pre .0 .3)
+write-answer-requires c κs = let f = c .before .before .before in (within f, asked f .pre .2)
 
 same-length-2 : tie.Need-same-length-2
 same-length-2 c = search needs
 
 returns-2 : tie.Need-returns-2
-returns-2 c =
+returns-2 c = λ h rates.
     let w = c .before .before in
     let f = found-from-written w in
     let s = asked f in
     let out = w .write-answer .last .1 .1 .0 in
-    shown s _ _ _ (accepted (settled f))
+    shown s h _ _ _ (accepted (settled f))
     (subst (λ (l : List ℕ). Written l (now (s .args .out)) (w .write-answer .result) out)
-    (ap₂ answerBytes (goal-told f) (searched f)) (w .write-answer .ensures))
+    (ap₂ answerBytes (goal-told f h rates) (searched f h rates)) (w .write-answer .ensures))
 
 pub answer-query-spec : {M : Type 1} → statement M
 answer-query-spec =
@@ -212,7 +209,6 @@ answer-query-spec =
     enum-told
     slice-aggregate-find-plan
     slice-aggregate-find-plan-2
-    slice-aggregate-find-plan-3
     find-plan-requires
     write-answer-requires
     same-length-2

@@ -14,8 +14,10 @@ use Rattle.refusals.specs.Refusals.{verdictOf}
 use Rattle.rounds.specs.Systems.{Estimate}
 use Rattle.rounds.specs.Rounds.{plan}
 use Rattle.search.specs.Exercises.{estimateOf, searchFrom, planGoal}
-use Rattle.search.specs.Parts.{Answers}
+use Rattle.search.specs.OnWords.{Rates}
+use Rattle.search.specs.Parts.{FoundWithin, Answers}
 use Rattle.search.proofs.Demand.{tables-passing}
+use Rattle.search.proofs.Instance.{ready-rates}
 use Rattle.search.specs.declared.running.Ending.{Ending}
 use Rattle.search_calls.specs.Searching.{SearchAnswer, searchOf, reported, searchConditions, findPlan, PlanKept}
 use Rattle.search_calls.specs.declared.searching.Search.{Search}
@@ -34,8 +36,14 @@ start-from-told c = table-from-told c .before .before .before .before
 abbrev start-from-known : tie.After-known-told → tie.Start
 start-from-known c = c .before .before .before .before .before .before .before .before .before
 
+abbrev told-from-ready : tie.After-make-ready → tie.After-enum-told
+told-from-ready c = c .before .before .before .before
+
+abbrev ready-from-search : tie.After-find-plan → tie.After-make-ready
+ready-from-search c = c .before .before .before .before .before
+
 abbrev told-from-search : tie.After-find-plan → tie.After-enum-told
-told-from-search c = c .before .before
+told-from-search c = told-from-ready (ready-from-search c)
 
 abbrev search-from-found : tie.After-known-told2 → tie.After-find-plan
 search-from-found c = c .before .before .before .before .before
@@ -108,9 +116,28 @@ ready c =
     search-accepted (now (a .block)) (now (a .maps)) (now (a .start)) (a .limits) (now (a .table))
     (length (now (a .plan))) (accepted c)
 
+make-ready-requires : tie.Need-make-ready-requires
+make-ready-requires c κs =
+    let known = ready (c .before .before .before) in
+    (known .mapped, known .tables .entries, search needs, search needs, search needs)
+
+-- the arrays rate by the tables
+rated :
+    (c : tie.After-make-ready)
+    → Rates (now (start-from-told (told-from-ready c) .args .block)) (c .make-ready .last .1 .1 .1 .1 .0)
+    (c .make-ready .last .1 .1 .1 .1 .1 .0) (rate (start-from-told (told-from-ready c)))
+rated c =
+    let d = told-from-ready c in
+    let a = start-from-told d .args in
+    let known = table-from-told d .shared-slice-known4 .given in
+    let k = ready d in
+    ready-rates (k .mapped) (c .make-ready .ensures)
+    (tables-passing (now (a .block)) (now (a .maps)) (now (a .table)) (k .mapped) (λ i. omega (arith, known i))
+    (k .tables .passing))
+
 -- the buffer that the search layer leaves
 abbrev written : tie.After-find-plan → List ℕ
-written c = c .find-plan .last .1 .1 .1 .1 .1 .0
+written c = c .find-plan .last .1 .1 .1 .1 .1 .1 .0
 
 -- what the call gives where the search layer ends with r, and demand 3 for it
 gives :
@@ -121,10 +148,11 @@ gives c r e =
     let d = told-from-search c in
     let s = start-from-told d in
     let a = s .args in
-    let k = subst (Ended s (written c)) e (c .find-plan .ensures) in
+    let k = subst (Ended s (written c)) e (c .find-plan .ensures .1 (rate s) (rated (ready-from-search c))) in
+    let within = subst (FoundWithin (a .limits .steps)) e (c .find-plan .ensures .0) in
     let given =
     answered-by (now (a .block)) (now (a .maps)) (now (a .start)) (a .limits) (now (a .table)) (now (a .plan))
-    (written c) (ready d .room-left) r k in (
+    (written c) (ready d .room-left) r within k in (
       given ∙ sym (ap (settled s) (accepted d)),
       kept-by (now (a .block)) (now (a .maps)) (now (a .start)) (a .limits) (now (a .table)) (now (a .plan))
           (written c) (ready d .mapped .valid 0 (omega arith)) r k,
@@ -132,13 +160,9 @@ gives c r e =
 
 find-plan-requires : tie.Need-find-plan-requires
 find-plan-requires c κs =
-    let a = start-from-told (c .before) .args in
-    let known = table-from-told (c .before) .shared-slice-known4 .given in
-    let h = ready (c .before) in (
-      (h .mapped, h .state, h .steps-few, h .room-left, h .entries),
-      tables-passing (now (a .block)) (now (a .maps)) (now (a .table)) (h .mapped) (λ i. omega (arith, known i))
-          (h .passing),
-    )
+    let d = c .before .before .before .before in
+    let known = ready (told-from-ready d) in
+    (d .make-ready .ensures .prepared, known .state, known .steps-few, known .room-left)
 
 enum-known-ending : tie.Need-enum-known-ending
 enum-known-ending c = search needs
@@ -178,6 +202,7 @@ find-plan-spec =
     enum-known-checked
     returns
     enum-told
+    make-ready-requires
     find-plan-requires
     enum-known-ending
     enum-known-ending-2

@@ -1,4 +1,4 @@
--- `search::finding::read_entries` meets its contract.
+-- `search::readying::read_entries` meets its contract.
 -- The loop's invariant: the entries passed are read.
 use mathlib.Core.Path.{_≡_, refl, _∙_}
 use Prim.Native.Nat.{ℕ, _-_, _≤_, _<_}
@@ -7,8 +7,8 @@ use denote.Ref.{now}
 use lib.ListN.{length, getD, length-set}
 use Rattle.basics.proofs.Lists.{set-more}
 use borrow.Author.Needs.{needs}
-use Rattle.search.proofs.finding.read_entries.Statement.{statement}
-use Rattle.search.proofs.finding.read_entries.Tie as tie
+use Rattle.search.proofs.readying.read_entries.Statement.{statement}
+use Rattle.search.proofs.readying.read_entries.Tie as tie
 
 abbrev Inv-loop : tie.InvT-loop
 Inv-loop table count entries₀ k₀ entries k =
@@ -18,7 +18,7 @@ abbrev μ-loop : tie.MeasureT-loop
 μ-loop table count entries₀ k₀ entries k = count - k
 
 loop-holds : tie.Need-loop-holds Inv-loop μ-loop
-loop-holds c = (search needs, refl, λ j l. absurd (omega arith))
+loop-holds c = (search needs, c .pre .2, λ j l. absurd (omega arith))
 
 mul-entries : tie.Need-mul-entries Inv-loop μ-loop
 mul-entries c = search needs
@@ -29,8 +29,8 @@ shared-slice-read-entries c = search needs
 mul-entries-2 : tie.Need-mul-entries-2 Inv-loop μ-loop
 mul-entries-2 c = search needs
 
-array-write-entries : tie.Need-array-write-entries Inv-loop μ-loop
-array-write-entries c = search needs
+element-write-entries : tie.Need-element-write-entries Inv-loop μ-loop
+element-write-entries c = search needs
 
 add-k : tie.Need-add-k Inv-loop μ-loop
 add-k c = search needs
@@ -60,7 +60,7 @@ read-entries-spec =
     mul-entries
     shared-slice-read-entries
     mul-entries-2
-    array-write-entries
+    element-write-entries
     add-k
     loop-less
     loop-again
