@@ -1,5 +1,7 @@
 // What every layer uses: two tests joined, a byte as an index, powers, bytes copied and looked for; sets of small
 // numbers as words.
+#![tactic(auto)]
+
 ghost use Rattle.std.specs.Prelude.{◌≡◌, ◌&&◌, ◌+◌, ◌^◌, ◌≤◌, min, eqb, length, get_or, take};
 ghost use Rattle.basics.specs.Bounded.{first};
 ghost use Rattle.basics.specs.Lists.{at_front};

@@ -1,0 +1,13 @@
+-- `basics::copy` meets its contract.
+-- The loop's invariant: the places passed hold the bytes of `from`, the others what they held.
+use mathlib.Core.Path.{◌≡◌}
+use Prim.Native.Nat.{◌≤◌, ◌-◌}
+use lib.ListN.{set, take}
+use lib.Seq.{sets}
+use Rattle.basics.proofs.copy.Given as goal
+
+abbrev pub invariant-loop-i : goal.invariant-loop-i
+invariant-loop-i l = (l.i ≤ l.n) × (l.to ≡ sets l.initial.to 0 (take l.i l.from))
+
+abbrev pub decreases-loop-i : goal.decreases-loop-i
+decreases-loop-i l = l.n - l.i

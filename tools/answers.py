@@ -1,0 +1,517 @@
+#!/usr/bin/env python3
+"""Turns proofs/F/Proof.antt of an older Rattle into Invariants.antt and Answers.antt.
+
+usage: tools/answers.py NAMES.json FOLDER_OF_CRATE [--only F]..
+
+NAMES.json is what `rt check --generated DIR --old-names` writes in the crate. An answer that is only `search rules` goes,
+since Rattle tries that itself. A fact about a place becomes one about the record of the goal that cites it. A file that
+it cannot read stays, and a line that begins 'left:' says so.
+"""
+import json
+import os
+import re
+import sys
+
+WORD = r"[^\s(){}\[\].;,@\"«»]+"
+
+
+def norm(s):
+    return s.replace("-", "_")
+
+
+class Left(Exception):
+    pass
+
+
+def split_top(text):
+    """Atoms of an application at depth 0."""
+    out, i, n = [], 0, len(text)
+    while i < n:
+        if text[i].isspace():
+            i += 1
+            continue
+        j, deep = i, 0
+        while j < n and (deep or not text[j].isspace()):
+            deep += text[j] in "({["
+            deep -= text[j] in ")}]"
+            j += 1
+        out.append(text[i:j])
+        i = j
+    return out
+
+
+def declarations(text):
+    """(uses, list of (comment, name, words, signature, body)) of a file."""
+    lines = text.split("\n")
+    uses, decls, comment, i, head = [], [], [], 0, []
+    while i < len(lines):
+        l = lines[i]
+        if not l.strip():
+            if comment and not decls and not uses and not head:
+                head = comment
+                comment = []
+            i += 1
+            continue
+        if l.startswith("--"):
+            comment.append(l)
+            i += 1
+            continue
+        if re.match(r"(pub )?use ", l):
+            if comment and not uses and not head:
+                head, comment = comment, []
+            block = l
+            while block.count("{") > block.count("}"):
+                i += 1
+                block += " " + lines[i].strip()
+            uses.append(block)
+            i += 1
+            continue
+        m = re.match(r"((?:(?:abbrev|unfoldable|pub|data|record|ruleset) )*)(" + WORD + r")(.*)$", l)
+        if not m or l.startswith((" ", "module", "mutual", "infix")):
+            raise Left("reads no " + l[:60])
+        if "data" in m[1].split() or "record" in m[1].split() or "ruleset" in m[1].split():
+            block = [l]
+            i += 1
+            while i < len(lines) and (lines[i].startswith(" ") or not lines[i].strip()):
+                block.append(lines[i])
+                i += 1
+            decls.append([comment, m[2], "raw", "\n".join(block).rstrip(), ""])
+            comment = []
+            continue
+        name = m[2]
+        sig = [l]
+        i += 1
+        while i < len(lines) and lines[i].startswith(" "):
+            sig.append(lines[i])
+            i += 1
+        body = []
+        while i < len(lines):
+            k = lines[i]
+            if k.startswith("unfolding ") or re.match(re.escape(name) + r"(?= |$)", k):
+                body.append(k)
+            elif body and (k.startswith(" ") or k.startswith(")") or k.startswith("]")):
+                body.append(k)
+            elif not k.strip() and i + 1 < len(lines) and body and re.match(re.escape(name) + r"(?= |$)", lines[i + 1]):
+                pass
+            else:
+                break
+            i += 1
+        decls.append([comment, name, m[1].strip(), "\n".join(sig), "\n".join(body)])
+        comment = []
+    return head, uses, decls
+
+
+class File:
+    def __init__(self, path, info, crate, module):
+        self.path, self.info, self.crate, self.module = path, info, crate, module
+        with open(path, encoding="utf-8") as f:
+            self.head, self.uses, self.decls = declarations(f.read())
+        self.places = {}
+        for old, parent, step, _, _ in info["places"]:
+            self.places[norm(old)] = (norm(parent) if parent else None, step)
+        self.new_name = {}
+        for (old, *_), new in zip(info["places"], info["places_by_name"]):
+            self.new_name[norm(old)] = new
+        self.said = []
+
+    def parent(self, place, k):
+        for _ in range(k):
+            p = self.places.get(place, (None,))[0]
+            if p is None:
+                raise Left(f"no place above {place}")
+            place = p
+        return place
+
+    def is_place(self, word):
+        return norm(word) in self.places
+
+    # ---- reading the parts
+
+    def sort(self):
+        tie = None
+        for u in self.uses:
+            m = re.match(r"use (\S+)\.Tie as (\w+)", u)
+            if m:
+                tie = m[2]
+        if not tie:
+            raise Left("no Tie")
+        self.tie = tie
+        self.loops = {}
+        for (old, new), variables in self.info["loops"]:
+            self.loops[norm(old)] = (new, variables, self.info["changed"][len(self.loops)])
+        self.invariants, self.needs, self.helpers, self.accessors, close = [], {}, [], {}, None
+        by_name = {d[1]: d for d in self.decls}
+        for d in self.decls:
+            if re.search(r"\b" + tie + r"\.close\b", d[4]):
+                close = d
+        if not close:
+            raise Left("no close")
+        m = re.search(r"\b" + tie + r"\.spec\b(.*)\)\s*$", close[4], re.S)
+        if not m:
+            if re.search(r"\b" + tie + r"\.spec\s*$", close[4]) or re.search(tie + r"\.close " + tie + r"\.spec", close[4]):
+                args = []
+            else:
+                raise Left("no spec")
+        else:
+            args = split_top(m[1].strip())
+        k = 0
+        inv_names = set()
+        for it in args:
+            d = by_name.get(it)
+            if d and re.search(tie + r"\.(invariant|decreases|ghost)", d[3]):
+                inv_names.add(it)
+                k += 1
+            else:
+                break
+        rest = args[k:]
+        needs = self.info["needs"]
+        if len(rest) != len(needs):
+            raise Left(f"{len(rest)} answers, and {len(needs)} goals: {[n[0] for n in needs]}")
+        self.answer_of = {}
+        for it, (old, new), at in zip(rest, needs, self.info["asked_at"]):
+            self.answer_of.setdefault(it, []).append((new, norm(at[0]), at[1]))
+        for d in self.decls:
+            if d is close:
+                continue
+            if d[2] == "raw":
+                self.helpers.append(d)
+                continue
+            m = re.search(tie + r"\.(invariant|decreases)-(" + WORD + r")", d[3])
+            if d[1] in inv_names and m:
+                self.invariants.append((d, m[1], norm(m[2])))
+            elif d[1] in self.answer_of:
+                pass
+            else:
+                acc = self.accessor(d)
+                if acc:
+                    self.accessors[d[1]] = acc
+                else:
+                    self.helpers.append(d)
+        self.by_name = by_name
+
+    def accessor(self, d):
+        sig = d[3].split(" : ", 1)[1] if " : " in d[3] else ""
+        sig = re.sub(r"\s+", " ", sig).strip()
+        m = re.fullmatch(r"(?:\((\w+) : )?" + self.tie + r"\.(" + WORD + r")[^→)]*\)? → " + self.tie + r"\.(" + WORD + r")[^→]*", sig)
+        b = re.fullmatch(re.escape(d[1]) + r" (\w+) =\s+(\w+)((?:\.before)*)\s*", d[4])
+        if m and b and b[1] == b[2]:
+            return b[3].count(".before")
+        b = re.fullmatch(re.escape(d[1]) + r" (\w+) =\s+\(?(" + WORD + r") (\w+)((?:\.before)*)\)?((?:\.before)*)\s*", d[4])
+        if m and b and b[1] == b[3] and b[2] in self.accessors:
+            return self.accessors[b[2]] + b[4].count(".before") + b[5].count(".before")
+        return None
+
+    # ---- rewriting terms
+
+    def flat(self, text, root, place, param):
+        """The term with each place's record seen from the root; returns the term and the helpers that it calls."""
+        text = self.inline_accessors(text)
+        # let NAME = PARAM.before.. in
+        aliases = {param: 0}
+        while True:
+            text = self.inline_accessors(text)
+            names = "|".join(sorted(map(re.escape, aliases), key=len, reverse=True))
+            m = re.search(r"let (" + WORD + r")(?: : " + self.tie + r"\.[^=]*)? =\s+\(?(" + names + r")((?:\.before)*)\)?\s+in\b[ ]?", text)
+            if not m:
+                break
+            name = m[1]
+            full = m[2] + m[3]
+            before, after = text[: m.start()], text[m.end() :]
+            before_line = before.rsplit("\n", 1)[-1]
+            if not before_line.strip() and after.startswith("\n"):
+                before = before[: len(before) - len(before_line)].rstrip("\n")
+            after = re.sub(r"(?<![\w.'-])" + re.escape(name) + r"(?![\w'₀-])", full, after)
+            text = before + after
+        text = self.inline_accessors(text)
+        called = []
+
+        def turn(m):
+            chain, step, field = m[2], m[3], m[4]
+            k = chain.count(".before")
+            here = self.parent(place, k)
+            if not step:
+                return "c"
+            name = step[1:]
+            old, new = self.places[here][1]
+            if norm(name) == norm(old) or norm(name) == norm(new):
+                to = new
+                kind = {"taken": "true" if re.match(r"Then|In_|In-", here) else "false", "inv": "invariant"}
+                f = field or ""
+                if f[1:] in kind and (f != ".taken" or True):
+                    f = "." + kind[f[1:]]
+                return "c." + to + f
+            name = {"pre": "requires", "well": "ranges"}.get(name, name)
+            if name not in ("args", "requires", "ranges", "lifetimes", "well_formed", "measure", "auto"):
+                self.said.append(f"{here} has no step {name}")
+            return "c." + name + (field or "")
+
+        text = re.sub(r"\((" + re.escape(param) + r"(?:\.before)*)\)", r"\1", text)
+        text = re.sub(r"(?<![\w.'-])(" + re.escape(param) + r")((?:\.before)*)(\.(?!before\b)[^\s(){}\[\].;,@\"«»]+)?(\.[^\s(){}\[\].;,@\"«»]+)?(?![\w'₀-])", turn, text)
+        return text
+
+    def inline_accessors(self, text):
+        for _ in range(20):
+            old = text
+            for name, k in self.accessors.items():
+                pe = r"(\w+(?:\.before)*|\(\w+(?:\.before)*\))"
+                text = re.sub(r"\(" + re.escape(name) + r" " + pe + r"\)", lambda m: m[1].strip("()") + ".before" * k, text)
+                text = re.sub(r"(?<![\w.'-])" + re.escape(name) + r" " + pe + r"(?![\w'-])", lambda m: m[1].strip("()") + ".before" * k, text)
+            if text == old:
+                return text
+        return text
+
+    def place_param(self, d):
+        """The place and the name of the record that a helper takes first; None if it takes none."""
+        m = re.search(self.tie + r"\.(" + WORD + r")", d[3])
+        if not m:
+            return None
+        return norm(m[1])
+
+    def helper_in(self, d, root, root_name, name):
+        """A helper's text, over the record of a goal."""
+        place = self.place_param(d)
+        tie = self.tie
+        if place not in self.places:
+            raise Left(f"helper {d[1]}: no place {place}")
+        if len(re.findall(tie + r"\.", d[3])) != 1:
+            raise Left(f"helper {d[1]} cites several places")
+        m = re.search(r"\((" + WORD + r") : " + tie + r"\." + WORD + r"[^)]*\)", d[3])
+        sig_param = m[1] if m else None
+        sig = d[3]
+        if m:
+            sig = sig[: m.start()] + f"(c : {root_name})" + self.flat(sig[m.end() :], root, place, sig_param)
+        else:
+            sig = re.sub(tie + r"\." + WORD + r"[^→]*?(?= →|\s*$|\n)", root_name, sig, count=1)
+        # the position of the record among the arguments
+        before = d[3][: d[3].index(tie + ".")]
+        position = len(re.findall(r"→|\(\S[^()]*? : (?!" + tie + r")[^()]*(?:\([^()]*\)[^()]*)*\)", before.split(" : ", 1)[1] if " : " in before else ""))
+        binders = re.search(r"\(([^():]+) : [^()]*\) (?:→ )?", before)
+        body = []
+        lines = d[4].split("\n")
+        text = d[4]
+        heads = re.findall(r"(?m)^" + re.escape(d[1]) + r"((?: [^\n=]*?)?) =(?= |$)", text)
+        if len(heads) != 1:
+            raise Left(f"helper {d[1]} has {len(heads)} clauses")
+        args = split_top(heads[0])
+        # which argument is the record: the first one if the place is the first type
+        names_before = 0
+        pre = d[3].split(" : ", 1)[1]
+        pre = pre[: pre.index(tie + ".")] if tie + "." in pre else pre
+        for g in re.findall(r"\(([^():]+) :", pre.rsplit("(", 1)[0] if m else pre):
+            names_before += len(g.split())
+        flatpre = re.sub(r"\([^()]*(?:\([^()]*\)[^()]*)*\)", "", pre)
+        names_before += max(0, flatpre.count("→") - pre.count(") →"))
+        if names_before >= len(args):
+            raise Left(f"helper {d[1]}: which argument")
+        param = args[names_before]
+        args[names_before] = "c"
+        head = re.search(r"(?m)^" + re.escape(d[1]) + r"(?: [^\n=]*?)? =(?= |$)", text)
+        rest = text[head.end() :]
+        lead = text[: head.start()]
+        if param != "_":
+            rest = self.flat(rest, root, place, param)
+        sig = re.sub(r"(?<![\w.'-])" + re.escape(d[1]) + r"(?= )", name, sig, count=1)
+        return "\n".join(d[0] + [sig, lead + name + " " + " ".join(args) + " =" + rest])
+
+    def calls(self, text):
+        return [h for h in self.placed if re.search(r"(?<![\w.'-])" + re.escape(h) + r"(?![\w'-])", text)]
+
+    def emit_helper(self, h, root, root_name):
+        key = (h, root_name)
+        if key in self.instances:
+            return self.instances[key]
+        n = sum(1 for k in self.instances if k[0] == h)
+        name = h if n == 0 else f"{h}-{n + 1}"
+        self.instances[key] = name
+        text = self.helper_in(self.placed[h], root, root_name, name)
+        text = self.with_helpers(text, root, root_name, own=(h, name))
+        self.out.append(text)
+        self.used_roots.add(root_name)
+        return name
+
+    def with_helpers(self, text, root, root_name, own=None):
+        for h in self.calls(text):
+            if own and h == own[0]:
+                continue
+            name = self.emit_helper(h, root, root_name)
+            text = re.sub(r"(?<![\w.'-])" + re.escape(h) + r"(?![\w'-])", name, text)
+        return text
+
+    # ---- the files
+
+    def run(self):
+        self.sort()
+        tie = self.tie
+        path = ".".join(self.module)
+        base = f"Rattle.{self.crate}.proofs.{path}"
+        self.placed = {d[1]: d for d in self.helpers if d[2] != "raw" and self.place_param(d)}
+        plain = [d for d in self.helpers if d[1] not in self.placed]
+        self.instances, self.out, self.used_roots = {}, [], set()
+        # invariants
+        inv = []
+        for d, kind, loop in self.invariants:
+            if loop not in self.loops:
+                raise Left(f"no loop {loop}: {list(self.loops)}")
+            new, variables, changed = self.loops[loop]
+            head = re.search(r"(?m)^" + re.escape(d[1]) + r"((?: [^\n=]*?)?) =(?= |$)", d[4])
+            binders = split_top(head[1])
+            rest = d[4][head.end() :]
+            entry = [(v, "l." + v if not c else "l.initial." + v) for v, c in zip(variables, changed)]
+            now = [(v, "l." + v) for v, c in zip(variables, changed) if c]
+            want = entry + now
+            if len(binders) != len(want):
+                raise Left(f"{d[1]}: {len(binders)} binders {binders} for {len(want)} {want}")
+            for b, (v, to) in zip(binders, want):
+                if b == "_":
+                    continue
+                rest = re.sub(r"(?<![\w.'-])" + re.escape(b) + r"(?![\w'₀-])", "\0" + to[2:] + "\0", rest)
+            rest = re.sub("\0([^\0]*)\0", r"l.\1", rest)
+            lead = d[4][: head.start()]
+            inv.append("\n".join(d[0] + [f"abbrev pub {kind}-{new} : goal.{kind}-{new}", f"{lead}{kind}-{new} l ={rest}"]))
+        inv_text = "\n\n".join(inv)
+        shared = []
+        for d in plain:
+            if re.search(r"(?<![\w.'-])" + re.escape(d[1]) + r"(?![\w'-])", inv_text + "\n".join(shared_text(s) for s in shared)):
+                shared.append(d)
+        grow = True
+        while grow:
+            grow = False
+            for d in plain:
+                if d not in shared and any(re.search(r"(?<![\w.'-])" + re.escape(d[1]) + r"(?![\w'-])", shared_text(s)) for s in shared):
+                    shared.append(d)
+                    grow = True
+        shared = [d for d in plain if d in shared]
+        rest_plain = [d for d in plain if d not in shared]
+        # answers
+        for d in self.decls:
+            if d in rest_plain:
+                text = d[3] if d[2] == "raw" else d[3] + "\n" + d[4]
+                self.out.append("\n".join(d[0] + [text]))
+                continue
+            for new, place, root in self.answer_of.get(d[1], []):
+                self.used_root = root
+                text = d[4]
+                heads = re.findall(r"(?m)^" + re.escape(d[1]) + r"((?: [^\n=]*?)?) =(?= |$)", text)
+                if len(heads) != 1:
+                    raise Left(f"answer {d[1]} has {len(heads)} clauses")
+                args = split_top(heads[0])
+                head = re.search(r"(?m)^" + re.escape(d[1]) + r"(?: [^\n=]*?)? =(?= |$)", text)
+                lead, rest = text[: head.start()], text[head.end() :]
+                if rest.strip() in ("search rules", "omega arith") and "unfolding" not in lead:
+                    continue
+                param = args[0] if args else "c"
+                extra = args[1:]
+                if len(args) > 1 and re.fullmatch(r"t|n", args[0]) and args[1] == "c":
+                    param, extra = args[1], args[2:]
+                    first = [args[0], "c"]
+                else:
+                    first = ["c"]
+                extra = [a for a in extra if a not in ("κs", "_")]
+                if param != "_":
+                    rest = self.flat(rest, root, place, param)
+                text = f"pub {new} : goal.{new}\n{lead}{new} {' '.join(first + extra)} ={rest}"
+                text = self.with_helpers(text, place, root)
+                self.out.append("\n".join(d[0] + [text]))
+        for it, where in self.answer_of.items():
+            if it not in self.by_name:
+                for new, place, root in where:
+                    m = re.fullmatch(r"\(λ (\w+)((?: \w+)*)\. (.*)\)", it, re.S)
+                    if m and m[3].strip() in ("search rules", "omega arith"):
+                        continue
+                    if m:
+                        rest = self.flat(" " + m[3], root, place, m[1])
+                        text = f"pub {new} : goal.{new}\n{new} c ={rest}"
+                        self.out.append(self.with_helpers(text, place, root))
+                    elif it != "_":
+                        raise Left(f"the answer {it}")
+        uses = [u for u in self.uses if not re.search(r"\.(Statement|Tie)(\b|\.)", u) or base not in u]
+        folder = os.path.dirname(self.path)
+        head = self.head
+        made = []
+        if inv or shared:
+            texts = ["\n".join(d[0] + [("pub " if not re.match(r".*\bpub\b", d[3].split(":")[0]) and d[2] != "raw" else "") + d[3] + "\n" + d[4]]) if d[2] != "raw" else "\n".join(d[0] + [re.sub(r"^(data|record)", r"pub \1", d[3])]) for d in shared]
+            texts = [re.sub(r"(?m)^pub (abbrev|unfoldable) ", r"\1 pub ", t) for t in texts]
+            body = "\n\n".join(texts + [inv_text] * bool(inv))
+            text = "\n".join(head[:1] + [h for h in head[1:] if True] + needed(uses, body) + [f"use {base}.Given as goal"]) + "\n\n" + body + "\n"
+            made.append(("Invariants.antt", text))
+        if self.out:
+            body = "\n\n".join(self.out)
+            more = [f"use {base}.Goals as goal"]
+            roots = sorted(r for r in self.used_roots)
+            if roots:
+                more.append(f"use {base}.Goals.{{{', '.join(roots)}}}")
+            cited = [d[1] for d in shared if re.search(r"(?<![\w.'-])" + re.escape(d[1]) + r"(?![\w'-])", body)]
+            if cited:
+                more.append(f"use {base}.Invariants.{{{', '.join(cited)}}}")
+            first = head if not made else head[:1]
+            text = "\n".join(first + needed(uses, body) + more) + "\n\n" + body + "\n"
+            made.append(("Answers.antt", text))
+        for name, text in made:
+            with open(os.path.join(folder, name), "w", encoding="utf-8") as f:
+                f.write(text)
+        os.remove(self.path)
+        if not made:
+            try:
+                os.removedirs(folder)
+            except OSError:
+                pass
+        return [n for n, _ in made]
+
+
+def shared_text(d):
+    return d[3] + "\n" + d[4]
+
+
+def needed(uses, body):
+    """The use lines whose names the text has."""
+    out = []
+    for u in uses:
+        m = re.match(r"(use \S+?)\.?\{(.*)\}\s*$", u)
+        if not m:
+            m2 = re.match(r"use \S+ as (\S+)", u)
+            if m2 and not re.search(r"(?<![\w.'-])" + re.escape(m2[1]) + r"\.", body):
+                continue
+            out.append(u)
+            continue
+        keep = []
+        for n in [x.strip() for x in m[2].split(",") if x.strip()]:
+            word = n.split(" as ")[-1].strip().strip("«»")
+            parts = [p for p in word.split("◌") if p]
+            if all(p in body for p in parts) or not parts:
+                keep.append(n)
+        if keep:
+            out.append(f"{m[1]}.{{{', '.join(keep)}}}")
+    return out
+
+
+def main(argv):
+    with open(argv[0], encoding="utf-8") as f:
+        names = json.load(f)
+    crate_dir = argv[1].rstrip("/")
+    crate = os.path.basename(os.path.abspath(crate_dir))
+    only = [argv[i + 1] for i, a in enumerate(argv) if a == "--only"]
+    done = left = 0
+    for folder, _, files in sorted(os.walk(os.path.join(crate_dir, "proofs"))):
+        if "Proof.antt" not in files:
+            continue
+        module = os.path.relpath(folder, os.path.join(crate_dir, "proofs")).split(os.sep)
+        if only and "/".join(module) not in only:
+            continue
+        key = f"Rattle-{crate}-proofs." + ".".join(module) + ".Lts"
+        info = names.get(key)
+        try:
+            if not info:
+                raise Left("no names for it")
+            it = File(os.path.join(folder, "Proof.antt"), info, crate, module)
+            made = it.run()
+            done += 1
+            for s in sorted(set(it.said)):
+                print(f"look: {'/'.join(module)}: {s}")
+        except Left as e:
+            left += 1
+            print(f"left: {'/'.join(module)}: {e}")
+    print(f"answers: {done} turned, {left} left")
+
+
+if __name__ == "__main__":
+    main(sys.argv[1:])
