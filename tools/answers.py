@@ -109,18 +109,45 @@ class File:
         self.places = {}
         for old, parent, step, _, _ in info["places"]:
             self.places[norm(old)] = (norm(parent) if parent else None, step)
+        self.arms = {norm(p[0]): a for p, a in zip(info["places"], info["arms"])}
+        self.callee = {norm(p[0]): p[3] for p in info["places"]}
+        self.typed = {norm(p[0]): {norm(o): n for n, o in ty} for p, ty in zip(info["places"], info["typed"])}
         self.new_name = {}
         for (old, *_), new in zip(info["places"], info["places_by_name"]):
             self.new_name[norm(old)] = new
         self.said = []
 
+    def stands(self, place):
+        """Steps that the older Rattle had no place for are passed over."""
+        while re.match(r"After_way_told\d*$", place):
+            place = self.places[place][0]
+        return place
+
     def parent(self, place, k):
+        place = self.stands(place)
         for _ in range(k):
             p = self.places.get(place, (None,))[0]
             if p is None:
                 raise Left(f"no place above {place}")
-            place = p
+            place = self.stands(p)
         return place
+
+    def arm_field(self, here, old, path):
+        """How an arm's record names what the step `old` had at a path of fields: (step, field, how many were used)."""
+        best, at = None, self.root_place
+        ways = [here]
+        while at and at != here:
+            ways.append(at)
+            at = self.places[at][0]
+        for way in ways:
+            arm = self.arms.get(way)
+            for new, of, fields in arm[2] if arm else []:
+                if norm(of) == norm(old) and path[: len(fields)] == fields and (fields or new.endswith("-own")):
+                    if best is None or len(fields) > best[2]:
+                        best = (arm[0], new if fields else None, len(fields))
+            if best:
+                return best
+        return None
 
     def is_place(self, word):
         return norm(word) in self.places
@@ -205,6 +232,7 @@ class File:
 
     def flat(self, text, root, place, param):
         """The term with each place's record seen from the root; returns the term and the helpers that it calls."""
+        self.root_place = root
         text = self.inline_accessors(text)
         # let NAME = PARAM.before.. in
         aliases = {param: 0}
@@ -226,27 +254,49 @@ class File:
         called = []
 
         def turn(m):
-            chain, step, field = m[2], m[3], m[4]
-            k = chain.count(".before")
-            here = self.parent(place, k)
-            if not step:
+            chain, rest = m[2], m[3] or ""
+            here = self.parent(place, chain.count(".before"))
+            if not rest:
                 return "c"
-            name = step[1:]
-            old, new = self.places[here][1]
-            if norm(name) == norm(old) or norm(name) == norm(new):
-                to = new
-                kind = {"taken": "true" if re.match(r"Then|In_|In-", here) else "false", "inv": "invariant"}
-                f = field or ""
-                if f[1:] in kind and (f != ".taken" or True):
-                    f = "." + kind[f[1:]]
-                return "c." + to + f
-            name = {"pre": "requires", "well": "ranges"}.get(name, name)
-            if name not in ("args", "requires", "ranges", "lifetimes", "well_formed", "measure", "auto"):
+            path = rest[1:].split(".")
+            name, path = path[0], path[1:]
+            known = {"args", "requires", "pre", "ranges", "well", "lifetimes", "well_formed", "measure", "auto"}
+            up = here
+            while name not in known and up and norm(name) not in (norm(self.places[up][1][0]), norm(self.places[up][1][1])):
+                up = self.places[up][0]
+            if up and name not in known:
+                here = up
+            elif name not in known:
                 self.said.append(f"{here} has no step {name}")
-            return "c." + name + (field or "")
+                return ".".join(["c", name] + path)
+            else:
+                name = {"pre": "requires", "well": "ranges"}.get(name, name)
+                return ".".join(["c", name] + path)
+            old, new = self.places[here][1]
+            arm = self.arm_field(here, old, path)
+            if arm:
+                step, field, used = arm
+                return ".".join(["c", step] + ([field] if field else []) + path[used:])
+            if path[:1] == ["given"] and norm(old) in self.typed.get(root, {}):
+                return ".".join(["c", "type_inv", self.typed[root][norm(old)]] + path[1:])
+            if path[:1] == ["taken"]:
+                path[0] = "true"
+            if path[:1] == ["left"]:
+                path[0] = "false"
+            if path[:1] == ["inv"]:
+                path[0] = "invariant"
+            if path[:1] == ["new"] and self.callee.get(here) in self.info["params"]:
+                k = 1
+                while k < len(path) and path[k] == "1":
+                    k += 1
+                if k < len(path) and path[k] == "0":
+                    path = ["new", self.info["params"][self.callee[here]][k - 1]] + path[k + 1 :]
+            return ".".join(["c", new] + path)
 
         text = re.sub(r"\((" + re.escape(param) + r"(?:\.before)*)\)", r"\1", text)
-        text = re.sub(r"(?<![\w.'-])(" + re.escape(param) + r")((?:\.before)*)(\.(?!before\b)[^\s(){}\[\].;,@\"«»]+)?(\.[^\s(){}\[\].;,@\"«»]+)?(?![\w'₀-])", turn, text)
+        text = re.sub(r"(?<![\w.'-])(" + re.escape(param) + r")((?:\.before)*)((?:\.(?!before\b)[^\s(){}\[\].;,@\"«»]+)*)(?![\w'₀-])", turn, text)
+        text = re.sub(r"\(not-(?:true|false) (?:_|[\w.-]+) (c\.if-not-[^\s(){}.,;]+\.(?:true|false))\)", r"\1", text)
+        text = re.sub(r"not-(?:true|false) (?:_|[\w.-]+|\([\w. -]+\)) (c\.if-not-[^\s(){}.,;]+\.(?:true|false))", r"\1", text)
         return text
 
     def inline_accessors(self, text):
@@ -337,9 +387,56 @@ class File:
             text = re.sub(r"(?<![\w.'-])" + re.escape(h) + r"(?![\w'-])", name, text)
         return text
 
+    def clauses(self):
+        """The names of the function's ensures, where it has several."""
+        src = os.path.join(os.path.dirname(self.path).split("/proofs/")[0], "src")
+        module, name = self.module[:-1], self.module[-1]
+        for p in [os.path.join(src, *module) + ".rt"] * bool(module) + [os.path.join(src, "lib.rt"), os.path.join(src, "main.rt")]:
+            if os.path.exists(p):
+                with open(p, encoding="utf-8") as f:
+                    m = re.search(r"\bfn " + re.escape(name) + r"\b(.*?)\n\}", f.read(), re.S)
+                if m:
+                    head = m[1].split("\n{", 1)[0]
+                    return re.findall(r"\bensures (\w+) \{", head)
+        return []
+
+    def by_clause(self, goal, rest):
+        """A tuple of the facts of several clauses is a record of them by name."""
+        names = self.clauses_found
+        if not goal.startswith("returns") or len(names) < 2:
+            return rest
+        text = rest.rstrip()
+        if not text.endswith(")"):
+            return rest
+        deep, k = 0, len(text)
+        while k:
+            k -= 1
+            deep += text[k] in ")}]"
+            deep -= text[k] in "({["
+            if not deep:
+                break
+        before = text[:k].rstrip()
+        if text[k] != "(" or not (not before or before.endswith((" in", "\nin"))):
+            return rest
+        inner, parts, deep, last = text[k + 1 : -1], [], 0, 0
+        for i, ch in enumerate(inner):
+            deep += ch in "({["
+            deep -= ch in ")}]"
+            if ch == "," and not deep:
+                parts.append(inner[last:i])
+                last = i + 1
+        if inner[last:].strip():
+            parts.append(inner[last:])
+        parts = [p.strip() for p in parts]
+        if len(parts) != len(names):
+            self.said.append(f"{goal} has {len(parts)} parts, and the function {len(names)} clauses")
+            return rest
+        return text[:k] + "record { " + " ".join(f"{n} = {p};" for n, p in zip(names, parts)) + " }"
+
     # ---- the files
 
     def run(self):
+        self.clauses_found = self.clauses()
         self.sort()
         tie = self.tie
         path = ".".join(self.module)
@@ -408,7 +505,8 @@ class File:
                     first = ["c"]
                 extra = [a for a in extra if a not in ("κs", "_")]
                 if param != "_":
-                    rest = self.flat(rest, root, place, param)
+                    rest = self.flat(rest, place, place, param)
+                rest = self.by_clause(new, rest)
                 text = f"pub {new} : goal.{new}\n{lead}{new} {' '.join(first + extra)} ={rest}"
                 text = self.with_helpers(text, place, root)
                 self.out.append("\n".join(d[0] + [text]))
@@ -419,7 +517,7 @@ class File:
                     if m and m[3].strip() in ("search rules", "omega arith"):
                         continue
                     if m:
-                        rest = self.flat(" " + m[3], root, place, m[1])
+                        rest = self.flat(" " + m[3], place, place, m[1])
                         text = f"pub {new} : goal.{new}\n{new} c ={rest}"
                         self.out.append(self.with_helpers(text, place, root))
                     elif it != "_":
@@ -432,10 +530,12 @@ class File:
             texts = ["\n".join(d[0] + [("pub " if not re.match(r".*\bpub\b", d[3].split(":")[0]) and d[2] != "raw" else "") + d[3] + "\n" + d[4]]) if d[2] != "raw" else "\n".join(d[0] + [re.sub(r"^(data|record)", r"pub \1", d[3])]) for d in shared]
             texts = [re.sub(r"(?m)^pub (abbrev|unfoldable) ", r"\1 pub ", t) for t in texts]
             body = "\n\n".join(texts + [inv_text] * bool(inv))
+            uses, body = own_rules(uses, body)
             text = "\n".join(head[:1] + [h for h in head[1:] if True] + needed(uses, body) + [f"use {base}.Given as goal"]) + "\n\n" + body + "\n"
             made.append(("Invariants.antt", text))
         if self.out:
             body = "\n\n".join(self.out)
+            uses, body = own_rules(uses, body)
             more = [f"use {base}.Goals as goal"]
             roots = sorted(r for r in self.used_roots)
             if roots:
@@ -462,6 +562,17 @@ def shared_text(d):
     return d[3] + "\n" + d[4]
 
 
+def own_rules(uses, body):
+    """The tactic's set goes by another name where the crate's own `rules` is imported."""
+    if not any("Author.Rules" not in u and "Common" not in u and re.search(r"[{ ,]rules[,} ]", u) for u in uses):
+        return uses, body
+    body = re.sub(r"\bsearch rules\b", "search std_rules", body)
+    body = re.sub(r"\bsearch \(rules\b", "search (std_rules", body)
+    cut = lambda u: re.sub(r"\{rules, |, rules(?=[,}])", lambda m: "{" if m[0][0] == "{" else "", u)
+    uses = [cut(u) if "proofs.Common" in u else u for u in uses if "Author.Rules" not in u]
+    return uses + ["use borrow.Author.Rules.{rules as std_rules}"], body
+
+
 def needed(uses, body):
     """The use lines whose names the text has."""
     out = []
@@ -469,13 +580,17 @@ def needed(uses, body):
         m = re.match(r"(use \S+?)\.?\{(.*)\}\s*$", u)
         if not m:
             m2 = re.match(r"use \S+ as (\S+)", u)
-            if m2 and not re.search(r"(?<![\w.'-])" + re.escape(m2[1]) + r"\.", body):
+            if m2 and not re.search(r"(?<![\w.'-])" + re.escape(m2[1]) + r"(?![\w'-])", body):
                 continue
             out.append(u)
             continue
         keep = []
         for n in [x.strip() for x in m[2].split(",") if x.strip()]:
             word = n.split(" as ")[-1].strip().strip("«»")
+            if "◌" not in word:
+                if re.search(r"(?<![\w'-])" + re.escape(word) + r"(?![\w'-])", body):
+                    keep.append(n)
+                continue
             parts = [p for p in word.split("◌") if p]
             if all(p in body for p in parts) or not parts:
                 keep.append(n)

@@ -1,4 +1,6 @@
 // The exercise block: labels and terms, the layout and its accessors, validity, states.
+#![tactic(auto)]
+
 pub mod labels;
 pub mod layout;
 pub mod remapping;

@@ -1,1 +1,2 @@
 // Least costs over a finite graph: definitions and theorems only.
+#![tactic(auto)]

@@ -1,4 +1,6 @@
 // The numbers that turn a call back (document 01: 'Turned back, by place'), as an enum.
+#![tactic(auto)]
+
 ghost use Rattle.std.specs.Prelude.{◌≡◌};
 ghost use Rattle.refusals.specs.Refusals.{refusal_number};
 
