@@ -15,6 +15,9 @@ import sys
 WORD = r"[^\s(){}\[\].;,@\"«»]+"
 
 
+CLAUSES = {}
+
+
 def norm(s):
     return s.replace("-", "_")
 
@@ -232,7 +235,7 @@ class File:
 
     def flat(self, text, root, place, param):
         """The term with each place's record seen from the root; returns the term and the helpers that it calls."""
-        self.root_place = root
+        self.root_place, self.steps = root, {}
         text = self.inline_accessors(text)
         # let NAME = PARAM.before.. in
         aliases = {param: 0}
@@ -271,11 +274,17 @@ class File:
                 return ".".join(["c", name] + path)
             else:
                 name = {"pre": "requires", "well": "ranges"}.get(name, name)
+                names = self.own_clauses("requires") if name == "requires" and path[:1] and path[0].isdigit() else []
+                if len(names) > 1 and int(path[0]) < len(names):
+                    path[0] = names[int(path[0])]
                 return ".".join(["c", name] + path)
             old, new = self.places[here][1]
             arm = self.arm_field(here, old, path)
             if arm:
                 step, field, used = arm
+                if field == "ensures":
+                    rest = self.step_path(self.callee_above(here), ["ensures"] + path[used:])
+                    return ".".join(["c", step] + rest)
                 return ".".join(["c", step] + ([field] if field else []) + path[used:])
             if path[:1] == ["given"] and norm(old) in self.typed.get(root, {}):
                 return ".".join(["c", "type_inv", self.typed[root][norm(old)]] + path[1:])
@@ -285,16 +294,23 @@ class File:
                 path[0] = "false"
             if path[:1] == ["inv"]:
                 path[0] = "invariant"
-            if path[:1] == ["new"] and self.callee.get(here) in self.info["params"]:
-                k = 1
-                while k < len(path) and path[k] == "1":
-                    k += 1
-                if k < len(path) and path[k] == "0":
-                    path = ["new", self.info["params"][self.callee[here]][k - 1]] + path[k + 1 :]
-            return ".".join(["c", new] + path)
+            self.steps[new] = self.callee.get(here)
+            return ".".join(["c", new] + self.step_path(self.callee.get(here), path))
 
         text = re.sub(r"\((" + re.escape(param) + r"(?:\.before)*)\)", r"\1", text)
         text = re.sub(r"(?<![\w.'-])(" + re.escape(param) + r")((?:\.before)*)((?:\.(?!before\b)[^\s(){}\[\].;,@\"«»]+)*)(?![\w'₀-])", turn, text)
+        for m in list(re.finditer(r"let (" + WORD + r") =\s+c\.(" + WORD + r")\s+in\b", text)):
+            callee = self.steps.get(m[2])
+            if callee:
+                name = r"(?<![\w.'-])" + re.escape(m[1]) + r"\.([\w.-]+\w)"
+                text = re.sub(name, lambda k: ".".join([m[1]] + self.step_path(callee, k[1].split("."))), text)
+        for m in list(re.finditer(r"let (" + WORD + r") =\s+c\.(" + WORD + r")\.ensures\s+in\b", text)):
+            names = self.clauses_of(self.steps[m[2]], "ensures") if self.steps.get(m[2]) else []
+            if len(names) > 1:
+                name = r"(?<![\w.'-])" + re.escape(m[1]) + r"\.(\d)"
+                text = re.sub(name, lambda k: m[1] + "." + (names[int(k[1])] if int(k[1]) < len(names) else k[1]), text)
+        text = re.sub(r"(?<=\.)inv(?=[.\s)])", "invariant", text)
+        text = re.sub(r"ap not \((sym c\.[\w.-]+)\) ∙ (c\.if-not-[\w-]+\.(?:true|false))", r"ap not (\1 ∙ \2)", text)
         text = re.sub(r"\(not-(?:true|false) (?:_|[\w.-]+) (c\.if-not-[^\s(){}.,;]+\.(?:true|false))\)", r"\1", text)
         text = re.sub(r"not-(?:true|false) (?:_|[\w.-]+|\([\w. -]+\)) (c\.if-not-[^\s(){}.,;]+\.(?:true|false))", r"\1", text)
         return text
@@ -364,6 +380,7 @@ class File:
         return "\n".join(d[0] + [sig, lead + name + " " + " ".join(args) + " =" + rest])
 
     def calls(self, text):
+        text = "\n".join(l for l in text.split("\n") if not l.startswith("--"))
         return [h for h in self.placed if re.search(r"(?<![\w.'-])" + re.escape(h) + r"(?![\w'-])", text)]
 
     def emit_helper(self, h, root, root_name):
@@ -384,28 +401,67 @@ class File:
             if own and h == own[0]:
                 continue
             name = self.emit_helper(h, root, root_name)
-            text = re.sub(r"(?<![\w.'-])" + re.escape(h) + r"(?![\w'-])", name, text)
+            turn = lambda l: l if l.startswith("--") else re.sub(r"(?<![\w.'-])" + re.escape(h) + r"(?![\w'-])", name, l)
+            text = "\n".join(turn(l) for l in text.split("\n"))
         return text
 
-    def clauses(self):
-        """The names of the function's ensures, where it has several."""
-        src = os.path.join(os.path.dirname(self.path).split("/proofs/")[0], "src")
-        module, name = self.module[:-1], self.module[-1]
-        for p in [os.path.join(src, *module) + ".rt"] * bool(module) + [os.path.join(src, "lib.rt"), os.path.join(src, "main.rt")]:
-            if os.path.exists(p):
-                with open(p, encoding="utf-8") as f:
-                    m = re.search(r"\bfn " + re.escape(name) + r"\b(.*?)\n\}", f.read(), re.S)
-                if m:
-                    head = m[1].split("\n{", 1)[0]
-                    return re.findall(r"\bensures (\w+) \{", head)
-        return []
+    def clauses_of(self, path, kind):
+        """The names of a function's clauses of a kind, where it has several; path is as in crate::module::f."""
+        key = (path, kind)
+        if key not in CLAUSES:
+            CLAUSES[key] = []
+            crate, *module = path.split("::")
+            src = os.path.join(os.path.dirname(self.path).split("/proofs/")[0], "..", crate, "src")
+            for k in range(len(module) - 1, -1, -1):
+                files = [os.path.join(src, *module[:k]) + ".rt"] if k else [os.path.join(src, "lib.rt"), os.path.join(src, "main.rt")]
+                for p in files:
+                    if os.path.exists(p):
+                        with open(p, encoding="utf-8") as f:
+                            m = re.search(r"\bfn " + re.escape(module[-1]) + r"\b(.*?)\n *\{", f.read(), re.S)
+                        if m:
+                            CLAUSES[key] = re.findall(r"\b" + kind + r" (\w+) \{", m[1])
+                            return CLAUSES[key]
+        return CLAUSES[key]
+
+    def own_clauses(self, kind):
+        return self.clauses_of("::".join([self.crate] + [m for m in self.module if not m.startswith("+")]), kind)
+
+    def step_path(self, callee, path):
+        """What stands behind a call's step, with its clauses and its arguments by name."""
+        if not callee:
+            return path
+        if path[:1] == ["last"]:
+            path = ["new"] + path[1:]
+        if path[:1] in (["new"], ["auto"]) and callee in self.info["params"]:
+            k = 1
+            while k < len(path) and path[k] == "1":
+                k += 1
+            if k < len(path) and path[k] == "0" and k <= len(self.info["params"][callee]):
+                path = [path[0], self.info["params"][callee][k - 1]] + path[k + 1 :]
+        if path[:1] == ["ensures"] and len(path) > 1 and path[1].isdigit():
+            names = self.clauses_of(callee, "ensures")
+            if len(names) > int(path[1]) and len(names) > 1:
+                path = ["ensures", names[int(path[1])]] + path[2:]
+        return path
+
+    def callee_above(self, here):
+        while here and not self.callee.get(here):
+            here = self.places[here][0]
+        return self.callee.get(here) if here else None
 
     def by_clause(self, goal, rest):
         """A tuple of the facts of several clauses is a record of them by name."""
-        names = self.clauses_found
-        if not goal.startswith("returns") or len(names) < 2:
+        names = self.own_clauses("ensures") if goal.startswith("returns") else []
+        if goal.endswith("-requires"):
+            for here, (parent, step) in self.places.items():
+                if step[1] == goal[: -len("-requires")] and self.callee.get(here):
+                    names = self.clauses_of(self.callee[here], "requires")
+        if len(names) < 2:
             return rest
         text = rest.rstrip()
+        m = re.search(r"(?:\A|\bin)\s+(?!let )([a-z][\w'-]*)( [^\n]*(?:\n(?!.*\bin\b).*)*)$", text)
+        if m and m[1] in self.placed or m and m[1] in self.by_name:
+            return text[: m.start(1)] + f"let told = {m[1]}{m[2]} in record {{ " + " ".join(f"{n} = told.{k};" for k, n in enumerate(names)) + " }"
         if not text.endswith(")"):
             return rest
         deep, k = 0, len(text)
@@ -436,7 +492,6 @@ class File:
     # ---- the files
 
     def run(self):
-        self.clauses_found = self.clauses()
         self.sort()
         tie = self.tie
         path = ".".join(self.module)
