@@ -22,6 +22,10 @@ def norm(s):
     return s.replace("-", "_")
 
 
+def same_step(s):
+    return re.sub(r"_lem$", "", norm(s).lower())
+
+
 class Left(Exception):
     pass
 
@@ -40,6 +44,57 @@ def split_top(text):
             j += 1
         out.append(text[i:j])
         i = j
+    return out
+
+
+def section(header, comment, inner):
+    """What a section declares, with its parameters written out."""
+    params = header[len("module _") : -len("where")].strip() if header.endswith("where") else None
+    groups, k = [], 0
+    while k < len(params):
+        if params[k].isspace():
+            k += 1
+            continue
+        if params[k] not in "({":
+            raise Left("reads no " + header[:60])
+        deep, j = 0, k
+        while True:
+            deep += params[j] in "({["
+            deep -= params[j] in ")}]"
+            j += 1
+            if not deep:
+                break
+        groups.append(params[k:j])
+        k = j
+    names = []
+    for g in groups:
+        if g[0] == "(":
+            names += g[1:].split(" : ")[0].split()
+    cut = min((len(l) - len(l.lstrip()) for l in inner if l.strip()), default=0)
+    _, uses, decls = declarations("\n".join(l[cut:] if l.strip() else "" for l in inner))
+    if uses:
+        raise Left("a section with use lines")
+    siblings = [d[1] for d in decls]
+    args = " ".join(names)
+    out = []
+    for d in decls:
+        if d[2] == "raw":
+            raise Left("a section with a type")
+        own = re.sub(r"[ ]+", " ", " ".join(groups)) + " → "
+        sig, body = d[3], d[4]
+        head = re.match(r"((?:[a-z]+ )*" + re.escape(d[1]) + r"(?: [({][^\n]*?[)}])*) :(\s*)", sig)
+        if not head:
+            raise Left(f"section's {d[1]}")
+        kind, rest = sig[: head.end()].rstrip(), sig[head.end() :]
+        clause = re.search(r"(?m)^" + re.escape(d[1]) + r"(?= |$)", body)
+        lead, tail = body[: clause.end()], body[clause.end() :]
+        lead = re.sub(r"^(unfolding .*)$", r"\1", lead, flags=re.M)
+        for s in siblings:
+            word = r"(?<![\w.'-])" + re.escape(s) + r"(?![\w'-])"
+            rest = re.sub(word, f"({s} {args})" if args else s, rest)
+            tail = re.sub(word, f"({s} {args})" if args else s, tail)
+        out.append([comment + d[0], d[1], d[2], kind + " " + own + rest, lead + " " + args + tail])
+        comment = []
     return out
 
 
@@ -68,6 +123,19 @@ def declarations(text):
                 block += " " + lines[i].strip()
             uses.append(block)
             i += 1
+            continue
+        if l.startswith("module _ "):
+            header = l
+            i += 1
+            while not re.search(r"\bwhere\s*$", header):
+                header += " " + lines[i].strip()
+                i += 1
+            inner = []
+            while i < len(lines) and (not lines[i].strip() or lines[i].startswith((" ", ")", "]"))):
+                inner.append(lines[i])
+                i += 1
+            decls += section(header, [c for c in comment], inner)
+            comment = []
             continue
         m = re.match(r"((?:(?:abbrev|unfoldable|pub|data|record|ruleset) )*)(" + WORD + r")(.*)$", l)
         if not m or l.startswith((" ", "module", "mutual", "infix")):
@@ -257,22 +325,19 @@ class File:
         called = []
 
         def turn(m):
-            chain, rest = m[2], m[3] or ""
-            here = self.parent(place, chain.count(".before"))
+            rest = m[3] or ""
             if not rest:
                 return "c"
             path = rest[1:].split(".")
             name, path = path[0], path[1:]
             known = {"args", "requires", "pre", "ranges", "well", "lifetimes", "well_formed", "measure", "auto"}
-            up = here
-            while name not in known and up and norm(name) not in (norm(self.places[up][1][0]), norm(self.places[up][1][1])):
-                up = self.places[up][0]
-            if up and name not in known:
-                here = up
-            elif name not in known:
-                self.said.append(f"{here} has no step {name}")
+            here = place
+            while name not in known and here and same_step(name) not in (same_step(self.places[here][1][0]), same_step(self.places[here][1][1])):
+                here = self.places[here][0]
+            if not here:
+                self.said.append(f"{place} has no step {name}")
                 return ".".join(["c", name] + path)
-            else:
+            if name in known:
                 name = {"pre": "requires", "well": "ranges"}.get(name, name)
                 names = self.own_clauses("requires") if name == "requires" and path[:1] and path[0].isdigit() else []
                 if len(names) > 1 and int(path[0]) < len(names):

@@ -1,4 +1,6 @@
 // The exercises of an input, for programs that try many of them: texts with an empty line behind each.
+#![tactic(auto)]
+
 ghost use Rattle.std.specs.Prelude.{◌≤◌, length};
 
 const LINE_FEED: u8 = 10;

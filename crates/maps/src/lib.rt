@@ -1,5 +1,7 @@
 // Further maps of an exercise: records of K and L map bytes behind one another. How many are lent, the exercise under
 // each, how many entries their tables have, and what turns them back.
+#![tactic(auto)]
+
 ghost use Rattle.std.specs.Prelude.{◌≡◌, suc, ◌+◌, ◌*◌, ◌≤◌, ◌<◌, min, length};
 ghost use Rattle.basics.specs.Lists.{at_front};
 ghost use Rattle.refusals.specs.Answers.{verdict};

@@ -1,4 +1,6 @@
 // The public calls on blocks, rules and states.
+#![tactic(auto)]
+
 mod applying;
 mod checking;
 mod goals;

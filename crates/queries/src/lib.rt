@@ -1,4 +1,6 @@
 // What a search is asked, from which state and within which limits, and what turns it back.
+#![tactic(auto)]
+
 ghost use Rattle.std.specs.Prelude.{◌≡◌};
 ghost use Rattle.refusals.specs.Answers.{verdict};
 ghost use Rattle.refusals.specs.Refusals.{verdict_of};

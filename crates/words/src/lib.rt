@@ -1,4 +1,6 @@
 // States as words of 64 bits, and what compiled rules, goals and maps make of them.
+#![tactic(auto)]
+
 pub mod changes;
 pub mod code;
 pub mod matching;
