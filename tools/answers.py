@@ -18,6 +18,22 @@ WORD = r"[^\s(){}\[\].;,@\"«»]+"
 CLAUSES = {}
 
 
+def outside_binders(text, name, to):
+    """The term with a name replaced where no λ and no quantifier of its own binds it."""
+    word = re.compile(r"(?<![\w.'-])" + re.escape(name) + r"(?![\w'₀-])")
+    hidden = []
+    for m in re.finditer(r"λ (?:[^\s.()]+ )*" + re.escape(name) + r"(?: [^\s.()]+)*\. |λ \((?:[^\s.()]+ )*" + re.escape(name) + r"(?: [^\s.():]+)* : [^()]*\)\. |\((?:[^\s():]+ )*" + re.escape(name) + r"(?: [^\s():]+)* : [^()]*\) (?:→|×) ", text):
+        deep, k = 0, m.end()
+        while k < len(text):
+            deep += text[k] in "({["
+            deep -= text[k] in ")}]"
+            if deep < 0:
+                break
+            k += 1
+        hidden.append((m.start(), k))
+    return word.sub(lambda m: m[0] if any(a <= m.start() < b for a, b in hidden) else to, text)
+
+
 def norm(s):
     return s.replace("-", "_")
 
@@ -374,6 +390,12 @@ class File:
             if len(names) > 1:
                 name = r"(?<![\w.'-])" + re.escape(m[1]) + r"\.(\d)"
                 text = re.sub(name, lambda k: m[1] + "." + (names[int(k[1])] if int(k[1]) < len(names) else k[1]), text)
+        names = self.own_clauses("requires")
+        if len(names) > 1:
+            for m in list(re.finditer(r"let (" + WORD + r") =\s+c\.requires\s+in\b", text)):
+                name = r"(?<![\w.'-])" + re.escape(m[1]) + r"\.(\d)"
+                text = re.sub(name, lambda k: m[1] + "." + (names[int(k[1])] if int(k[1]) < len(names) else k[1]), text)
+        text = re.sub(r"(c\.wrapping_(?:add|sub|mul)_u\d+[\w-]*\.ensures)(?!\.)", r"\1.value", text)
         text = re.sub(r"(?<=\.)inv(?=[.\s)])", "invariant", text)
         text = re.sub(r"ap not \((sym c\.[\w.-]+)\) ∙ (c\.if-not-[\w-]+\.(?:true|false))", r"ap not (\1 ∙ \2)", text)
         text = re.sub(r"\(not-(?:true|false) (?:_|[\w.-]+) (c\.if-not-[^\s(){}.,;]+\.(?:true|false))\)", r"\1", text)
@@ -466,7 +488,7 @@ class File:
             if own and h == own[0]:
                 continue
             name = self.emit_helper(h, root, root_name)
-            turn = lambda l: l if l.startswith("--") else re.sub(r"(?<![\w.'-])" + re.escape(h) + r"(?![\w'-])", name, l)
+            turn = lambda l: l if l.startswith("--") else re.sub(r"(?<![\w.'-])" + re.escape(h) + r"(?![\w'-]| = )", name, l)
             text = "\n".join(turn(l) for l in text.split("\n"))
         return text
 
@@ -578,13 +600,14 @@ class File:
             want = entry + now
             if len(binders) != len(want):
                 raise Left(f"{d[1]}: {len(binders)} binders {binders} for {len(want)} {want}")
+            live = "live" if re.search(r"λ (?:\w+ )*l[ .]|\([^():]*\bl [^():]*: |\(l : ", rest) else "l"
             for b, (v, to) in zip(binders, want):
                 if b == "_":
                     continue
-                rest = re.sub(r"(?<![\w.'-])" + re.escape(b) + r"(?![\w'₀-])", "\0" + to[2:] + "\0", rest)
-            rest = re.sub("\0([^\0]*)\0", r"l.\1", rest)
+                rest = outside_binders(rest, b, "\0" + to[2:] + "\0")
+            rest = re.sub("\0([^\0]*)\0", live + r".\1", rest)
             lead = d[4][: head.start()]
-            inv.append("\n".join(d[0] + [f"abbrev pub {kind}-{new} : goal.{kind}-{new}", f"{lead}{kind}-{new} l ={rest}"]))
+            inv.append("\n".join(d[0] + [f"abbrev pub {kind}-{new} : goal.{kind}-{new}", f"{lead}{kind}-{new} {live} ={rest}"]))
         inv_text = "\n\n".join(inv)
         shared = []
         for d in plain:

@@ -1,5 +1,7 @@
 // Compiles a block: its rules and goals, and the weights of its labels, once, into arrays that the functions on words
 // read.
+#![tactic(auto)]
+
 ghost use Rattle.std.specs.Prelude.{◌≡◌, length};
 ghost use Rattle.blocks.specs.Validity.{Valid};
 ghost use Rattle.words.specs.Code.{code_length};

@@ -1,5 +1,7 @@
 // The ranks of all states that a side matches, and of what a second side makes of them, by additions: the label at
 // each position adds so much to both ranks, whatever stands at the others.
+#![tactic(auto)]
+
 ghost use Rattle.std.specs.Prelude.{◌≡◌, true, ℕ, ◌+◌, ◌*◌, ◌%◌, ◌^◌, ◌≤◌, ◌<◌, length};
 ghost use Rattle.words.specs.Code.{position_count};
 ghost use Rattle.words.specs.Sides.{rewritten_word};

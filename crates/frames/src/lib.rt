@@ -1,4 +1,6 @@
 // Text: lines of hexadecimal digits, the reader that takes one line at a time, and an exercise read from its lines.
+#![tactic(auto)]
+
 mod digits;
 pub mod lines;
 pub mod reader;

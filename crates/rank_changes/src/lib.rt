@@ -1,5 +1,7 @@
 // Compiles what each rule adds to the ranks of a state under all maps: the ranks of a state that a rule makes are then
 // known before the state is made (see `words::changes`). Nothing here knows what the weights of labels stand for.
+#![tactic(auto)]
+
 ghost use Rattle.std.specs.Prelude.{◌≡◌, ℕ, ◌<◌, length, slice_index};
 ghost use Rattle.blocks.specs.Validity.{Valid};
 ghost use Rattle.words.specs.Changes.{changes_length, Changed};

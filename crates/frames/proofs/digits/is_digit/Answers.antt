@@ -1,0 +1,21 @@
+-- `frames::digits::is_digit` meets its contract.
+-- Each arm's range says whether it is a digit.
+use mathlib.Core.Path.{sym}
+use native.Mathlib.Omega.{arith}
+use Rattle.frames.proofs.DigitLaws.{decimal, letter, below, between, above}
+use Rattle.frames.proofs.digits.is_digit.Goals as goal
+
+pub returns-in-48-to-57 : goal.returns-in-48-to-57
+returns-in-48-to-57 c = sym (decimal c.args.c (omega arith) (omega arith)).is
+
+pub returns-in-65-to-70 : goal.returns-in-65-to-70
+returns-in-65-to-70 c = sym (letter c.args.c (omega arith) (omega arith)).is
+
+pub returns-in_default : goal.returns-in_default
+returns-in_default c = sym (below c.args.c (omega arith)).is
+
+pub returns-in_default-2 : goal.returns-in_default-2
+returns-in_default-2 c = sym (between c.args.c (omega arith) (omega arith)).is
+
+pub returns-in_default-3 : goal.returns-in_default-3
+returns-in_default-3 c = sym (above c.args.c (omega arith)).is

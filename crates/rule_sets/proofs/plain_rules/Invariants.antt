@@ -1,0 +1,13 @@
+-- `rule_sets::plain_rules` meets its contract.
+-- The loop's invariant: the set has the rules from r on, rule r as its first bit.
+use Prim.Native.Nat.{◌≤◌, ◌<◌, ◌-◌, ◌^◌}
+use Rattle.basics.proofs.SetMaking.{From}
+use Rattle.rule_sets.specs.Plain.{plain_rule}
+use Rattle.rule_sets.proofs.plain_rules.Given as goal
+
+abbrev pub invariant-loop-r : goal.invariant-loop-r
+invariant-loop-r l =
+    (l.r ≤ l.rules) × (l.rules ≤ 64) × (l.set < 2 ^ (l.rules - l.r)) × From (plain_rule l.code) l.rules l.r l.set
+
+abbrev pub decreases-loop-r : goal.decreases-loop-r
+decreases-loop-r l = l.r
