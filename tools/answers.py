@@ -38,6 +38,38 @@ def norm(s):
     return s.replace("-", "_")
 
 
+def by_name(names, path):
+    """A path into facts joined pairwise, as A × (B × C), by the clauses' names."""
+    if len(names) < 2:
+        return path
+    k = 0
+    while k < len(path) and path[k] == "1" and k < len(names) - 1:
+        k += 1
+    if k == len(names) - 1:
+        return [names[k]] + path[k:]
+    if k < len(path) and path[k] == "0":
+        return [names[k]] + path[k + 1 :]
+    return path
+
+
+def place_in(names, k):
+    """The path of the k-th of such facts."""
+    return ".1" * k + (".0" if k < len(names) - 1 else "")
+
+
+def tuple_parts(inner):
+    parts, deep, last = [], 0, 0
+    for i, ch in enumerate(inner):
+        deep += ch in "({["
+        deep -= ch in ")}]"
+        if ch == "," and not deep:
+            parts.append(inner[last:i])
+            last = i + 1
+    if inner[last:].strip():
+        parts.append(inner[last:])
+    return [p.strip() for p in parts]
+
+
 def same_step(s):
     return re.sub(r"_lem$", "", norm(s).lower())
 
@@ -356,9 +388,7 @@ class File:
             if name in known:
                 name = {"pre": "requires", "well": "ranges"}.get(name, name)
                 names = self.own_clauses("requires") if name == "requires" and path[:1] and path[0].isdigit() else []
-                if len(names) > 1 and int(path[0]) < len(names):
-                    path[0] = names[int(path[0])]
-                return ".".join(["c", name] + path)
+                return ".".join(["c", name] + by_name(names, path))
             old, new = self.places[here][1]
             arm = self.arm_field(here, old, path)
             if arm:
@@ -388,13 +418,15 @@ class File:
         for m in list(re.finditer(r"let (" + WORD + r") =\s+c\.(" + WORD + r")\.ensures\s+in\b", text)):
             names = self.clauses_of(self.steps[m[2]], "ensures") if self.steps.get(m[2]) else []
             if len(names) > 1:
-                name = r"(?<![\w.'-])" + re.escape(m[1]) + r"\.(\d)"
-                text = re.sub(name, lambda k: m[1] + "." + (names[int(k[1])] if int(k[1]) < len(names) else k[1]), text)
+                name = r"(?<![\w.'-])" + re.escape(m[1]) + r"((?:\.\d)+)"
+                text = re.sub(name, lambda k: ".".join([m[1]] + by_name(names, k[1][1:].split("."))), text)
         names = self.own_clauses("requires")
         if len(names) > 1:
             for m in list(re.finditer(r"let (" + WORD + r") =\s+c\.requires\s+in\b", text)):
-                name = r"(?<![\w.'-])" + re.escape(m[1]) + r"\.(\d)"
-                text = re.sub(name, lambda k: m[1] + "." + (names[int(k[1])] if int(k[1]) < len(names) else k[1]), text)
+                name = r"(?<![\w.'-])" + re.escape(m[1]) + r"((?:\.\d)+)"
+                text = re.sub(name, lambda k: ".".join([m[1]] + by_name(names, k[1][1:].split("."))), text)
+        for m in list(re.finditer(r"let (" + WORD + r") =\s+c\.wrapping_\w+u\d+[\w-]*\s+in\b", text)):
+            text = re.sub(r"(?<![\w.'-])" + re.escape(m[1]) + r"\.ensures(?!\.)", m[1] + ".ensures.value", text)
         text = re.sub(r"(c\.wrapping_(?:add|sub|mul)_u\d+[\w-]*\.ensures)(?!\.)", r"\1.value", text)
         text = re.sub(r"(?<=\.)inv(?=[.\s)])", "invariant", text)
         text = re.sub(r"ap not \((sym c\.[\w.-]+)\) ∙ (c\.if-not-[\w-]+\.(?:true|false))", r"ap not (\1 ∙ \2)", text)
@@ -468,7 +500,7 @@ class File:
 
     def calls(self, text):
         text = "\n".join(l for l in text.split("\n") if not l.startswith("--"))
-        return [h for h in self.placed if re.search(r"(?<![\w.'-])" + re.escape(h) + r"(?![\w'-])", text)]
+        return [h for h in self.placed if re.search(r"(?<![\w.'-])" + re.escape(h) + r"(?![\w'-]| = )", text)]
 
     def emit_helper(self, h, root, root_name):
         key = (h, root_name)
@@ -527,8 +559,7 @@ class File:
                 path = [path[0], self.info["params"][callee][k - 1]] + path[k + 1 :]
         if path[:1] == ["ensures"] and len(path) > 1 and path[1].isdigit():
             names = self.clauses_of(callee, "ensures")
-            if len(names) > int(path[1]) and len(names) > 1:
-                path = ["ensures", names[int(path[1])]] + path[2:]
+            path = ["ensures"] + by_name(names, path[1:])
         return path
 
     def callee_above(self, here):
@@ -548,7 +579,7 @@ class File:
         text = rest.rstrip()
         m = re.search(r"(?:\A|\bin)\s+(?!let )([a-z][\w'-]*)( [^\n]*(?:\n(?!.*\bin\b).*)*)$", text)
         if m and m[1] in self.placed or m and m[1] in self.by_name:
-            return text[: m.start(1)] + f"let told = {m[1]}{m[2]} in record {{ " + " ".join(f"{n} = told.{k};" for k, n in enumerate(names)) + " }"
+            return text[: m.start(1)] + f"let told = {m[1]}{m[2]} in record {{ " + " ".join(f"{n} = told{place_in(names, k)};" for k, n in enumerate(names)) + " }"
         if not text.endswith(")"):
             return rest
         deep, k = 0, len(text)
@@ -561,16 +592,9 @@ class File:
         before = text[:k].rstrip()
         if text[k] != "(" or not (not before or before.endswith((" in", "\nin"))):
             return rest
-        inner, parts, deep, last = text[k + 1 : -1], [], 0, 0
-        for i, ch in enumerate(inner):
-            deep += ch in "({["
-            deep -= ch in ")}]"
-            if ch == "," and not deep:
-                parts.append(inner[last:i])
-                last = i + 1
-        if inner[last:].strip():
-            parts.append(inner[last:])
-        parts = [p.strip() for p in parts]
+        parts = tuple_parts(text[k + 1 : -1])
+        while len(parts) < len(names) and parts[-1].startswith("(") and tuple_parts(parts[-1][1:-1])[1:]:
+            parts[-1:] = tuple_parts(parts[-1][1:-1])
         if len(parts) != len(names):
             self.said.append(f"{goal} has {len(parts)} parts, and the function {len(names)} clauses")
             return rest

@@ -52,13 +52,13 @@ loop-p-preserved-then-not-is_idle c =
     let e : l.p ≡ suc (l.p - 1) = omega (arith, k) in (
       omega (arith, l.invariant.0),
       q.labels_added.few,
-      q.labels_added_2.1,
+      q.lists_len_2,
       q.labels_added.front ∙ l.invariant.3,
-      q.labels_added_2.0.front ∙ l.invariant.4,
+      q.labels_added_2.front ∙ l.invariant.4,
       λ z.
-          listed_more f g n a.labels c.requires.additive.0 c.requires.additive.1 (l.p - 1) (omega (arith, k, l.invariant.0)) _ _ _ _
-          l.count c.add_labels-count.result l.invariant.3 l.invariant.4 q.labels_added q.labels_added_2.0 z
-          (rw e at (l.invariant.5 (q.labels_added.not_None z))),
+          listed_more f g n a.labels c.requires.additive c.requires.additive_2 (l.p - 1) (omega (arith, k, l.invariant.0)) _ _ _ _
+          l.count c.add_labels-count.result l.invariant.3 l.invariant.4 q.labels_added q.labels_added_2 z
+          (rw e at (l.invariant.5 (q.labels_added.not_none z))),
     )
 
 pub loop-p-preserved : goal.loop-p-preserved
@@ -77,7 +77,7 @@ loop-p-preserved c =
       l.invariant.3,
       l.invariant.4,
       λ z.
-          listed-idle f g n a.labels c.requires.additive.0 c.requires.additive.1 (l.p - 1) (omega arith) _ _ l.count
+          listed-idle f g n a.labels c.requires.additive c.requires.additive_2 (l.p - 1) (omega arith) _ _ l.count
           (λ k m b. (
             ap (rank_word a.weights.now n) (idle k m b),
             ap (first_rank a.code.now a.weights.now a.y) (idle k m b),

@@ -11,7 +11,7 @@ use Rattle.words.proofs.WordRanks.{place-more, place-last, place-below}
 use Rattle.compiling.proofs.WeightsPlaced.{rows_more}
 use borrow.Author.Rules.{rules}
 use Rattle.compiling.proofs.placing_weights.place_singles.Goals as goal
-use Rattle.compiling.proofs.placing_weights.place_singles.Goals.{After-abstract_count-p, After-loop-i, After-place_row-arg-1}
+use Rattle.compiling.proofs.placing_weights.place_singles.Goals.{After-abstract_count-p, After-place_row-arg-1}
 
 pub loop-i-init : goal.loop-i-init
 loop-i-init c =
@@ -127,17 +127,6 @@ loop-i-preserved c =
       λ k m. row.singles.behind k (omega arith) ∙ l.invariant.4 k m,
       row.low l.invariant.5,
     )
-
--- p is the place value behind position i, and with its base that at i
-behind-3 :
-    (c : After-loop-i)
-    → let b = c.args.block.now in
-    let i = c.loop-i.i - 1 in
-    c.loop-i.p ≡ place_value (abstract_count b) (suc i) (positions b - suc i)
-behind-3 c =
-    let b = c.args.block.now in
-    let e : c.loop-i.i ≡ suc (c.loop-i.i - 1) = omega arith in
-    c.loop-i.invariant.1 ∙ ap (λ (i : ℕ). place_value (abstract_count b) i (positions b - i)) e
 
 pub returns : goal.returns
 returns c =

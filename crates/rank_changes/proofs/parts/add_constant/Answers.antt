@@ -10,7 +10,7 @@ pub loop-x-preserved : goal.loop-x-preserved
 loop-x-preserved c =
     let sum = c.wrapping_add_u64 in (
       search rules,
-      added_more sum.result c.requires.1 (omega arith) (omega arith) sum.ensures
+      added_more sum.result c.requires.1 (omega arith) (omega arith) sum.ensures.value
           c.loop-x.invariant.1,
     )
 

@@ -2,6 +2,7 @@
 use Rattle.std.proofs.Common.{◌≡◌, ◌-◌, sym, ◌∙◌, ⊎_elim, arith, rules}
 use Rattle.rank_changes.proofs.PartsWritten.{parts_none, parts-as, part-more, plain_more}
 use Rattle.rank_changes.proofs.parts.place_parts.Goals as goal
+use Rattle.rank_changes.proofs.parts.place_parts.Goals.{then-is_part, else-is_part}
 
 pub loop-p-init : goal.loop-p-init
 loop-p-init c = (search rules, parts_none c.args.changes.now)
@@ -23,10 +24,10 @@ loop-p-preserved c =
     let l = c.loop-p in
     let k = c.is_part in (
       search rules,
-      ⊎_elim
-          (λ w. rw (w.3, w.4) (part-more l.invariant.1 (omega arith) w.2.ensures))
-          (λ w. rw (w.1, w.2) (plain_more l.invariant.1 (sym k.ensures ∙ w.0.left)))
-          c.if-is_part.branch,
+      elim c.if-is_part.branch [
+        | then-is_part w ↦ rw (w.changes-is, w.count-is) (part-more l.invariant.1 (omega arith) w.place_part.ensures)
+        | else-is_part w ↦ rw (w.changes-is, w.count-is) (plain_more l.invariant.1 (sym k.ensures ∙ w.if-is_part.false))
+      ],
     )
 
 pub returns : goal.returns

@@ -11,7 +11,7 @@ loop-x-preserved c =
     let sum = c.wrapping_add_u64 in (
       search rules,
       added_more sum.result c.requires.2 (omega arith) (omega arith)
-          sum.ensures c.loop-x.invariant.1,
+          sum.ensures.value c.loop-x.invariant.1,
     )
 
 pub returns : goal.returns

@@ -18,8 +18,8 @@ add_row-requires c =
     let h = c.requires in
     let e = sym c.decode-term.ensures ∙ c.in-Variable.is in
     let first = c.first_of-p in
-    let below = source-below h.bound.0 h.n_in_bounds.3 _ first.result e first.ensures in
-    (omega arith, omega arith, h.bound.1.len)
+    let below = source-below h.bound h.n_in_bounds.3 _ first.result e first.ensures in
+    (omega arith, omega arith, h.balanced.len)
 
 pub returns-in-Label : goal.returns-in-Label
 returns-in-Label c =
@@ -29,7 +29,7 @@ returns-in-Label c =
     let right = side_at a.bytes.now a.right in
     let e = sym c.decode-term.ensures ∙ c.in-Label.is in
     rw c.wrapping_add_u64.ensures.value
-    (constant-more a.n left right a.singles.now h.n_in_bounds.2 h.bound.1 _ c.wide.result e c.wide.ensures.0)
+    (constant-more a.n left right a.singles.now h.n_in_bounds.2 h.balanced _ c.wide.result e c.wide.ensures.0)
 
 pub returns-in-Variable : goal.returns-in-Variable
 unfolding bound
@@ -40,8 +40,8 @@ returns-in-Variable c =
     let right = side_at a.bytes.now a.right in
     let e = sym c.decode-term.ensures ∙ c.in-Variable.is in
     let first = c.first_of-p in
-    row_more a.n left right a.singles.now h.n_in_bounds.2 h.bound.1 first.result
-    (source-below h.bound.0 h.n_in_bounds.3 _ first.result e first.ensures)
+    row_more a.n left right a.singles.now h.n_in_bounds.2 h.balanced first.result
+    (source-below h.bound h.n_in_bounds.3 _ first.result e first.ensures)
     (λ s. ap (given a.n left s a.i) e ∙ ap (λ (j : ℕ). get_or s j 0) (sym first.ensures)) c.add_row.ensures
 
 pub returns-in-Dash : goal.returns-in-Dash
@@ -51,7 +51,7 @@ returns-in-Dash c =
     let left = side_at a.bytes.now a.left in
     let right = side_at a.bytes.now a.right in
     let e = sym c.decode-term.ensures ∙ c.in-Dash.is in
-    row_more a.n left right a.singles.now h.n_in_bounds.2 h.bound.1 a.i h.n_in_bounds.3
+    row_more a.n left right a.singles.now h.n_in_bounds.2 h.balanced a.i h.n_in_bounds.3
     (λ s. ap (given a.n left s a.i) e) c.add_row-in-Dash.ensures
 
 pub returns-in-Refused : goal.returns-in-Refused
@@ -61,5 +61,5 @@ returns-in-Refused c =
     let left = side_at a.bytes.now a.left in
     let right = side_at a.bytes.now a.right in
     let e = sym c.decode-term.ensures ∙ c.in-Refused.is in
-    row_more a.n left right a.singles.now h.n_in_bounds.2 h.bound.1 a.i h.n_in_bounds.3
+    row_more a.n left right a.singles.now h.n_in_bounds.2 h.balanced a.i h.n_in_bounds.3
     (λ s. ap (given a.n left s a.i) e) c.add_row-in-Refused.ensures
