@@ -336,8 +336,8 @@ class File:
         self.by_name = by_name
 
     def accessor(self, d):
-        sig = d[3].split(" : ", 1)[1] if " : " in d[3] else ""
-        sig = re.sub(r"\s+", " ", sig).strip()
+        sig = re.sub(r"\s+", " ", d[3]).strip()
+        sig = sig.split(" : ", 1)[1] if " : " in sig else ""
         m = re.fullmatch(r"(?:\((\w+) : )?" + self.tie + r"\.(" + WORD + r")[^→)]*\)? → " + self.tie + r"\.(" + WORD + r")[^→]*", sig)
         b = re.fullmatch(re.escape(d[1]) + r" (\w+) =\s+(\w+)((?:\.before)*)\s*", d[4])
         if m and b and b[1] == b[2]:

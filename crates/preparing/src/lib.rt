@@ -1,5 +1,7 @@
 // Prepares a block for searches by the tables of all its maps: compiled once, with its sets of rules and what its rules
 // add to the ranks of a state under all maps.
+#![tactic(auto)]
+
 ghost use Rattle.std.specs.Prelude.{◌≡◌, length};
 ghost use Rattle.words.specs.Code.{code_length};
 ghost use Rattle.words.specs.Changes.{changes_length};

@@ -1,4 +1,6 @@
 // Tables of abstract distances: estimates, the lower-bound test.
+#![tactic(auto)]
+
 pub mod by_sides;
 pub mod edges;
 pub mod estimates;

@@ -1,0 +1,39 @@
+-- `tables::by_sides::goal_passes` meets its contract.
+-- Labels add to the ranks by the goal's side, so its states are listed, and the entries at the ranks listed are 0.
+use mathlib.Core.Path.{refl}
+use native.Mathlib.Omega.{arith}
+use Rattle.basics.proofs.Truth.{true-false}
+use Rattle.tables.proofs.SideTests.{goal-first, goal-second, goal-listed}
+use Rattle.tables.proofs.by_sides.goal_passes.Goals as goal
+
+pub find_edges-count-requires : goal.find_edges-count-requires
+find_edges-count-requires c =
+    let a = c.args in
+    let ready = c.requires.0 in
+    let z = ready.relabelled.valid.sized.headed.sizes in
+    let n = ready.compiled.counted.positions_told in
+    let k = c.labels.ensures.0 in record {
+      code_bound = (
+        omega (arith, n, z.n_high),
+        omega (arith, c.requires.2, z.g_high),
+        omega (arith, c.requires.2, z.g_high),
+        omega (arith, k, z.l_high),
+        c.requires.3,
+      );
+      additive = rw k (goal-first a.block.now a.code.now a.weights.now ready a.g c.requires.2);
+      additive_2 = rw k (goal-second a.block.now a.code.now a.weights.now ready a.g c.requires.2);
+    }
+
+pub returns-then-count-eq0 : goal.returns-then-count-eq0
+returns-then-count-eq0 c = record { goal_passes = λ e. absurd (true-false e refl); lists_len = c.find_edges-count.ensures.upper_bound.1 }
+
+pub returns : goal.returns
+returns c =
+    let a = c.args in
+    let k = c.labels.ensures.0 in record {
+      goal_passes = λ e.
+          goal-listed a.block.now a.code.now a.weights.now c.requires.0 a.table.now a.g
+          c.requires.2 _ _ c.find_edges-count.result
+          (rw k at (c.find_edges-count.ensures.listed (omega (arith, c.if-count-eq0.false)))) (c.zeros.ensures e);
+      lists_len = c.find_edges-count.ensures.upper_bound.1;
+    }
