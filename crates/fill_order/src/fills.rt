@@ -1,7 +1,7 @@
 // The fast pass of the fill, and whether it leaves something to the sweeps.
 use blocks::validity::MOST_STATES;
-use libc::STDOUT_FILENO;
 use refusals::Verdict;
+use std::io;
 
 // The fast pass found every entry, or left one too high; or there was nothing to fill.
 #[derive(Drop)]
@@ -29,21 +29,17 @@ fn order_of(block: &[u8], table: &mut [u32]) -> Order {
 }
 
 // Fills a table and prints whether its entries were found in order.
-pub fn print_fill(block: &[u8]) {
+pub fn print_fill(rt: &impl Print, block: &[u8]) -> io::Result<()> {
     let mut table = [0u32; MOST_STATES];
     let order = order_of(block, &mut table);
     match order {
-        Order::InOrder => {
-            io::write_all(STDOUT_FILENO, b"in order\n");
-        }
-        Order::Late => {
-            io::write_all(STDOUT_FILENO, b"late\n");
-        }
-        Order::Refused => print_refused(),
+        Order::InOrder => rt.write_all(b"in order\n"),
+        Order::Late => rt.write_all(b"late\n"),
+        Order::Refused => print_refused(rt),
     }
 }
 
 // Prints that there was nothing to fill.
-pub fn print_refused() {
-    io::write_all(STDOUT_FILENO, b"refused\n");
+pub fn print_refused(rt: &impl Print) -> io::Result<()> {
+    rt.write_all(b"refused\n")
 }

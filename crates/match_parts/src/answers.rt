@@ -9,8 +9,8 @@ ghost use Rattle.blocks.specs.Validity.{Sized, Valid};
 use blocks::layout;
 use compiling::compile;
 use exercise_texts::front;
-use libc::STDOUT_FILENO;
 use psvn::matching::{Mismatch, constant_mismatch, side_matches};
+use std::io;
 use words::code::{CODE, Code, FIRST_GOAL};
 use words::matching::{matches_word, mismatch_word};
 use words::packing::pack;
@@ -93,38 +93,39 @@ fn by_words(code: &Code, rules: usize, count: usize, word: u64, line: &mut [u8; 
 }
 
 // Prints the first `length` characters of a line.
-fn print_line(line: &[u8], length: usize) {
-    io::write_all(STDOUT_FILENO, front(line, length));
-    io::write_all(STDOUT_FILENO, b"\n");
+fn print_line(rt: &impl Print, line: &[u8], length: usize) -> io::Result<()> {
+    rt.write_all(front(line, length))?;
+    rt.write_all(b"\n")
 }
 
 // Prints the matches of a state, on bytes and on words, a line for each.
-fn print_state(block: &[u8], code: &Code, state: &[u8])
+fn print_state(rt: &impl Print, block: &[u8], code: &Code, state: &[u8]) -> io::Result<()>
     requires { Sized block.now × (state_ok block.now state.now ≡ true) }
 {
     let rules = layout::rules(block);
     let count = rules + layout::goals(block);
     let mut line = [0u8; LINE];
     by_bytes(block, state, &mut line);
-    print_line(&line, 2 * count);
+    print_line(rt, &line, 2 * count)?;
     by_words(code, rules, count, pack(state), &mut line);
-    print_line(&line, 2 * count);
+    print_line(rt, &line, 2 * count)
 }
 
 // Prints the matches of goal g, where it is a state.
-fn print_goal(block: &[u8], code: &Code, g: usize)
+fn print_goal(rt: &impl Print, block: &[u8], code: &Code, g: usize) -> io::Result<()>
     requires { Sized block.now × (g < goals block.now) }
 {
     let at = layout::goal_at(block, g);
     let n = layout::positions(block);
     let state = &block[at..at + n];
     if blocks::states::state_ok(block, state) {
-        print_state(block, code, state);
+        print_state(rt, block, code, state)?;
     }
+    Ok(())
 }
 
 // Prints the matches of each goal of a block that is a state.
-pub fn print_states(block: &[u8])
+pub fn print_states(rt: &impl Print, block: &[u8]) -> io::Result<()>
     requires { Valid block.now }
 {
     let mut code = [0u64; CODE];
@@ -132,7 +133,8 @@ pub fn print_states(block: &[u8])
     let goals = layout::goals(block);
     let mut g: usize = 0;
     while g < goals {
-        print_goal(block, &code, g);
+        print_goal(rt, block, &code, g)?;
         g += 1;
     }
+    Ok(())
 }

@@ -1,6 +1,9 @@
 // A session of the program `par`: an exercise and its queries in one input, with each answer line printed as soon as it
 // is known.
-ghost use Rattle.std.specs.Prelude.{◌≡◌, ◌+◌, ◌≤◌, pos, length, take};
+#![tactic(auto)]
+
+ghost use Rattle.std.specs.Prelude.{◌≡◌, ◌+◌, ◌<◌, ◌≤◌, pos, length, take, drop, Some, OnOk};
+ghost use Rattle.std.specs.Io.KnownBytes.{Appends, Consumes, IsAtEnd};
 ghost use Rattle.blocks.specs.Validity.{Valid};
 ghost use Rattle.preparing.specs.Prepared.{Prepared};
 ghost use Rattle.search.specs.OnWords.{Rates};
@@ -13,11 +16,14 @@ ghost use Rattle.par_outputs.specs.Promises.{Means};
 
 use blocks::layout::BLOCK_ROOM;
 use blocks::validity::{Entries, MOST_STATES};
-use libc::{STDIN_FILENO, STDOUT_FILENO};
+use inputs::read_full;
 use par_openings::{LONGEST_INPUT, Opening};
 use par_queries::LINE_ROOM;
 use preparing::prepare;
 use refusals::Refusal;
+use std::io;
+use std::io::{Read, Write};
+use std::os::fd::AsRawFd;
 use words::changes::{CHANGES, Changes};
 use words::code::{CODE, Code};
 
@@ -33,36 +39,64 @@ pub type InputBuffer = [u8; INPUT_ROOM];
 
 pub type OutputBuffer = [u8; OUTPUT_ROOM];
 
-// How many bytes of input a session read, and how many it printed.
+// How many bytes of input a session read, how many it printed, and the first error of its reads and writes, if there was
+// one: a session goes on all the same.
 #[derive(Drop)]
 pub struct Session {
     pub read: usize,
     pub printed: usize,
+    pub outcome: io::Result<()>,
+}
+
+// The place in the output up to which lines are printed, and the first error of their writes, if there was one.
+#[derive(Drop)]
+struct Printed {
+    to: usize,
+    outcome: io::Result<()>,
 }
 
 // Prints the next `count` bytes of the output, from `from` on, and gives the place behind them. Nothing else writes.
 // Descriptor 1 is standard output.
-fn print_part(descriptor: i32, output: &[u8], from: usize, count: usize) -> usize
-    requires { (descriptor ≡ pos 1) × (from + count ≤ length output.now) }
-    ensures { result ≡ from + count }
+fn print_part<W: Write + AsRawFd>(
+    writer: &mut W,
+    output: &[u8],
+    from: usize,
+    count: usize,
+) -> Printed
+    requires standard_output { (w : W) → W.raw_fd w ≡ Some (pos 1) }
+    requires within { from + count ≤ length output.now }
+    ensures behind { result.to ≡ from + count }
+    ensures printed { OnOk result.outcome
+        (Appends (W.contents writer.old) (W.contents writer.new)
+        (take count (drop from output.now))) }
 {
     let to = from + count;
-    io::write_all(descriptor, &output[from..to]);
-    to
+    let outcome = writer.write_all(&output[from..to]);
+    Printed { to, outcome }
 }
 
 // Prints the line of a refusal, and gives its length.
-fn answer_refusal(refusal: Refusal, output: &mut [u8]) -> usize
-    requires { line_room ≤ length output.old }
-    ensures { Written (refusal_line (refusal_number refusal)) output.old result output.new }
+fn answer_refusal<W: Write + AsRawFd>(
+    writer: &mut W,
+    refusal: Refusal,
+    output: &mut [u8],
+) -> Printed
+    requires standard_output { (w : W) → W.raw_fd w ≡ Some (pos 1) }
+    requires room { line_room ≤ length output.old }
+    ensures written { Written (refusal_line (refusal_number refusal)) output.old result.to
+        output.new }
+    ensures printed { OnOk result.outcome
+        (Appends (W.contents writer.old) (W.contents writer.new)
+        (refusal_line (refusal_number refusal))) }
 {
     let bytes = par_queries::refuse(refusal, output);
-    print_part(STDOUT_FILENO, output, 0, bytes)
+    print_part(writer, output, 0, bytes)
 }
 
 // Prints the answer lines of the query lines from `from` on, and gives their length, by arrays that are prepared from
 // the block.
-fn answer_lines(
+fn answer_lines<W: Write + AsRawFd>(
+    writer: &mut W,
     block: &[u8],
     code: &Code,
     changes: &Changes,
@@ -70,15 +104,20 @@ fn answer_lines(
     input: &[u8],
     from: usize,
     output: &mut [u8],
-) -> usize
-    requires { Prepared block.now code.now changes.now ×
+) -> Printed
+    requires standard_output { (w : W) → W.raw_fd w ≡ Some (pos 1) }
+    requires prepared { Prepared block.now code.now changes.now ×
         Rates block.now changes.now entries.now (filled_estimate block.now) ×
         (length (answers_from block.now input.now from) + line_room ≤ length output.old) }
-    ensures { Written (answers_from block.now input.now from)
-        output.old result output.new }
+    ensures written { Written (answers_from block.now input.now from)
+        output.old result.to output.new }
+    ensures printed { OnOk result.outcome
+        (Appends (W.contents writer.old) (W.contents writer.new)
+        (answers_from block.now input.now from)) }
 {
     let mut at = from;
     let mut to: usize = 0;
+    let mut outcome = Ok(());
     while at < input.len() {
         let answered = par_queries::answer_line(
             block,
@@ -89,63 +128,94 @@ fn answer_lines(
             at,
             &mut output[to..],
         );
-        to = print_part(STDOUT_FILENO, output, to, answered.bytes);
+        let line = print_part(writer, output, to, answered.bytes);
+        to = line.to;
+        outcome = outcome.and(line.outcome);
         at = answered.next;
     }
-    to
+    Printed { to, outcome }
 }
 
 // The same for a block with its filled table: it is prepared once, for all query lines.
-fn answer_queries(
+fn answer_queries<W: Write + AsRawFd>(
+    writer: &mut W,
     block: &[u8],
     input: &[u8],
     from: usize,
     table: &Entries,
     output: &mut [u8],
-) -> usize
-    requires { Valid block.now × FilledFront block.now table.now ×
+) -> Printed
+    requires standard_output { (w : W) → W.raw_fd w ≡ Some (pos 1) }
+    requires filled { Valid block.now × FilledFront block.now table.now ×
         (length (answers_from block.now input.now from) + line_room ≤ length output.old) }
-    ensures { Written (answers_from block.now input.now from)
-        output.old result output.new }
+    ensures written { Written (answers_from block.now input.now from)
+        output.old result.to output.new }
+    ensures printed { OnOk result.outcome
+        (Appends (W.contents writer.old) (W.contents writer.new)
+        (answers_from block.now input.now from)) }
 {
     let mut code = [0u64; CODE];
     let mut changes = [0u64; CHANGES];
     prepare(block, &block[..0], &mut code, &mut changes);
-    answer_lines(block, &code, &changes, table, input, from, output)
+    answer_lines(writer, block, &code, &changes, table, input, from, output)
 }
 
 // Prints what `par` prints for an input, and gives its length.
-fn answer_input(input: &[u8], output: &mut [u8]) -> usize
-    requires { output_room ≤ length output.old }
-    ensures { Written (par_output input.now) output.old result output.new }
+fn answer_input<W: Write + AsRawFd>(writer: &mut W, input: &[u8], output: &mut [u8]) -> Printed
+    requires standard_output { (w : W) → W.raw_fd w ≡ Some (pos 1) }
+    requires room { output_room ≤ length output.old }
+    ensures written { Written (par_output input.now) output.old result.to output.new }
+    ensures printed { OnOk result.outcome
+        (Appends (W.contents writer.old) (W.contents writer.new) (par_output input.now)) }
 {
     let mut block = [0u8; BLOCK_ROOM];
     let mut table = [0u32; MOST_STATES];
     let opening = par_openings::open(input, &mut block, &mut table);
     match opening {
-        Opening::Refused(refusal) => answer_refusal(refusal, output),
+        Opening::Refused(refusal) => answer_refusal(writer, refusal, output),
         Opening::Opened { bytes, queries_at } => {
-            answer_queries(&block[..bytes], input, queries_at, &table, output)
+            answer_queries(writer, &block[..bytes], input, queries_at, &table, output)
         }
     }
 }
 
-// Runs a session in a buffer that holds every output.
-fn run_within(input: &mut [u8], output: &mut [u8]) -> Session
-    requires { output_room ≤ length output.old }
-    ensures { Written (par_output (take result.read input.new)) output.old result.printed
+// Runs a session in a buffer that holds every output. Where no read and no write fails, the whole input was read, or one
+// byte more than an input may have, and what the writer got is what `par` prints for it.
+fn run_within<R: Read, W: Write + AsRawFd>(
+    reader: &mut R,
+    writer: &mut W,
+    input: &mut [u8],
+    output: &mut [u8],
+) -> Session
+    requires standard_output { (w : W) → W.raw_fd w ≡ Some (pos 1) }
+    requires room { output_room ≤ length output.old }
+    ensures written { Written (par_output (take result.read input.new)) output.old result.printed
         output.new }
+    ensures consumed { Consumes (R.remaining reader.old) (R.remaining reader.new)
+        (take result.read input.new) }
+    ensures whole { OnOk result.outcome
+        (result.read < length input.new → IsAtEnd (R.remaining reader.new)) }
+    ensures printed { OnOk result.outcome
+        (Appends (W.contents writer.old) (W.contents writer.new)
+        (par_output (take result.read input.new))) }
 {
-    let read = io::read_full(STDIN_FILENO, input);
-    let printed = answer_input(&input[..read], output);
-    Session { read, printed }
+    let received = read_full(reader, input);
+    let read = received.read;
+    let printed = answer_input(writer, &input[..read], output);
+    let outcome = received.outcome.and(printed.outcome);
+    Session {
+        read,
+        printed: printed.to,
+        outcome,
+    }
 }
 
-// Reads an input from standard input, and prints what `par` prints for it. Both stay at the fronts of their buffers.
-pub fn run_session(input: &mut InputBuffer, output: &mut OutputBuffer) -> Session
+// Reads an input from standard input, and prints what `par` prints for it to standard output. Both stay at the fronts of
+// their buffers.
+pub fn run_session(rt: &HostRuntime, input: &mut InputBuffer, output: &mut OutputBuffer) -> Session
     ensures written { Written (par_output (take result.read input.new)) output.old result.printed
         output.new }
     ensures means { Means (take result.read input.new) (take result.printed output.new) }
 {
-    run_within(input, output)
+    run_within(&mut rt.stdin(), &mut rt.stdout(), input, output)
 }
