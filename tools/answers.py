@@ -549,6 +549,8 @@ class File:
         """What stands behind a call's step, with its clauses and its arguments by name."""
         if not callee:
             return path
+        if path[:1] == ["kept"]:
+            path = ["auto"] + path[1:]
         if path[:1] == ["last"]:
             path = ["new"] + path[1:]
         if path[:1] in (["new"], ["auto"]) and callee in self.info["params"]:

@@ -79,7 +79,7 @@ abbrev table : (c : In-loop-i) → List ℕ
 table c = c.loop-i.table
 
 room : (c : In-loop-i) → all_entries (b c) (ms c) ≤ length (table c)
-room c = omega (arith, c.loop-i.invariant.3, c.fill.kept.1.0, c.requires.1)
+room c = omega (arith, c.loop-i.invariant.3, c.fill.auto.table, c.requires.1)
 
 ends : (c : In-loop-i) → (at c) + abstract_states (exercise_at (b c) (ms c) (suc (i c))) ≤ length (table c)
 ends c = lies-inside (b c) (ms c) (mapped c) (i c) (inside c) (at c) c.loop-i.invariant.2 (table c) (room c)
@@ -118,7 +118,7 @@ inside-2 : (c : After-fill_further-arg-1) → (i-2 c) < further_maps (b-2 c) (ms
 inside-2 c = omega arith
 
 room-2 : (c : After-fill_further-arg-1) → all_entries (b-2 c) (ms-2 c) ≤ length (table-2 c)
-room-2 c = omega (arith, c.loop-i.invariant.3, c.fill.kept.1.0, c.requires.1)
+room-2 c = omega (arith, c.loop-i.invariant.3, c.fill.auto.table, c.requires.1)
 
 pub fill_further-requires : goal.fill_further-requires
 fill_further-requires c = (
@@ -212,7 +212,7 @@ loop-i-preserved c =
     )
 
 pub shape_of-table : goal.shape_of-table
-shape_of-table c = c.loop-i.invariant.3 ∙ c.fill.kept.1.0
+shape_of-table c = c.loop-i.invariant.3 ∙ c.fill.auto.table
 
 abbrev block-6 : (c : After-loop-i) → List ℕ
 block-6 c = c.args.block.now
