@@ -43,7 +43,12 @@ returns-then-line-ne-HEAD_LENGTH c =
     let ls = lines_of c.args.text.now in
     let e = c.read_line-line.ensures in
     let against : verdict (head_conditions ls) ≡ refused 2 = rw (not-ten _ _ e c.if-line-ne-HEAD_LENGTH.true) in
-    record { right = right _ _ e; onward = onward _ _ e; judged = sym against; decoded = λ h. absurd (told-refused h against) }
+    record {
+      right = right _ _ e;
+      onward = onward _ _ e;
+      judged = sym against;
+      decoded = λ h. absurd (told-refused h against);
+    }
 
 pub decode_head-head-requires : goal.decode_head-head-requires
 decode_head-head-requires c = ten _ _ c.read_line-line.ensures c.if-line-ne-HEAD_LENGTH.false
@@ -54,7 +59,12 @@ returns-then-not-head_ok c =
     let e = c.read_line-line.ensures in
     let wrong = sym (c.head_ok.ensures ∙ ap head_ok c.decode_head-head.ensures) ∙ c.if-not-head_ok.true in
     let against : verdict (head_conditions ls) ≡ refused 3 = rw (ten _ _ e c.if-line-ne-HEAD_LENGTH.false, wrong) in
-    record { right = right _ _ e; onward = onward _ _ e; judged = sym against; decoded = λ h. absurd (told-refused h against) }
+    record {
+      right = right _ _ e;
+      onward = onward _ _ e;
+      judged = sym against;
+      decoded = λ h. absurd (told-refused h against);
+    }
 
 pub returns-else-not-head_ok : goal.returns-else-not-head_ok
 returns-else-not-head_ok c =

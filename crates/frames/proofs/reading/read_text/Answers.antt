@@ -55,15 +55,15 @@ module _ (x out : List ℕ) where
     fits = omega (arith, block-length (lines_of x) (length out) accepted, accepted.room-left)
 
     -- the part that is checked is the block
-    module _ (n : ℕ) (array : List ℕ) (len : n ≡ length (block x)) (is : array ≡ at_front (block x) (replicate 2304 0)) where
-      part : take n array ≡ block x
+    module _ (n : ℕ) (len : n ≡ length (block x)) (a : List ℕ) (is : a ≡ at_front (block x) (replicate 2304 0)) where
+      part : take n a ≡ block x
       part = ap (take n) is ∙ front-taken (block x) (replicate 2304 0) n len
 
-      sized : Sized (take n array)
+      sized : Sized (take n a)
       sized = subst Sized (sym part) (block-sized (lines_of x) (length out) accepted)
 
       -- once the frames are accepted, the content decides
-      content : (v : Answer (Unit {0})) → v ≡ verdict (content_conditions (take n array)) → reading x out ≡ v
+      content : (v : Answer (Unit {0})) → v ≡ verdict (content_conditions (take n a)) → reading x out ≡ v
       unfolding read_conditions
       content v h =
           verdict-behind (frame_conditions (lines_of x) (length out)) (content_conditions (block x)) (sym framed)
@@ -71,7 +71,7 @@ module _ (x out : List ℕ) where
           ∙ sym h
 
       read :
-          (to : List ℕ) → told tt ≡ verdict (content_conditions (take n array)) → to ≡ at_front (take n array) out
+          (to : List ℕ) → told tt ≡ verdict (content_conditions (take n a)) → to ≡ at_front (take n a) out
           → outcome (told n) to ≡ read_exercise x out
       read to h e =
           ap₂ (λ (k : ℕ) (b : List ℕ). outcome (told k) b) len (e ∙ ap (λ (b : List ℕ). at_front b out) part)
@@ -86,14 +86,14 @@ decode_lines-length-requires c = omega (arith, short c.args.text.now c.args.out.
 pub check_content-content-requires : goal.check_content-content-requires
 check_content-content-requires c =
     let e = c.decode_lines-length.ensures in
-    sized c.args.text.now c.args.out.now c.in_default.ensures _ _ e.0 e.1
+    sized c.args.text.now c.args.out.now c.in_default.ensures _ e.0 _ e.1
 
 pub returns-in-Refused-content : goal.returns-in-Refused-content
 returns-in-Refused-content c =
     let x = c.args.text.now in
     let out = c.args.out.now in
     let e = c.decode_lines-length.ensures in
-    by-verdict x out _ (content x out c.in_default.ensures _ _ e.0 e.1 _ c.in-Refused-content.ensures)
+    by-verdict x out _ (content x out c.in_default.ensures _ e.0 _ e.1 _ c.in-Refused-content.ensures)
 
 pub copy-requires : goal.copy-requires
 copy-requires c =
@@ -107,4 +107,4 @@ copy-requires c =
 pub returns : goal.returns
 returns c =
     let e = c.decode_lines-length.ensures in
-    read c.args.text.now c.args.out.now c.in_default.ensures _ _ e.0 e.1 _ c.in_default-content.ensures c.copy.ensures
+    read c.args.text.now c.args.out.now c.in_default.ensures _ e.0 _ e.1 _ c.in_default-content.ensures c.copy.ensures
