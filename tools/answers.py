@@ -500,7 +500,7 @@ class File:
 
     def calls(self, text):
         text = "\n".join(l for l in text.split("\n") if not l.startswith("--"))
-        return [h for h in self.placed if re.search(r"(?<![\w.'-])" + re.escape(h) + r"(?![\w'-]| = )", text)]
+        return [h for h in self.placed if not re.search(r"\blet " + re.escape(h) + r" [=:]", text) and re.search(r"(?<![\w.'-])" + re.escape(h) + r"(?![\w'-]| = )", text)]
 
     def emit_helper(self, h, root, root_name):
         key = (h, root_name)
@@ -549,6 +549,8 @@ class File:
         """What stands behind a call's step, with its clauses and its arguments by name."""
         if not callee:
             return path
+        if path[:1] == ["kept"]:
+            path = ["auto"] + path[1:]
         if path[:1] == ["last"]:
             path = ["new"] + path[1:]
         if path[:1] in (["new"], ["auto"]) and callee in self.info["params"]:

@@ -10,7 +10,7 @@ use blocks::labels::ConcreteLabel;
 use blocks::terms::{Term, decode, is_dash};
 
 // One label only, or any.
-#[derive(Drop)]
+#[derive(Clone, Copy)]
 pub enum Choice {
     Only(ConcreteLabel),
     Any,

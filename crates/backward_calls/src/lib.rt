@@ -1,4 +1,6 @@
 // The public calls of stepping back, and of reversible rules.
+#![tactic(auto)]
+
 mod predecessors;
 mod reversing;
 

@@ -4,7 +4,7 @@ ghost use Rattle.std.specs.Prelude.{◌≡◌, ◌+◌, ◌<◌, length, get_or}
 use basics::wide;
 
 // A label of an exercise's own states (document 01: a yard label).
-#[derive(Drop)]
+#[derive(Clone, Copy)]
 pub struct ConcreteLabel(pub u8);
 
 // A label of the abstraction. Its byte is private: only `mapped` makes one.

@@ -1,5 +1,7 @@
 // The figure of a list by the tables of all maps, which stand behind one another in one array. The ranks of its last
 // state stand in one number, 16 bits for each map, each an index into that array.
+#![tactic(auto)]
+
 ghost use Rattle.std.specs.Prelude.{◌≡◌, ◌&&◌, ◌+◌, ◌%◌, ◌≤◌, ◌<◌, max, ltb, leb, get_or};
 ghost use Rattle.basics.specs.Marks.{mark};
 ghost use Rattle.words.specs.Changes.{map_count, RanksLow};

@@ -1,4 +1,6 @@
 // The fill: the table of least costs of an exercise.
+#![tactic(auto)]
+
 mod filling;
 mod queue;
 mod rank_words;

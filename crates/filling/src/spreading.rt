@@ -25,7 +25,7 @@ use words::sides::{applies_word, cost_word, step_word};
 const MOST_TURNS: usize = 65_536;
 
 // A rule, and the rank of the state that it leads to.
-#[derive(Drop)]
+#[derive(Clone, Copy)]
 struct Edge {
     rule: usize,
     to: usize,

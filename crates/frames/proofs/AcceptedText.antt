@@ -17,7 +17,8 @@ use Rattle.blocks.specs.Validity.{head_ok, content_conditions, Headed, Sized, Va
 use Rattle.blocks.proofs.Accepted.{headed, content-valid}
 use Rattle.blocks.proofs.FrameLaws.{frame_at, frames-all, same_length, same_head}
 use Rattle.frames.specs.Lines.{line_bytes}
-use Rattle.frames.specs.Reading.{head_of, block_of, lines_ok, head_line_ok, lines_fit, frame_conditions, read_conditions}
+use Rattle.frames.specs.Reading.{head_of, block_of, lines_ok, head_line_ok, lines_fit}
+use Rattle.frames.specs.Reading.{frame_conditions, read_conditions}
 
 -- the block is the head and what stands in the other lines
 block-split : (ls : List (List ℕ)) → block_of ls ≡ head_of ls ++ block_of (tail ls)

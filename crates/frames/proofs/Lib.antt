@@ -1,6 +1,6 @@
--- The laws of digits, of lines and of reading, and what the walks over a reader share.
--- The proofs of the reader's functions, what is said of printed lines, and what is said of the input of `par`, rest on
--- them.
+-- The laws of digits, of lines and of reading.
+-- The proofs of the functions that read and write lines, what is said of printed lines, and what is said of the input
+-- of `par`, rest on them.
 pub mod DigitLaws
 pub mod PairLaws
 pub mod LineLaws
@@ -10,4 +10,3 @@ pub mod AcceptedText
 pub mod ReadBytes
 pub mod WrittenLines
 pub mod WrittenExercises
-pub mod ReaderParts

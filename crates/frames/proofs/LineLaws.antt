@@ -49,7 +49,8 @@ first_taken (c ∷ x) = go (first_taken x) (eqb c line_feed)
   where
     go :
         take (length (first_line (lines_of x))) x ≡ first_line (lines_of x)
-        → (t : Bool) → take (length (first_line (in_front t c (lines_of x)))) (c ∷ x) ≡ first_line (in_front t c (lines_of x))
+        → (t : Bool)
+        → take (length (first_line (in_front t c (lines_of x)))) (c ∷ x) ≡ first_line (in_front t c (lines_of x))
     go ih true = refl
     go ih false = rw (front-first c (lines_of x)) (ap (λ (l : List ℕ). c ∷ l) ih)
 
@@ -75,7 +76,8 @@ module _ (x : List ℕ) (at : ℕ) where
 
     pub line-more : (get_or x at 0 ≡ line_feed → ⊥) → line_from x at ≡ get_or x at 0 ∷ line_from x (suc at)
     unfolding line_from
-    line-more n = rw (apart, ne_eqb (get_or x at 0) line_feed n) (front-first (get_or x at 0) (lines_of (drop (suc at) x)))
+    line-more n =
+        rw (apart, ne_eqb (get_or x at 0) line_feed n) (front-first (get_or x at 0) (lines_of (drop (suc at) x)))
 
     -- the lines from the place on
     pub lines_from : lines_of (drop at x) ≡ line_from x at ∷ lines_of (drop (at + length (line_from x at)) x)

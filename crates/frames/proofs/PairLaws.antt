@@ -26,7 +26,8 @@ module _ (l : List ℕ) (i : ℕ) where
       let e : suc (i + 1) ≡ i + 2 = omega arith in
       drop-cons l i 0 (omega arith)
       ∙ ap (λ (k : ℕ). get_or l i 0 ∷ drop k l) (sym (add-one i))
-      ∙ ap (λ (y : List ℕ). get_or l i 0 ∷ y) (drop-cons l (i + 1) 0 h ∙ ap (λ (k : ℕ). get_or l (i + 1) 0 ∷ drop k l) e)
+      ∙ ap (λ (y : List ℕ). get_or l i 0 ∷ y)
+      (drop-cons l (i + 1) 0 h ∙ ap (λ (k : ℕ). get_or l (i + 1) 0 ∷ drop k l) e)
 
   last_apart : i + 1 ≡ length l → drop i l ≡ get_or l i 0 ∷ []
   last_apart h =

@@ -16,7 +16,8 @@ use Rattle.blocks.specs.Layout.{block_length, frame_count, frame_length}
 use Rattle.blocks.specs.Validity.{head_ok}
 use Rattle.frames.specs.Lines.{lines_of, line_ok, line_bytes}
 use Rattle.frames.specs.Places.{line_from}
-use Rattle.frames.specs.Reading.{head_of, block_of, lines_ok, head_line_ok, lines_fit, head_conditions, frame_conditions}
+use Rattle.frames.specs.Reading.{head_of, block_of, lines_ok, head_line_ok, lines_fit}
+use Rattle.frames.specs.Reading.{head_conditions, frame_conditions}
 use Rattle.frames.proofs.LineLaws.{lines_from}
 
 module _ (x : List ℕ) (at : ℕ) where
@@ -63,7 +64,8 @@ lines-tail (c ∷ x) =
 
 -- what an accepted head is
 pub head-accepted :
-    (ls : List (List ℕ)) → verdict (head_conditions ls) ≡ told tt → (head_line_ok ls ≡ true) × (head_ok (head_of ls) ≡ true)
+    (ls : List (List ℕ)) → verdict (head_conditions ls) ≡ told tt
+    → (head_line_ok ls ≡ true) × (head_ok (head_of ls) ≡ true)
 head-accepted ls h =
     let p = verdict-told 2 (head_line_ok ls) (3 unless head_ok (head_of ls) ∷ []) h in
     (p.0, (verdict-told 3 (head_ok (head_of ls)) [] p.1).0)
@@ -82,7 +84,8 @@ module _ (ls : List (List ℕ)) (room : ℕ) where
   these = others (lines_fit (head_of ls) 0 (tail ls)) (leb (block_length (head_of ls)) room)
 
   module _ (right : lines_ok ls ≡ true) where
-    pub head-refused : (k : ℕ) → verdict (head_conditions ls) ≡ refused k → verdict (frame_conditions ls room) ≡ refused k
+    pub head-refused :
+        (k : ℕ) → verdict (head_conditions ls) ≡ refused k → verdict (frame_conditions ls room) ≡ refused k
     unfolding frame_conditions
     head-refused k h = rw right (verdict-before (head_conditions ls) these k h)
 

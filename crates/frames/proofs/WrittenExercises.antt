@@ -146,7 +146,8 @@ module _ (b : List ℕ) (v : Valid b) (small : Bytes b) where
       ∙ content-passes
 
   pub read-written :
-      (out : List ℕ) → length b ≤ length out → read_exercise (text_of b) out ≡ outcome (told (length b)) (at_front b out)
+      (out : List ℕ) → length b ≤ length out
+      → read_exercise (text_of b) out ≡ outcome (told (length b)) (at_front b out)
   unfolding read_exercise text_of
   read-written out l =
       rw (written-lines (frames_of b) all-bytes, passes (length out) l, block_back)

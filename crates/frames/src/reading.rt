@@ -24,7 +24,7 @@ pub enum Reading {
 
 // The head line of a text: whether it is pairs of digits with a line feed, and the place behind it; what turns its head
 // back, and the head's bytes where nothing does.
-#[derive(Drop)]
+#[derive(Clone, Copy)]
 pub struct Heading {
     pub ok: bool,
     pub next: usize,

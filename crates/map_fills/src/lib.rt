@@ -1,4 +1,6 @@
 // Fills the tables of an exercise under all its maps, behind one another in one slice, the block's own first.
+#![tactic(auto)]
+
 ghost use Rattle.std.specs.Prelude.{◌≡◌, suc, ◌≤◌, ◌<◌, length};
 ghost use Rattle.basics.specs.Lists.{at_front};
 ghost use Rattle.blocks.specs.Layout.{abstract_states};

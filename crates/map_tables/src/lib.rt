@@ -1,5 +1,7 @@
 // The tables of an exercise under all its maps, behind one another in one slice, the block's own first: the estimate by
 // all of them, and the lower-bound test of each under its own map.
+#![tactic(auto)]
+
 ghost use Rattle.std.specs.Prelude.{◌≡◌, true, suc, ◌≤◌, ◌<◌, max, length};
 ghost use Rattle.blocks.specs.Layout.{abstract_states};
 ghost use Rattle.blocks.specs.States.{state_ok};

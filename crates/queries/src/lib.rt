@@ -14,7 +14,7 @@ pub const LONGEST_PLAN: usize = 64;
 
 // The limits of a search: the most steps and the highest cost of a plan, and the most visits.
 #[repr(C)]
-#[derive(Drop)]
+#[derive(Clone, Copy)]
 pub struct Limits {
     pub steps: usize,
     pub cost: u32,

@@ -1,4 +1,6 @@
 // The public calls on tables.
+#![tactic(auto)]
+
 mod estimating;
 mod whole_tables;
 

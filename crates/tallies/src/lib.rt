@@ -1,4 +1,6 @@
 // What a round carries: the visits used and the least overshoot so far (document 01).
+#![tactic(auto)]
+
 ghost use Rattle.std.specs.Prelude.{◌≡◌, ◌+◌, ◌<◌, min};
 ghost use Rattle.basics.specs.Marks.{largest32};
 ghost use Rattle.tallies.specs.Tallies.{overshot_by, with_visit};

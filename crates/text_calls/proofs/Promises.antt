@@ -16,7 +16,8 @@ module _ (x out : List ℕ) where
   -- by the verdict
   read_by :
       (v : Answer (Unit {0})) → verdict (read_conditions (lines_of x) (length out)) ≡ v
-      → (let o = guarded v out (outcome (told (length (block_of (lines_of x)))) (at_front (block_of (lines_of x)) out)) in
+      → (let b = block_of (lines_of x) in
+      let o = guarded v out (outcome (told (length b)) (at_front b out)) in
       ReadingKept o.answer o.out)
   read_by (refused k) h = tt
   read_by (told u) h =

@@ -1,4 +1,6 @@
 // The public call that reads an exercise from its text.
+#![tactic(auto)]
+
 mod reading;
 
 pub use frames::Reading;

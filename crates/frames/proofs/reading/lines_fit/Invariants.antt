@@ -9,7 +9,8 @@ use Rattle.frames.proofs.reading.lines_fit.Given as goal
 
 abbrev pub invariant-loop-at : goal.invariant-loop-at
 invariant-loop-at l =
-    (l.i ≤ l.count) × (lines_fit l.head l.i (lines_of (drop l.at l.text)) ≡ lines_fit l.head 0 (lines_of (drop l.from l.text)))
+    (l.i ≤ l.count)
+    × (lines_fit l.head l.i (lines_of (drop l.at l.text)) ≡ lines_fit l.head 0 (lines_of (drop l.from l.text)))
 
 abbrev pub decreases-loop-at : goal.decreases-loop-at
 decreases-loop-at l = length l.text - l.at

@@ -3,6 +3,7 @@
 use mathlib.Core.Path.{◌≡◌, sym, ap, ◌∙◌}
 use mathlib.Core.Bool.{true, false}
 use mathlib.Core.List.{List}
+use Rattle.blocks.specs.Layout.{head_length}
 use Prim.Native.Nat.{ℕ}
 use native.Mathlib.Nat.{zero-add}
 use lib.ListN.{length}
@@ -11,115 +12,67 @@ use Rattle.refusals.specs.Answers.{refused, verdict}
 use Rattle.refusals.proofs.Verdicts.{told-refused}
 use Rattle.blocks.specs.Validity.{head_ok}
 use Rattle.frames.specs.Lines.{lines_of, line_ok}
-use Rattle.frames.specs.Places.{first_line, line_from}
+use Rattle.frames.specs.Places.{first_line, line_from, line_at}
 use Rattle.frames.specs.Reading.{head_of, head_line_ok, head_conditions}
 use Rattle.frames.specs.declared.lines.Line.{Line}
 use Rattle.frames.proofs.reading.read_head.Goals as goal
-use Rattle.frames.proofs.reading.read_head.Goals.{Else-line-ne-HEAD_LENGTH, Else-not-head_ok, Then-line-ne-HEAD_LENGTH, Then-not-head_ok}
 
 -- what is told of the first line
-abbrev lines : (c : Then-line-ne-HEAD_LENGTH) → List (List ℕ)
-lines c = lines_of c.args.text.now
+module _ (x : List ℕ) (line : Line) (is : line ≡ line_at x 0) where
+  right : line.ok ≡ line_ok (first_line (lines_of x))
+  unfolding line_from
+  right = ap (λ (l : Line). l.ok) is
 
-right : (c : Then-line-ne-HEAD_LENGTH) → c.read_line-line.result.ok ≡ line_ok (first_line (lines c))
-unfolding line_from
-right c = ap (λ (l : Line). l.ok) c.read_line-line.ensures
+  onward : line.next ≡ length (first_line (lines_of x))
+  unfolding line_from
+  onward = ap (λ (l : Line). l.next) is ∙ zero-add (length (first_line (lines_of x)))
 
-onward : (c : Then-line-ne-HEAD_LENGTH) → c.read_line-line.result.next ≡ length (first_line (lines c))
-unfolding line_from
-onward c = ap (λ (l : Line). l.next) c.read_line-line.ensures ∙ zero-add (length (first_line (lines c)))
+  five : line.bytes ≡ length (head_of (lines_of x))
+  unfolding line_from
+  five = ap (λ (l : Line). l.bytes) is
 
-five : (c : Then-line-ne-HEAD_LENGTH) → c.read_line-line.result.bytes ≡ length (head_of (lines c))
-unfolding line_from
-five c = ap (λ (l : Line). l.bytes) c.read_line-line.ensures
+  -- it has ten digits, or not
+  ten : line.bytes ≡ head_length → head_line_ok (lines_of x) ≡ true
+  ten h = eq-eqb _ _ (sym five ∙ h)
 
-not-ten : (c : Then-line-ne-HEAD_LENGTH) → head_line_ok (lines c) ≡ false
-not-ten c = ne_eqb _ _ (λ e. c.if-line-ne-HEAD_LENGTH.true (five c ∙ e))
-
--- the head that is tested is its bytes
-judged : (c : Then-line-ne-HEAD_LENGTH) → c.head_ok.result ≡ head_ok (head_of (lines c))
-judged c = c.head_ok.ensures ∙ ap head_ok c.decode_head-head.ensures
+  not-ten : (line.bytes ≡ head_length → ⊥) → head_line_ok (lines_of x) ≡ false
+  not-ten h = ne_eqb _ _ (λ e. h (five ∙ e))
 
 pub returns-then-line-ne-HEAD_LENGTH : goal.returns-then-line-ne-HEAD_LENGTH
 returns-then-line-ne-HEAD_LENGTH c =
-    let against : verdict (head_conditions (lines c)) ≡ refused 2 = rw (not-ten c) in
-    record { right = right c; onward = onward c; judged = sym against; decoded = λ h. absurd (told-refused h against) }
-
--- what is told of the first line
-abbrev lines-2 : (c : Else-line-ne-HEAD_LENGTH) → List (List ℕ)
-lines-2 c = lines_of c.args.text.now
-
-five-2 : (c : Else-line-ne-HEAD_LENGTH) → c.read_line-line.result.bytes ≡ length (head_of (lines-2 c))
-unfolding line_from
-five-2 c = ap (λ (l : Line). l.bytes) c.read_line-line.ensures
-
--- it has ten digits
-ten : (c : Else-line-ne-HEAD_LENGTH) → head_line_ok (lines-2 c) ≡ true
-ten c = eq-eqb _ _ (sym (five-2 c) ∙ c.if-line-ne-HEAD_LENGTH.false)
+    let ls = lines_of c.args.text.now in
+    let e = c.read_line-line.ensures in
+    let against : verdict (head_conditions ls) ≡ refused 2 = rw (not-ten _ _ e c.if-line-ne-HEAD_LENGTH.true) in
+    record {
+      right = right _ _ e;
+      onward = onward _ _ e;
+      judged = sym against;
+      decoded = λ h. absurd (told-refused h against);
+    }
 
 pub decode_head-head-requires : goal.decode_head-head-requires
-decode_head-head-requires c = ten c
-
--- what is told of the first line
-abbrev lines-3 : (c : Then-not-head_ok) → List (List ℕ)
-lines-3 c = lines_of c.args.text.now
-
-right-2 : (c : Then-not-head_ok) → c.read_line-line.result.ok ≡ line_ok (first_line (lines-3 c))
-unfolding line_from
-right-2 c = ap (λ (l : Line). l.ok) c.read_line-line.ensures
-
-onward-2 : (c : Then-not-head_ok) → c.read_line-line.result.next ≡ length (first_line (lines-3 c))
-unfolding line_from
-onward-2 c = ap (λ (l : Line). l.next) c.read_line-line.ensures ∙ zero-add (length (first_line (lines-3 c)))
-
-five-3 : (c : Then-not-head_ok) → c.read_line-line.result.bytes ≡ length (head_of (lines-3 c))
-unfolding line_from
-five-3 c = ap (λ (l : Line). l.bytes) c.read_line-line.ensures
-
--- it has ten digits
-ten-2 : (c : Then-not-head_ok) → head_line_ok (lines-3 c) ≡ true
-ten-2 c = eq-eqb _ _ (sym (five-3 c) ∙ c.if-line-ne-HEAD_LENGTH.false)
-
--- the head that is tested is its bytes
-judged-2 : (c : Then-not-head_ok) → c.head_ok.result ≡ head_ok (head_of (lines-3 c))
-judged-2 c = c.head_ok.ensures ∙ ap head_ok c.decode_head-head.ensures
+decode_head-head-requires c = ten _ _ c.read_line-line.ensures c.if-line-ne-HEAD_LENGTH.false
 
 pub returns-then-not-head_ok : goal.returns-then-not-head_ok
 returns-then-not-head_ok c =
-    let wrong = sym (judged-2 c) ∙ c.if-not-head_ok.true in
-    let against : verdict (head_conditions (lines-3 c)) ≡ refused 3 = rw (ten-2 c, wrong) in
-    record { right-2 = right-2 c; onward-2 = onward-2 c; judged-2 = sym against; decoded = λ h. absurd (told-refused h against) }
-
--- what is told of the first line
-abbrev lines-4 : (c : Else-not-head_ok) → List (List ℕ)
-lines-4 c = lines_of c.args.text.now
-
-right-3 : (c : Else-not-head_ok) → c.read_line-line.result.ok ≡ line_ok (first_line (lines-4 c))
-unfolding line_from
-right-3 c = ap (λ (l : Line). l.ok) c.read_line-line.ensures
-
-onward-3 : (c : Else-not-head_ok) → c.read_line-line.result.next ≡ length (first_line (lines-4 c))
-unfolding line_from
-onward-3 c = ap (λ (l : Line). l.next) c.read_line-line.ensures ∙ zero-add (length (first_line (lines-4 c)))
-
-five-4 : (c : Else-not-head_ok) → c.read_line-line.result.bytes ≡ length (head_of (lines-4 c))
-unfolding line_from
-five-4 c = ap (λ (l : Line). l.bytes) c.read_line-line.ensures
-
--- it has ten digits
-ten-3 : (c : Else-not-head_ok) → head_line_ok (lines-4 c) ≡ true
-ten-3 c = eq-eqb _ _ (sym (five-4 c) ∙ c.if-line-ne-HEAD_LENGTH.false)
-
--- the head that is tested is its bytes
-judged-3 : (c : Else-not-head_ok) → c.head_ok.result ≡ head_ok (head_of (lines-4 c))
-judged-3 c = c.head_ok.ensures ∙ ap head_ok c.decode_head-head.ensures
+    let ls = lines_of c.args.text.now in
+    let e = c.read_line-line.ensures in
+    let wrong = sym (c.head_ok.ensures ∙ ap head_ok c.decode_head-head.ensures) ∙ c.if-not-head_ok.true in
+    let against : verdict (head_conditions ls) ≡ refused 3 = rw (ten _ _ e c.if-line-ne-HEAD_LENGTH.false, wrong) in
+    record {
+      right = right _ _ e;
+      onward = onward _ _ e;
+      judged = sym against;
+      decoded = λ h. absurd (told-refused h against);
+    }
 
 pub returns-else-not-head_ok : goal.returns-else-not-head_ok
 returns-else-not-head_ok c =
-    let good = sym (judged-3 c) ∙ c.if-not-head_ok.false in
+    let e = c.read_line-line.ensures in
+    let good = sym (c.head_ok.ensures ∙ ap head_ok c.decode_head-head.ensures) ∙ c.if-not-head_ok.false in
     record {
-      right-3 = right-3 c;
-      onward-3 = onward-3 c;
-      judged-3 = sym (rw (ten-3 c, good));
+      right = right _ _ e;
+      onward = onward _ _ e;
+      judged = sym (rw (ten _ _ e c.if-line-ne-HEAD_LENGTH.false, good));
       decoded = λ h. c.decode_head-head.ensures;
     }

@@ -1,0 +1,11 @@
+-- `search::scanning::applies_in` meets its contract.
+-- A plain rule has no variable to look at, and so applies.
+use mathlib.Core.Path.{sym, ◌∙◌}
+use Rattle.search.proofs.Rests.{applies-plain}
+use Rattle.search.proofs.scanning.applies_in.Goals as goal
+
+pub returns-then-has : goal.returns-then-has
+returns-then-has c =
+    let a = c.args in
+    let plain = sym c.has.ensures ∙ c.if-has.true in
+    sym (applies-plain c.requires.2 a.r a.word plain c.requires.1)
