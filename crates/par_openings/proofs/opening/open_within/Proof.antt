@@ -122,7 +122,8 @@ module _ (c : tie.After-read-text) where
   -- what the reader leaves of lines in a room
   abbrev left-of : List (List ℕ) → ℕ → Outcome ℕ
   left-of ls room =
-      guarded (verdict (read_conditions ls room)) out (outcome (told (length (block_of ls))) (at_front (block_of ls) out))
+      guarded (verdict (read_conditions ls room)) out
+      (outcome (told (length (block_of ls))) (at_front (block_of ls) out))
 
   abbrev due : Outcome ℕ
   due = left-of (exercise_lines (lines_of (input start))) block_room
