@@ -124,14 +124,16 @@ returns c =
     let paid = c.cost_word.ensures in
     let closed = or-false _ _ (sym c.is_open.ensures ∙ c.if-is_open.false) in
     let few = ltb-false 2 (map_count a.changes.now) closed.0 in
-    let under = leb-false mark (threshold a.run.now) closed.1 in (
+    let under = leb-false mark (threshold a.run.now) closed.1 in
+    let low : c.entry_sum-first.result ≤ threshold a.run.now = c.if-run-first.false in
+    let sum = c.entry_sum-first.ensures.0 in (
       elim c.if-map_count-gt1.branch [
         | then-map_count-gt1+else-run-second w ↦
-            two-within k _ _ paid a.table.now a.ranks under (omega (arith, c.if-run-first.false, c.entry_sum-first.ensures.0)) few
+            two-within k _ _ paid a.table.now a.ranks under (omega (arith, low, sum)) few
             (omega (arith, c.map_count.ensures, w.if-map_count-gt1.true))
             (omega (arith, w.entry_sum-second.ensures.0, w.if-run-second.false))
         | else-map_count-gt1 w ↦
-            one-within k _ _ paid a.table.now a.ranks under (omega (arith, c.if-run-first.false, c.entry_sum-first.ensures.0))
+            one-within k _ _ paid a.table.now a.ranks under (omega (arith, low, sum))
             (omega (arith, c.map_count.ensures, w.if-map_count-gt1.false))
       ],
       refl,
