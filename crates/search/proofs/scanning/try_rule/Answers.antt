@@ -47,8 +47,9 @@ tested :
     on_path a.run.now a.depth (step_word a.code.now a.rule (state_at a.run.now a.depth)) ≡ c.on_path.result)
 tested c =
     let a = c.args in
+    let kept = same (goal.at.After-on_path c).Else-not-judge in
     ap (on_path a.run.now a.depth) (sym c.step_word-child.ensures)
-    ∙ ap (λ (run : List ℕ). on_path run a.depth c.step_word-child.result) (sym (same (goal.at.After-on_path c).Else-not-judge))
+    ∙ ap (λ (run : List ℕ). on_path run a.depth c.step_word-child.result) (sym kept)
     ∙ sym c.on_path.ensures
 
 pub applies_in-requires : goal.applies_in-requires
