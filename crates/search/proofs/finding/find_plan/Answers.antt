@@ -23,7 +23,8 @@ use Rattle.search.proofs.Runs.{begun-start, run-search, answers-found, answers-n
 use Rattle.search.proofs.StateWords.{word-ranks-low}
 use Rattle.search.specs.contracts.running.Ending.{the_type}
 use Rattle.search.proofs.finding.find_plan.Goals as goal
-use Rattle.search.proofs.finding.find_plan.Goals.{After-run-1, After-slice_known-in-Found-1, After-write_plan-arg-1, In_default}
+use Rattle.search.proofs.finding.find_plan.Goals.{After-run-1, After-slice_known-in-Found-1, After-write_plan-arg-1}
+use Rattle.search.proofs.finding.find_plan.Goals.{In_default}
 
 pub begin-run-requires : goal.begin-run-requires
 begin-run-requires c = let p = c.requires in (p.0.compiled.valid, p.1, p.2)
@@ -77,7 +78,8 @@ RatesBy c h = let a = c.args in Rates a.block.now a.changes.now a.entries.now h
 abbrev answer : (c : After-slice_known-in-Found-1) → (h : List ℕ → Estimate) (rates : (RatesBy c) h) → Answer
 answer c h rates = search_from c.args.block.now h c.args.start.now c.args.limits
 
-told : (c : After-slice_known-in-Found-1) → (h : List ℕ → Estimate) (rates : (RatesBy c) h) → answer_in (left c) c.run_rounds-ending.result ≡ ((answer c) h rates)
+told : (c : After-slice_known-in-Found-1) → (h : List ℕ → Estimate) (rates : (RatesBy c) h)
+    → answer_in (left c) c.run_rounds-ending.result ≡ ((answer c) h rates)
 told c h rates =
     let a = c.args in
     let p = c.requires in
@@ -90,11 +92,13 @@ told c h rates =
     (ap figure_of (first-exact 0 f.result 0 _ (omega arith) f.ensures) ∙ entry-figure 0 _ (omega arith)
     ∙ ap (λ (k : ℕ). plus 0 (entry_estimate (rated k))) (begun-2 c).ranked)
 
-keeps : (c : After-slice_known-in-Found-1) → (h : List ℕ → Estimate) (rates : (RatesBy c) h) → promises.SearchKept c.args.block.now h c.args.start.now c.args.limits ((answer c) h rates)
+keeps : (c : After-slice_known-in-Found-1) → (h : List ℕ → Estimate) (rates : (RatesBy c) h)
+    → promises.SearchKept c.args.block.now h c.args.start.now c.args.limits ((answer c) h rates)
 keeps c h rates = kept c.requires.0.compiled.valid rates.passing _ _ c.requires.1
 
 -- the goal told is that of the answer's plan
-goal_told : (c : After-slice_known-in-Found-1) → (h : List ℕ → Estimate) (rates : (RatesBy c) h) → ending_goal c.run_rounds-ending.result ≡ plan_goal c.args.block.now c.args.start.now ((answer c) h rates)
+goal_told : (c : After-slice_known-in-Found-1) → (h : List ℕ → Estimate) (rates : (RatesBy c) h)
+    → ending_goal c.run_rounds-ending.result ≡ plan_goal c.args.block.now c.args.start.now ((answer c) h rates)
 goal_told c h rates =
     let p = c.requires in
     c.run_rounds-ending.ensures.2 ∙ ap (answer_goal c.args.code.now _) ((told c) h rates)
@@ -132,7 +136,8 @@ RatesBy-2 c h = let a = c.args in Rates a.block.now a.changes.now a.entries.now 
 abbrev answer-2 : (c : In_default) → (h : List ℕ → Estimate) (rates : (RatesBy-2 c) h) → Answer
 answer-2 c h rates = search_from c.args.block.now h c.args.start.now c.args.limits
 
-told-2 : (c : In_default) → (h : List ℕ → Estimate) (rates : (RatesBy-2 c) h) → answer_in (left-2 c) c.run_rounds-ending.result ≡ ((answer-2 c) h rates)
+told-2 : (c : In_default) → (h : List ℕ → Estimate) (rates : (RatesBy-2 c) h)
+    → answer_in (left-2 c) c.run_rounds-ending.result ≡ ((answer-2 c) h rates)
 told-2 c h rates =
     let a = c.args in
     let p = c.requires in
@@ -145,11 +150,13 @@ told-2 c h rates =
     (ap figure_of (first-exact 0 f.result 0 _ (omega arith) f.ensures) ∙ entry-figure 0 _ (omega arith)
     ∙ ap (λ (k : ℕ). plus 0 (entry_estimate (rated k))) (begun-3 c).ranked)
 
-keeps-2 : (c : In_default) → (h : List ℕ → Estimate) (rates : (RatesBy-2 c) h) → promises.SearchKept c.args.block.now h c.args.start.now c.args.limits ((answer-2 c) h rates)
+keeps-2 : (c : In_default) → (h : List ℕ → Estimate) (rates : (RatesBy-2 c) h)
+    → promises.SearchKept c.args.block.now h c.args.start.now c.args.limits ((answer-2 c) h rates)
 keeps-2 c h rates = kept c.requires.0.compiled.valid rates.passing _ _ c.requires.1
 
 -- the goal told is that of the answer's plan
-goal_told-2 : (c : In_default) → (h : List ℕ → Estimate) (rates : (RatesBy-2 c) h) → ending_goal c.run_rounds-ending.result ≡ plan_goal c.args.block.now c.args.start.now ((answer-2 c) h rates)
+goal_told-2 : (c : In_default) → (h : List ℕ → Estimate) (rates : (RatesBy-2 c) h)
+    → ending_goal c.run_rounds-ending.result ≡ plan_goal c.args.block.now c.args.start.now ((answer-2 c) h rates)
 goal_told-2 c h rates =
     let p = c.requires in
     c.run_rounds-ending.ensures.2 ∙ ap (answer_goal c.args.code.now _) ((told-2 c) h rates)
