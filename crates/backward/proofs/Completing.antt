@@ -78,7 +78,8 @@ module _
     (choices : List ℕ → ℕ → Choice) (n i : ℕ) (e d u : List ℕ) (x : ℕ) (le : i < length e)
     (front : List ℕ) (made : front ≡ at_front (take i e) d) (lf : i < length front) where
   pub raise-made :
-      x ≡ raised_of (choices e i) (get_or e i 0) → Completed choices n (i + 1) (set front i x) u → Raised choices n i e u
+      x ≡ raised_of (choices e i) (get_or e i 0) → Completed choices n (i + 1) (set front i x) u
+      → Raised choices n i e u
   raise-made r f =
       record {
         before = λ k l.

@@ -15,7 +15,8 @@ use Rattle.blocks.specs.Layout.{positions, rules}
 use Rattle.blocks.specs.Validity.{block_conditions}
 use Rattle.blocks.proofs.Accepted.{accepted-valid}
 use Rattle.blocks.proofs.StateLaws.{state-length}
-use Rattle.backward.specs.Predecessors.{Earlier, NextState, found, none_further, is_found, written_out, step_back, NextPredecessor}
+use Rattle.backward.specs.Predecessors.{Earlier, NextState, found, none_further, is_found, written_out, step_back}
+use Rattle.backward.specs.Predecessors.{NextPredecessor}
 use Rattle.backward.specs.Reversible.{reversible}
 use Rattle.backward.proofs.NextState.{found-next, none-none}
 use Rattle.backward.proofs.OneToOne.{reversible-one, reversible_exactly}

@@ -1,6 +1,6 @@
 -- Where a session stands that prints lines one after the other: `Standing`. What is printed stands at the front of the
--- buffer; one line more is printed behind it (`one_more`), and at the end all lines are (`all-printed`). What is written
--- is known by another name (`written_as`).
+-- buffer; one line more is printed behind it (`one_more`), and at the end all lines are (`all-printed`). What is
+-- written is known by another name (`written_as`).
 -- `Printing` says of the writer too that it got what is printed, unless a write failed: the part of the buffer that is
 -- handed to it is the line that was written there (`part-printed`), one line more is got behind the others
 -- (`prints-more`), and at the end all lines are (`got-all`).

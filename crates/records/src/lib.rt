@@ -1,4 +1,6 @@
 // Records: a query as bytes, the search that it asks for, and the bytes that answer it.
+#![tactic(auto)]
+
 mod answering;
 mod asking;
 mod numbers;

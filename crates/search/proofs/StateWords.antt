@@ -33,7 +33,8 @@ module _ {b code changes : List ℕ} (k : Prepared b code changes) where
   -- the ranks that a rule leads to are those of the word it makes
   pub ranks-after :
       (r w : ℕ) → r < rules b → StateWord b w → applies_word code r w ≡ true
-      → next_ranks changes r (ranks_word changes (positions b) w) w ≡ ranks_word changes (positions b) (step_word code r w)
+      → next_ranks changes r (ranks_word changes (positions b) w) w
+      ≡ ranks_word changes (positions b) (step_word code r w)
   ranks-after r w l g can =
       k.changed.next r w l g.state (sym (applies-word k.compiled r w l) ∙ can)
       ∙ ap (ranks_of changes (positions b)) (sym (step-word k.compiled r w l g.small))

@@ -1,4 +1,6 @@
 // The public call that searches for a plan; and what turns back the tables that a search is lent.
+#![tactic(auto)]
+
 mod searching;
 
 pub use queries::Limits;

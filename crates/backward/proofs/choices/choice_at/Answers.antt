@@ -8,7 +8,8 @@ use Rattle.blocks.specs.declared.terms.Term.{Term}
 use Rattle.backward.specs.Choices.{term_choice, choices_at}
 use Rattle.backward.proofs.ChoiceCases.{choice-kept, choice-term}
 use Rattle.backward.proofs.choices.choice_at.Goals as goal
-use Rattle.backward.proofs.choices.choice_at.Goals.{After-shared_slice_known-then-is_dash-1, After-variable_choice, In-Dash, In-Label, In-Refused}
+use Rattle.backward.proofs.choices.choice_at.Goals.{After-shared_slice_known-then-is_dash-1, After-variable_choice}
+use Rattle.backward.proofs.choices.choice_at.Goals.{In-Dash, In-Label, In-Refused}
 
 -- the sides of the rule
 abbrev left-of : After-shared_slice_known-then-is_dash-1 → ℕ → ℕ

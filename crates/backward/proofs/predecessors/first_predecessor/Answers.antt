@@ -8,7 +8,8 @@ use lib.Seq.{length-take-le}
 use Rattle.blocks.specs.Layout.{positions}
 use Rattle.blocks.proofs.StateLaws.{state-length}
 use Rattle.backward.proofs.predecessors.first_predecessor.Goals as goal
-use Rattle.backward.proofs.predecessors.first_predecessor.Goals.{After-candidate-1, After-first_in-arg-1, After-slice_known-1}
+use Rattle.backward.proofs.predecessors.first_predecessor.Goals.{After-candidate-1, After-first_in-arg-1}
+use Rattle.backward.proofs.predecessors.first_predecessor.Goals.{After-slice_known-1}
 
 -- the state has n labels
 long : (c : After-slice_known-1) → length c.args.state.now ≡ positions c.args.block.now

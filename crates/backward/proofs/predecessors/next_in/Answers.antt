@@ -13,7 +13,8 @@ use Rattle.backward.specs.Choices.{choices_at, raisable_at}
 use Rattle.backward.specs.Predecessors.{NextState, Answered}
 use Rattle.backward.proofs.Candidates.{next-settles, next-none}
 use Rattle.backward.proofs.predecessors.next_in.Goals as goal
-use Rattle.backward.proofs.predecessors.next_in.Goals.{After-raise-arg-1, After-right_at-right, After-settle-arg-1, After-slice_known-4-1}
+use Rattle.backward.proofs.predecessors.next_in.Goals.{After-raise-arg-1, After-right_at-right, After-settle-arg-1}
+use Rattle.backward.proofs.predecessors.next_in.Goals.{After-slice_known-4-1}
 
 -- the state has n labels
 long : (c : After-right_at-right) → length c.args.state.now ≡ positions c.args.block.now

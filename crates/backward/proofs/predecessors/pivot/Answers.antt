@@ -12,7 +12,8 @@ use Rattle.backward.specs.Choices.{choices_at, rises_of, keeps_of, raisable_at}
 use Rattle.backward.specs.declared.choices.Choice.{Choice}
 use Rattle.backward.proofs.Completing.{rises-last, stays-last, keeps-more, stop-last}
 use Rattle.backward.proofs.predecessors.pivot.Goals as goal
-use Rattle.backward.proofs.predecessors.pivot.Goals.{After-loop-i, Else-not-keeps, Then-not-keeps, then-rises, else-rises}
+use Rattle.backward.proofs.predecessors.pivot.Goals.{After-loop-i, Else-not-keeps, Then-not-keeps, then-rises}
+use Rattle.backward.proofs.predecessors.pivot.Goals.{else-rises}
 
 pub loop-i-init : goal.loop-i-init
 loop-i-init c = (search rules, search rules, refl, refl)
@@ -52,8 +53,10 @@ best-last c =
     let count = label_count c.args.block.now in
     let l = c.loop-i in
     elim c.if-rises.branch [
-      then-rises w ↦ w.best-is ∙ rises-last count (choices-of c) e l.i l.invariant.2 (sym (rises-as c) ∙ w.if-rises.true)
-    | else-rises w ↦ w.best-is ∙ stays-last count (choices-of c) e l.i l.best (sym (rises-as c) ∙ w.if-rises.false) l.invariant.3
+      | then-rises w ↦ w.best-is
+          ∙ rises-last count (choices-of c) e l.i l.invariant.2 (sym (rises-as c) ∙ w.if-rises.true)
+      | else-rises w ↦ w.best-is
+          ∙ stays-last count (choices-of c) e l.i l.best (sym (rises-as c) ∙ w.if-rises.false) l.invariant.3
     ]
 
 pub returns-then-not-keeps : goal.returns-then-not-keeps
@@ -99,8 +102,10 @@ best-last-2 c =
     let count = label_count c.args.block.now in
     let l = c.loop-i in
     elim c.if-rises.branch [
-      then-rises w ↦ w.best-is ∙ rises-last count (choices-of-2 c) e l.i l.invariant.2 (sym (rises-as-2 c) ∙ w.if-rises.true)
-    | else-rises w ↦ w.best-is ∙ stays-last count (choices-of-2 c) e l.i l.best (sym (rises-as-2 c) ∙ w.if-rises.false) l.invariant.3
+      | then-rises w ↦ w.best-is
+          ∙ rises-last count (choices-of-2 c) e l.i l.invariant.2 (sym (rises-as-2 c) ∙ w.if-rises.true)
+      | else-rises w ↦ w.best-is
+          ∙ stays-last count (choices-of-2 c) e l.i l.best (sym (rises-as-2 c) ∙ w.if-rises.false) l.invariant.3
     ]
 
 pub loop-i-preserved : goal.loop-i-preserved

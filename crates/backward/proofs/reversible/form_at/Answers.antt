@@ -34,7 +34,8 @@ right_of_here-2 c = side_at c.args.block.now c.args.right
 left-term :
     (c : In-Label) {term : Term} → c.decode-term.result ≡ term
     →
-    kept_term c.args.n (left-of-2 c) (right_of_here-2 c) term ≡ form_at c.args.n (left-of-2 c) (right_of_here-2 c) c.args.i
+    kept_term c.args.n (left-of-2 c) (right_of_here-2 c) term
+    ≡ form_at c.args.n (left-of-2 c) (right_of_here-2 c) c.args.i
 left-term c e =
     ap (kept_term c.args.n (left-of-2 c) (right_of_here-2 c)) (sym e ∙ c.decode-term.ensures)
     ∙ sym (form-term c.args.n (left-of-2 c) (right_of_here-2 c) c.args.i
@@ -54,7 +55,8 @@ right_of_here-3 c = side_at c.args.block.now c.args.right
 left-term-2 :
     (c : After-first_shown) {term : Term} → c.decode-term.result ≡ term
     →
-    kept_term c.args.n (left-of-3 c) (right_of_here-3 c) term ≡ form_at c.args.n (left-of-3 c) (right_of_here-3 c) c.args.i
+    kept_term c.args.n (left-of-3 c) (right_of_here-3 c) term
+    ≡ form_at c.args.n (left-of-3 c) (right_of_here-3 c) c.args.i
 left-term-2 c e =
     ap (kept_term c.args.n (left-of-3 c) (right_of_here-3 c)) (sym e ∙ c.decode-term.ensures)
     ∙ sym (form-term c.args.n (left-of-3 c) (right_of_here-3 c) c.args.i
@@ -77,7 +79,8 @@ right_of_here-4 c = side_at c.args.block.now c.args.right
 left-term-3 :
     (c : In-Dash) {term : Term} → c.decode-term.result ≡ term
     →
-    kept_term c.args.n (left-of-4 c) (right_of_here-4 c) term ≡ form_at c.args.n (left-of-4 c) (right_of_here-4 c) c.args.i
+    kept_term c.args.n (left-of-4 c) (right_of_here-4 c) term
+    ≡ form_at c.args.n (left-of-4 c) (right_of_here-4 c) c.args.i
 left-term-3 c e =
     ap (kept_term c.args.n (left-of-4 c) (right_of_here-4 c)) (sym e ∙ c.decode-term.ensures)
     ∙ sym (form-term c.args.n (left-of-4 c) (right_of_here-4 c) c.args.i
@@ -97,7 +100,8 @@ right_of_here-5 c = side_at c.args.block.now c.args.right
 left-term-4 :
     (c : In-Refused) {term : Term} → c.decode-term.result ≡ term
     →
-    kept_term c.args.n (left-of-5 c) (right_of_here-5 c) term ≡ form_at c.args.n (left-of-5 c) (right_of_here-5 c) c.args.i
+    kept_term c.args.n (left-of-5 c) (right_of_here-5 c) term
+    ≡ form_at c.args.n (left-of-5 c) (right_of_here-5 c) c.args.i
 left-term-4 c e =
     ap (kept_term c.args.n (left-of-5 c) (right_of_here-5 c)) (sym e ∙ c.decode-term.ensures)
     ∙ sym (form-term c.args.n (left-of-5 c) (right_of_here-5 c) c.args.i

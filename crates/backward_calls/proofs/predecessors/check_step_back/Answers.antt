@@ -17,7 +17,9 @@ use Rattle.psvn_calls.specs.Checking.{state_conditions}
 use Rattle.backward_calls.specs.Predecessors.{step_back_conditions}
 use Rattle.psvn_calls.proofs.Conditions.{state-accepted}
 use Rattle.backward_calls.proofs.predecessors.check_step_back.Goals as goal
-use Rattle.backward_calls.proofs.predecessors.check_step_back.Goals.{Else-not-state_ok, Else-room-positions, Else-rules-rule, In_default, Then-not-state_ok, Then-room-positions, Then-rules-rule}
+use Rattle.backward_calls.proofs.predecessors.check_step_back.Goals.{Else-not-state_ok, Else-room-positions}
+use Rattle.backward_calls.proofs.predecessors.check_step_back.Goals.{Else-rules-rule, In_default, Then-not-state_ok}
+use Rattle.backward_calls.proofs.predecessors.check_step_back.Goals.{Then-room-positions, Then-rules-rule}
 
 pub returns-in-Refused : goal.returns-in-Refused
 unfolding step_back_conditions

@@ -14,7 +14,9 @@ use Rattle.backward_calls.specs.Predecessors.{step_back_conditions, step_back_fr
 use Rattle.backward_calls.proofs.Conditions.{first-conditions, step-back-accepted}
 use Rattle.backward_calls.proofs.Promises.{predecessor-kept}
 use Rattle.backward_calls.proofs.predecessors.first_predecessor.Goals as goal
-use Rattle.backward_calls.proofs.predecessors.first_predecessor.Goals.{After-first_predecessor-arg-1, Else-first_predecessor, In-Refused, Then-first_predecessor}
+use Rattle.backward_calls.proofs.predecessors.first_predecessor.Goals.{After-first_predecessor-arg-1}
+use Rattle.backward_calls.proofs.predecessors.first_predecessor.Goals.{Else-first_predecessor, In-Refused}
+use Rattle.backward_calls.proofs.predecessors.first_predecessor.Goals.{Then-first_predecessor}
 
 abbrev next : In-Refused → NextState
 next c = step_back c.args.block.now c.args.rule c.args.state.now from_first
@@ -116,7 +118,8 @@ Promised-2 c answer out' =
     let a = c.args in
     PredecessorKept a.block.now a.rule a.state.now from_first answer out'
 
-kept-2 : (c : Then-first_predecessor) (answer : Answer Bool) (out' : List ℕ) → Gives-2 c answer out' → Promised-2 c answer out'
+kept-2 : (c : Then-first_predecessor) (answer : Answer Bool) (out' : List ℕ) → Gives-2 c answer out'
+    → Promised-2 c answer out'
 kept-2 c answer out' e =
     let a = c.args in
     predecessor-kept a.block.now a.rule a.state.now from_first a.out.now e
@@ -160,7 +163,8 @@ told-by c answer out h =
 pub returns-then-first_predecessor : goal.returns-then-first_predecessor
 returns-then-first_predecessor c =
     let e = c.first_predecessor.ensures in
-    let told = told-by c _ _ (sym c.if-first_predecessor.true ∙ e.0, e.1) in record { out_after = told.0; predecessor_kept = told.1 }
+    let told = told-by c _ _ (sym c.if-first_predecessor.true ∙ e.0, e.1) in
+    record { out_after = told.0; predecessor_kept = told.1 }
 
 abbrev next-3 : Else-first_predecessor → NextState
 next-3 c = step_back c.args.block.now c.args.rule c.args.state.now from_first
@@ -181,7 +185,8 @@ Promised-3 c answer out' =
     let a = c.args in
     PredecessorKept a.block.now a.rule a.state.now from_first answer out'
 
-kept-3 : (c : Else-first_predecessor) (answer : Answer Bool) (out' : List ℕ) → Gives-3 c answer out' → Promised-3 c answer out'
+kept-3 : (c : Else-first_predecessor) (answer : Answer Bool) (out' : List ℕ) → Gives-3 c answer out'
+    → Promised-3 c answer out'
 kept-3 c answer out' e =
     let a = c.args in
     predecessor-kept a.block.now a.rule a.state.now from_first a.out.now e
@@ -225,4 +230,5 @@ told-by-2 c answer out h =
 pub returns : goal.returns
 returns c =
     let e = c.first_predecessor.ensures in
-    let told = told-by-2 c _ _ (sym c.if-first_predecessor.false ∙ e.0, e.1) in record { out_after = told.0; predecessor_kept = told.1 }
+    let told = told-by-2 c _ _ (sym c.if-first_predecessor.false ∙ e.0, e.1) in
+    record { out_after = told.0; predecessor_kept = told.1 }

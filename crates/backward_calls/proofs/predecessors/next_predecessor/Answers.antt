@@ -13,7 +13,9 @@ use Rattle.backward_calls.specs.Predecessors.{step_back_conditions, step_back_fr
 use Rattle.backward_calls.proofs.Conditions.{step-back-accepted}
 use Rattle.backward_calls.proofs.Promises.{predecessor-kept}
 use Rattle.backward_calls.proofs.predecessors.next_predecessor.Goals as goal
-use Rattle.backward_calls.proofs.predecessors.next_predecessor.Goals.{After-next_predecessor-arg-1, Else-next_predecessor, In-Refused, Then-next_predecessor}
+use Rattle.backward_calls.proofs.predecessors.next_predecessor.Goals.{After-next_predecessor-arg-1}
+use Rattle.backward_calls.proofs.predecessors.next_predecessor.Goals.{Else-next_predecessor, In-Refused}
+use Rattle.backward_calls.proofs.predecessors.next_predecessor.Goals.{Then-next_predecessor}
 
 abbrev next : In-Refused → NextState
 next c = step_back c.args.block.now c.args.rule c.args.state.now (after c.args.earlier.now)
@@ -86,7 +88,8 @@ Promised-2 c answer out' =
     let a = c.args in
     PredecessorKept a.block.now a.rule a.state.now (after a.earlier.now) answer out'
 
-kept-2 : (c : Then-next_predecessor) (answer : Answer Bool) (out' : List ℕ) → Gives-2 c answer out' → Promised-2 c answer out'
+kept-2 : (c : Then-next_predecessor) (answer : Answer Bool) (out' : List ℕ) → Gives-2 c answer out'
+    → Promised-2 c answer out'
 kept-2 c answer out' e =
     let a = c.args in
     predecessor-kept a.block.now a.rule a.state.now (after a.earlier.now) a.out.now e
@@ -117,7 +120,8 @@ told-by c answer out h =
 pub returns-then-next_predecessor : goal.returns-then-next_predecessor
 returns-then-next_predecessor c =
     let e = c.next_predecessor.ensures in
-    let told = told-by c _ _ (sym c.if-next_predecessor.true ∙ e.0, e.1) in record { out_after = told.0; predecessor_kept = told.1 }
+    let told = told-by c _ _ (sym c.if-next_predecessor.true ∙ e.0, e.1) in
+    record { out_after = told.0; predecessor_kept = told.1 }
 
 abbrev next-3 : Else-next_predecessor → NextState
 next-3 c = step_back c.args.block.now c.args.rule c.args.state.now (after c.args.earlier.now)
@@ -138,7 +142,8 @@ Promised-3 c answer out' =
     let a = c.args in
     PredecessorKept a.block.now a.rule a.state.now (after a.earlier.now) answer out'
 
-kept-3 : (c : Else-next_predecessor) (answer : Answer Bool) (out' : List ℕ) → Gives-3 c answer out' → Promised-3 c answer out'
+kept-3 : (c : Else-next_predecessor) (answer : Answer Bool) (out' : List ℕ) → Gives-3 c answer out'
+    → Promised-3 c answer out'
 kept-3 c answer out' e =
     let a = c.args in
     predecessor-kept a.block.now a.rule a.state.now (after a.earlier.now) a.out.now e
@@ -169,4 +174,5 @@ told-by-2 c answer out h =
 pub returns : goal.returns
 returns c =
     let e = c.next_predecessor.ensures in
-    let told = told-by-2 c _ _ (sym c.if-next_predecessor.false ∙ e.0, e.1) in record { out_after = told.0; predecessor_kept = told.1 }
+    let told = told-by-2 c _ _ (sym c.if-next_predecessor.false ∙ e.0, e.1) in
+    record { out_after = told.0; predecessor_kept = told.1 }

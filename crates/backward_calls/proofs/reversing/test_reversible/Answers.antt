@@ -16,7 +16,8 @@ use Rattle.backward.specs.Reversible.{reversible}
 use Rattle.backward_calls.specs.Reversing.{reversible_conditions, test_reversible, ReversibilityKept}
 use Rattle.backward_calls.proofs.Promises.{reversibility-kept}
 use Rattle.backward_calls.proofs.reversing.test_reversible.Goals as goal
-use Rattle.backward_calls.proofs.reversing.test_reversible.Goals.{Else-reversible, Else-rules-rule, In-Refused, In_default, Then-reversible, Then-rules-rule}
+use Rattle.backward_calls.proofs.reversing.test_reversible.Goals.{Else-reversible, Else-rules-rule, In-Refused}
+use Rattle.backward_calls.proofs.reversing.test_reversible.Goals.{In_default, Then-reversible, Then-rules-rule}
 
 abbrev settled : In-Refused → Answer (Unit {0}) → Answer Bool
 settled c verdict = answered verdict (reversible c.args.block.now c.args.rule)
@@ -136,7 +137,8 @@ told-by c t form =
     (e, kept-3 c _ e)
 
 pub returns-then-reversible : goal.returns-then-reversible
-returns-then-reversible c = let told = told-by c _ (sym c.reversible.ensures ∙ c.if-reversible.true) in record { result_value = told.0; reversibility_kept = told.1 }
+returns-then-reversible c = let told = told-by c _ (sym c.reversible.ensures ∙ c.if-reversible.true) in
+    record { result_value = told.0; reversibility_kept = told.1 }
 
 -- an answer that is that of the call keeps the promise
 abbrev Gives-4 : Else-reversible → Answer Bool → Type 0
@@ -181,4 +183,5 @@ told-by-2 c t form =
     (e, kept-4 c _ e)
 
 pub returns : goal.returns
-returns c = let told = told-by-2 c _ (sym c.reversible.ensures ∙ c.if-reversible.false) in record { result_value = told.0; reversibility_kept = told.1 }
+returns c = let told = told-by-2 c _ (sym c.reversible.ensures ∙ c.if-reversible.false) in
+    record { result_value = told.0; reversibility_kept = told.1 }

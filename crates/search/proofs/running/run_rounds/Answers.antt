@@ -15,7 +15,8 @@ round-answer-requires c = (c.loop-threshold.invariant.begun, omega (arith, c.loo
 pub found-requires : goal.found-requires
 found-requires c =
     let small =
-    hit-small c.loop-threshold.invariant c.loop-threshold-test.true (omega arith) c.round-answer.ensures c.if-answer-eq-HIT.true in
+    hit-small c.loop-threshold.invariant c.loop-threshold-test.true (omega arith) c.round-answer.ensures
+    c.if-answer-eq-HIT.true in
     let arrays = c.loop-threshold.invariant.begun.given.ready.compiled in (
       small.0,
       small.1,
@@ -35,7 +36,8 @@ tally_of-tally-requires c = c.round-answer.ensures.begun.visits_small
 pub returns-then-answer-ne-ON : goal.returns-then-answer-ne-ON
 returns-then-answer-ne-ON c =
     rw (ap (λ (x : Tally). x.visits) c.tally_of-tally.ensures)
-    (left-stop c.loop-threshold.invariant c.loop-threshold-test.true (omega arith) c.round-answer.ensures c.if-answer-ne-ON.true
+    (left-stop c.loop-threshold.invariant c.loop-threshold-test.true (omega arith) c.round-answer.ensures
+    c.if-answer-ne-ON.true
     c.if-answer-eq-HIT.false)
 
 pub loop-threshold-smaller : goal.loop-threshold-smaller
@@ -44,13 +46,15 @@ loop-threshold-smaller c =
       arith,
       c.loop-threshold-test.true,
       ap (λ (x : Tally). x.least) c.tally_of-tally.ensures,
-      left-higher c.loop-threshold.invariant c.loop-threshold-test.true (omega arith) c.round-answer.ensures c.if-answer-ne-ON.false,
+      left-higher c.loop-threshold.invariant c.loop-threshold-test.true (omega arith) c.round-answer.ensures
+          c.if-answer-ne-ON.false,
     )
 
 pub loop-threshold-preserved : goal.loop-threshold-preserved
 loop-threshold-preserved c =
     rw (ap (λ (x : Tally). x.least) c.tally_of-tally.ensures)
-    (left-on c.loop-threshold.invariant c.loop-threshold-test.true (omega arith) c.round-answer.ensures c.if-answer-ne-ON.false)
+    (left-on c.loop-threshold.invariant c.loop-threshold-test.true (omega arith) c.round-answer.ensures
+    c.if-answer-ne-ON.false)
 
 pub tally_of-last-requires : goal.tally_of-last-requires
 tally_of-last-requires c = c.loop-threshold.invariant.begun.visits_small

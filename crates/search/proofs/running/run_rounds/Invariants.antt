@@ -7,7 +7,8 @@ use Rattle.search.proofs.running.run_rounds.Given as goal
 
 abbrev pub invariant-loop-threshold : goal.invariant-loop-threshold
 invariant-loop-threshold l =
-    Left l.code l.changes l.table (step_limit l.initial.run) l.cost (allowance l.initial.run) l.first (state_at l.initial.run 0) l.run l.threshold
+    Left l.code l.changes l.table (step_limit l.initial.run) l.cost (allowance l.initial.run) l.first
+    (state_at l.initial.run 0) l.run l.threshold
 
 abbrev pub decreases-loop-threshold : goal.decreases-loop-threshold
 decreases-loop-threshold l = suc l.cost - l.threshold
