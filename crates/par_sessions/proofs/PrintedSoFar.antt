@@ -60,7 +60,8 @@ all-printed s e =
 
 -- what two outcomes allow together
 pub both-ok :
-    {T U E P Q R : Type 0} (a : Result T E) (b : Result U E) → (P → Q → R) → OnOk a P → OnOk b Q → OnOk (result_and a b) R
+    {T U E P Q R : Type 0} (a : Result T E) (b : Result U E) → (P → Q → R) → OnOk a P → OnOk b Q
+    → OnOk (result_and a b) R
 both-ok (Ok x) (Ok y) f p q = f p q
 both-ok (Ok x) (Err e) f p q = tt
 both-ok (Err e) b f p q = tt
@@ -74,43 +75,45 @@ part-printed out new to k n w l =
     ∙ take-append-le n new (post_of to k out) (written-fits w)
     ∙ written-taken w
 
--- the writer held `old-held` at first, and holds `held` now
-pub record Printing {E : Type 0} (all left old out : List ℕ) (to : ℕ) (outcome : Result (Unit {0}) E) (old-held held : Option (List ℕ)) : Type 0 where
+-- what a writer got, where `outcome` tells that no write failed: it held `before` at first, and holds `now`
+pub record Printing {E : Type 0} (all left old out : List ℕ) (to : ℕ) (outcome : Result (Unit {0}) E)
+    (before now : Option (List ℕ)) : Type 0 where
   pub standing : Standing all left old out to
-  pub got : OnOk outcome (Appends old-held held standing.printed)
+  pub got : OnOk outcome (Appends before now standing.printed)
 
--- one line more: it is written behind what is printed, and handed to the writer
-pub prints-more :
-    {E : Type 0} {all lines line left old out new : List ℕ} {to k n next : ℕ} {a b c : Option (List ℕ)}
-    (before now both : Result (Unit {0}) E) → Printing all lines old out to before a b → lines ≡ line ++ left
-    → k ≡ length out - to → Written line (mid_of to k out) n new
-    → next ≡ to + n → OnOk now (Appends b c (take n (drop to (put_mid to k out new))))
-    → both ≡ result_and before now → Printing all left old (put_mid to k out new) next both a c
-unfolding one_more
-prints-more {all = all} {line = line} {left} {old} {out} {new} {to} {k} {n} {a = a} {b} {c} before now both p e f w g q h =
-    let s = subst (λ (u : List ℕ). Printing all u old out to before a b) e p in
-    let got = subst (λ (u : List ℕ). OnOk now (Appends b c u)) (part-printed out new to k n w (written-fits s.standing.written)) q in
-    subst
-    (λ (at : ℕ). Printing all left old (put_mid to k out new) at both a c)
-    (sym g)
-    (subst
-    (λ (r : Result (Unit {0}) _). Printing all left old (put_mid to k out new) (to + n) r a c)
-    (sym h)
-    (record {
-      standing = one_more all line left old out to s.standing k n new f w;
-      got = both-ok before now (Appends-trans a b c s.standing.printed line) s.got got;
-    }))
+module _ {E : Type 0} {all lines line left old out new : List ℕ} {to k n next : ℕ} {a b c : Option (List ℕ)} where
+  -- one line more: it is written behind what is printed, and handed to the writer
+  pub prints-more :
+      (before now both : Result (Unit {0}) E) → Printing all lines old out to before a b → lines ≡ line ++ left
+      → k ≡ length out - to → Written line (mid_of to k out) n new → next ≡ to + n
+      → OnOk now (Appends b c (take n (drop to (put_mid to k out new)))) → both ≡ result_and before now
+      → Printing all left old (put_mid to k out new) next both a c
+  unfolding one_more
+  prints-more before now both p e f w g q h =
+      let s = subst (λ (u : List ℕ). Printing all u old out to before a b) e p in
+      let part = part-printed out new to k n w (written-fits s.standing.written) in
+      let got = subst (λ (u : List ℕ). OnOk now (Appends b c u)) part q in
+      subst
+      (λ (at : ℕ). Printing all left old (put_mid to k out new) at both a c)
+      (sym g)
+      (subst
+      (λ (r : Result (Unit {0}) E). Printing all left old (put_mid to k out new) (to + n) r a c)
+      (sym h)
+      (record {
+        standing = one_more all line left old out to s.standing k n new f w;
+        got = both-ok before now (Appends-trans a b c s.standing.printed line) s.got got;
+      }))
 
 -- bytes that are known by another name
 pub got-as :
-    {T E : Type 0} {bytes same : List ℕ} (r : Result T E) (a b : Option (List ℕ)) → OnOk r (Appends a b bytes) → bytes ≡ same
-    → OnOk r (Appends a b same)
+    {T E : Type 0} {bytes same : List ℕ} (r : Result T E) (a b : Option (List ℕ)) → OnOk r (Appends a b bytes)
+    → bytes ≡ same → OnOk r (Appends a b same)
 got-as r a b got e = subst (λ (u : List ℕ). OnOk r (Appends a b u)) e got
 
 -- where nothing is left, the writer got all lines
 pub got-all :
-    {E : Type 0} {all left old out : List ℕ} {to : ℕ} {a b : Option (List ℕ)}
-    (r : Result (Unit {0}) E) → Printing all left old out to r a b → left ≡ [] → OnOk r (Appends a b all)
+    {E : Type 0} {all left old out : List ℕ} {to : ℕ} {a b : Option (List ℕ)} (r : Result (Unit {0}) E)
+    → Printing all left old out to r a b → left ≡ [] → OnOk r (Appends a b all)
 got-all {a = a} {b} r p e =
     let s = p.standing in
     got-as r a b p.got

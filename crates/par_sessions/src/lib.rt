@@ -39,8 +39,8 @@ pub type InputBuffer = [u8; INPUT_ROOM];
 
 pub type OutputBuffer = [u8; OUTPUT_ROOM];
 
-// How many bytes of input a session read, how many it printed, and the first error of its reads and writes, if there was
-// one: a session goes on all the same.
+// How many bytes of input a session read, how many it printed, and the first error of its reads and writes, if there
+// was one: a session goes on all the same.
 #[derive(Drop)]
 pub struct Session {
     pub read: usize,
@@ -179,8 +179,8 @@ fn answer_input<W: Write + AsRawFd>(writer: &mut W, input: &[u8], output: &mut [
     }
 }
 
-// Runs a session in a buffer that holds every output. Where no read and no write fails, the whole input was read, or one
-// byte more than an input may have, and what the writer got is what `par` prints for it.
+// Runs a session in a buffer that holds every output. Where no read and no write fails, the buffer was filled or the
+// whole input was read, and what the writer got is what `par` prints for it.
 fn run_within<R: Read, W: Write + AsRawFd>(
     reader: &mut R,
     writer: &mut W,
@@ -210,8 +210,8 @@ fn run_within<R: Read, W: Write + AsRawFd>(
     }
 }
 
-// Reads an input from standard input, and prints what `par` prints for it to standard output. Both stay at the fronts of
-// their buffers.
+// Reads an input from standard input, and prints what `par` prints for it to standard output. Both stay at the fronts
+// of their buffers.
 pub fn run_session(rt: &HostRuntime, input: &mut InputBuffer, output: &mut OutputBuffer) -> Session
     ensures written { Written (par_output (take result.read input.new)) output.old result.printed
         output.new }
