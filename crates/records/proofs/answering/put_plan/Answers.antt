@@ -6,7 +6,6 @@ use Prim.Native.Nat.{ℕ, ◌+◌, ◌-◌, ◌≤◌}
 use native.Mathlib.Omega.{arith}
 use lib.ListN.{length, take, drop, length-drop}
 use lib.Seq.{length-take-le}
-use borrow.Author.Rules.{rules}
 use borrow.Rule.Slice.PartMut.{mid_of, put_mid, same_len_mid}
 use Rattle.records.specs.Records.{plan_front, Written}
 use Rattle.records.proofs.RecordLaws.{written_behind}
@@ -27,7 +26,7 @@ behind-length c = length-take-le (behind c) (drop 9 (fronted c)) (omega (arith, 
 
 pub copy-requires : goal.copy-requires
 copy-requires c = (
-  omega (arith, c.copy-arg-1.given.0, c.requires.0),
+  omega (arith, c.requires.0),
   omega (arith, behind-length c, roomy c, c.requires.0),
 )
 
@@ -51,7 +50,7 @@ rules c = take c.args.plan.steps c.args.rules.now
 steps : (c : After-slice_known-3-1) → (length (rules c) ≡ c.args.plan.steps)
 steps c =
     length-take-le c.args.plan.steps c.args.rules.now
-    (omega (arith, c.copy-arg-1.given.0, c.requires.0))
+    (omega (arith, c.requires.0))
 
 abbrev front : (c : After-slice_known-3-1) → ℕ → List ℕ
 front c steps = let p = c.args.plan in plan_front steps p.cost p.visits

@@ -1,5 +1,5 @@
 -- Each call has a lesser measure; what each branch leaves is by the lemmas of Visits and Rests.
-use Rattle.std.proofs.Common.{◌≡◌, Bool, true, false, ℕ, ◌^◌, ◌≤◌, ◌<◌, List, refl, sym, ap, subst, ◌∙◌, arith}
+use Rattle.std.proofs.Common.{◌≡◌, Bool, ℕ, ◌^◌, ◌<◌, List, refl, sym, ap, subst, ◌∙◌, arith}
 use Rattle.rule_sets.specs.Agreeing.{agreeing}
 use Rattle.words.specs.Code.{position_count, goal_count}
 use Rattle.words.specs.Sides.{meets_word}

@@ -1,6 +1,6 @@
--- Each call has fewer steps left or, with as many, a lesser set of rules; a visit comes before its extensions, and they
--- come before the one that is next. A set is a number below 2 to the power 64, so a step less, at 2 to the power 67,
--- outweighs every set.
+-- Each call has fewer steps left or, with as many, a lesser set of rules; a visit comes before its extensions, and
+-- they come before the one that is next. A set is a number below 2 to the power 64, so a step less, at 2 to the power
+-- 67, outweighs every set.
 use Rattle.std.proofs.Common.{◌+◌, ◌*◌, ◌-◌}
 use Rattle.search.specs.Run.{step_limit}
 use Rattle.search.proofs.visiting.+extend_take_up_visit.Given as goal
