@@ -1,7 +1,6 @@
 -- The cases of a position (`Case`, `case`), and what `choice` is in each: `choice-dash`, `choice-label`,
 -- `choice-shown`, `choice-again`, `choice-new`, `choice-other`. It reads of the state begun only what stands before the
--- position (`choice-local`). `Keeping` and `OneToOne` go by these cases, the code of choices by `choice-kept`,
--- `choice-term` and `variable-*`.
+-- position (`choice-local`). `Keeping` and `OneToOne` go by these cases.
 use mathlib.Core.Path.{◌≡◌, refl, sym, ap, ◌∙◌}
 use mathlib.Core.Bool.{Bool, true, false, cond}
 use mathlib.Core.List.{List}
@@ -59,7 +58,8 @@ module _ (n : ℕ) (left right : ℕ → ℕ) (s u : List ℕ) (i : ℕ) where
   choice-kept e = ap (λ (t : Bool). cond t (only (get_or s i 0)) (term_choice n left right s u i (term_of (left i)))) e
 
   pub choice-term :
-      is_dash (term_of (right i)) ≡ false → choice n left right s u i ≡ term_choice n left right s u i (term_of (left i))
+      is_dash (term_of (right i)) ≡ false
+      → choice n left right s u i ≡ term_choice n left right s u i (term_of (left i))
   unfolding choice
   choice-term e = ap (λ (t : Bool). cond t (only (get_or s i 0)) (term_choice n left right s u i (term_of (left i)))) e
 

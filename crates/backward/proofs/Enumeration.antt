@@ -46,7 +46,8 @@ module _ (b : List ℕ) (h : Headed b) (r : ℕ) (s : List ℕ) where
 
   -- each call raises the rank
   call-above :
-      (earlier : Earlier) (k : ℕ) (u : List ℕ) → call b r s earlier k ≡ found u → from_rank b earlier + k ≤ state_rank b u
+      (earlier : Earlier) (k : ℕ) (u : List ℕ) → call b r s earlier k ≡ found u
+      → from_rank b earlier + k ≤ state_rank b u
   call-above earlier zero u e = let a = (found-next b h r s earlier u e).above in omega arith
   call-above earlier (suc k) u e =
       let m = first_found earlier k u e in

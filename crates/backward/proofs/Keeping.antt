@@ -147,7 +147,8 @@ module _
       (i y : ℕ) → i < n → choice n left right s u i ≡ only y → choice n left right s w i ≡ only y
       → get_or u i 0 ≡ get_or w i 0
   alike-only i y l a b =
-      only_keeps y (get_or u i 0) a (keeps i l) ∙ sym (only_keeps y (get_or w i 0) b (leads_keeps n left right s w h i l))
+      only_keeps y (get_or u i 0) a (keeps i l)
+      ∙ sym (only_keeps y (get_or w i 0) b (leads_keeps n left right s w h i l))
 
   pub at-kept : (i : ℕ) → i < n → right i ≡ 255 → get_or u i 0 ≡ get_or w i 0
   at-kept i l e = alike-only i (get_or s i 0) l (choice-dash n left right s u i e) (choice-dash n left right s w i e)
@@ -162,7 +163,8 @@ module _
           (choice-label n left right s w i (eqb-false _ _ e) a)
 
   pub at-shown :
-      (i : ℕ) → i < n → 16 ≤ left i → left i < 32 → some n (shows left right (left i)) ≡ true → get_or u i 0 ≡ get_or w i 0
+      (i : ℕ) → i < n → 16 ≤ left i → left i < 32 → some n (shows left right (left i)) ≡ true
+      → get_or u i 0 ≡ get_or w i 0
   at-shown i l a b d = go (eqb (right i) 255) refl
     where
       go : (t : Bool) → eqb (right i) 255 ≡ t → get_or u i 0 ≡ get_or w i 0
@@ -184,7 +186,8 @@ module _
       go (constant x y) = absurd (omega arith)
       go (shown x y z t) = absurd (true-false t d)
       go (again x y z t e) =
-          only_keeps (get_or u (home n left i l) 0) (get_or u i 0) (choice-again n left right s u i x y z t e) (keeps i l)
+          only_keeps (get_or u (home n left i l) 0) (get_or u i 0) (choice-again n left right s u i x y z t e)
+          (keeps i l)
       go (new x y z t e) =
           let m = home-first n left i l in
           let q : i ≡ home n left i l = omega arith in
@@ -211,7 +214,8 @@ module _
 
   module _ (count : ℕ → ℕ) (proper : Proper n count left right) where
     variable-label :
-        (i : ℕ) → i < n → 16 ≤ right i → right i < 32 → get_or s i 0 ≡ get_or u (first n (λ j. eqb (left j) (right i))) 0
+        (i : ℕ) → i < n → 16 ≤ right i → right i < 32
+        → get_or s i 0 ≡ get_or u (first n (λ j. eqb (left j) (right i))) 0
     variable-label i l a b =
         let f = first n (λ j. eqb (left j) (right i)) in
         let g = bound-stands n count left right proper i l a b in
@@ -276,7 +280,8 @@ module _ (b : List ℕ) (v : Valid b) (r : ℕ) (lr : r < rules b) where
             ∙ side-term b (left_of b r) (left-side b v r lr) i l);
         right_dash = λ i l a. go i a (side-term b (right_of b r) (right_side b v r lr) i l) (view (right_of b r i));
         right_bound = λ i l a c.
-            sym (ap (bound_in (positions b) (left_of b r)) (is-variable (right_of b r i) a c)) ∙ right_bound b v r lr i l;
+            sym (ap (bound_in (positions b) (left_of b r)) (is-variable (right_of b r i) a c))
+            ∙ right_bound b v r lr i l;
       }
     where
       go :

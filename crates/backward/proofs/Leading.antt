@@ -49,7 +49,8 @@ module _ (n : ℕ) (left right : ℕ → ℕ) (u s : List ℕ) where
   unfolding leads_by
   leads-image h i l =
       eqb-true _ _
-      (all-at (λ i. eqb (get_or (rewritten n left right u) i 0) (get_or s i 0)) n (and-true (matches n left u) _ h).1 i l)
+      (all-at (λ i. eqb (get_or (rewritten n left right u) i 0) (get_or s i 0)) n (and-true (matches n left u) _ h).1
+      i l)
 
   leading :
       matches n left u ≡ true → ((i : ℕ) → i < n → get_or (rewritten n left right u) i 0 ≡ get_or s i 0)
