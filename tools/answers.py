@@ -339,12 +339,10 @@ class File:
         sig = re.sub(r"\s+", " ", d[3]).strip()
         sig = sig.split(" : ", 1)[1] if " : " in sig else ""
         m = re.fullmatch(r"(?:\((\w+) : )?" + self.tie + r"\.(" + WORD + r")[^→)]*\)? → " + self.tie + r"\.(" + WORD + r")[^→]*", sig)
-        b = re.fullmatch(re.escape(d[1]) + r" (\w+) =\s+(\w+)((?:\.before)*)\s*", d[4])
+        body = self.inline_accessors(d[4])
+        b = re.fullmatch(re.escape(d[1]) + r" (\w+) =\s+\(*(\w+)((?:\.before|\))*)\s*", body)
         if m and b and b[1] == b[2]:
             return b[3].count(".before")
-        b = re.fullmatch(re.escape(d[1]) + r" (\w+) =\s+\(?(" + WORD + r") (\w+)((?:\.before)*)\)?((?:\.before)*)\s*", d[4])
-        if m and b and b[1] == b[3] and b[2] in self.accessors:
-            return self.accessors[b[2]] + b[4].count(".before") + b[5].count(".before")
         return None
 
     # ---- rewriting terms

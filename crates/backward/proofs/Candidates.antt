@@ -103,14 +103,14 @@ module _ (b : List ℕ) (va : Valid b) (r : ℕ) (lr : r < rules b) (s : List �
 
   module _ (e : List ℕ) (eo : state_ok b e ≡ true) where
     pub raised-candidate :
-        (u : List ℕ) (i : ℕ) → length u ≡ positions b
-        → last (positions b) (raisable_at (label_count b) choices e) ≡ suc i
+        (u : List ℕ) (i : ℕ) → length u ≡ positions b → last (positions b) (raisable_at (label_count b) choices e)
+        ≡ suc i
         → Raised choices (positions b) i e u → Candidate (after e) u
     raised-candidate u i lu h t =
         let n = positions b in
         let be = state-label b e eo in
-        let uo =
-        labelled-intro n (label_count b) u lu (raised_below n (label_count b) choices near small e u i be h t) in
+        let uo = labelled-intro n (label_count b) u lu
+        (raised_below n (label_count b) choices near small e u i be h t) in
         record {
           state = uo;
           keeps = raised_keeps n (label_count b) choices near small e u i be h t;

@@ -58,8 +58,8 @@ module _ (n : ℕ) (left right : ℕ → ℕ) (s u : List ℕ) (i : ℕ) where
   choice-kept e = ap (λ (t : Bool). cond t (only (get_or s i 0)) (term_choice n left right s u i (term_of (left i)))) e
 
   pub choice-term :
-      is_dash (term_of (right i)) ≡ false
-      → choice n left right s u i ≡ term_choice n left right s u i (term_of (left i))
+      is_dash (term_of (right i)) ≡ false → choice n left right s u i
+      ≡ term_choice n left right s u i (term_of (left i))
   unfolding choice
   choice-term e = ap (λ (t : Bool). cond t (only (get_or s i 0)) (term_choice n left right s u i (term_of (left i)))) e
 

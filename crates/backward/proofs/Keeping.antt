@@ -163,8 +163,8 @@ module _
           (choice-label n left right s w i (eqb-false _ _ e) a)
 
   pub at-shown :
-      (i : ℕ) → i < n → 16 ≤ left i → left i < 32 → some n (shows left right (left i)) ≡ true
-      → get_or u i 0 ≡ get_or w i 0
+      (i : ℕ) → i < n → 16 ≤ left i → left i < 32 → some n (shows left right (left i)) ≡ true → get_or u i 0
+      ≡ get_or w i 0
   at-shown i l a b d = go (eqb (right i) 255) refl
     where
       go : (t : Bool) → eqb (right i) 255 ≡ t → get_or u i 0 ≡ get_or w i 0
@@ -214,8 +214,8 @@ module _
 
   module _ (count : ℕ → ℕ) (proper : Proper n count left right) where
     variable-label :
-        (i : ℕ) → i < n → 16 ≤ right i → right i < 32
-        → get_or s i 0 ≡ get_or u (first n (λ j. eqb (left j) (right i))) 0
+        (i : ℕ) → i < n → 16 ≤ right i → right i < 32 → get_or s i 0
+        ≡ get_or u (first n (λ j. eqb (left j) (right i))) 0
     variable-label i l a b =
         let f = first n (λ j. eqb (left j) (right i)) in
         let g = bound-stands n count left right proper i l a b in

@@ -59,8 +59,8 @@ module _ (b : List ℕ) (h : Headed b) (r : ℕ) (s : List ℕ) (earlier : Earli
       (le-leb (from_rank b earlier) (state_rank b v) a) (rw (unrank-state-rank b v ok) l)
 
   -- the answer, by the rank
-  at-rank :
-      (k : ℕ) → next_rank b r s earlier ≡ k → k < state_count b → step_back b r s earlier ≡ found (unrank_state b k)
+  at-rank : (k : ℕ) → next_rank b r s earlier ≡ k → k < state_count b → step_back b r s earlier
+      ≡ found (unrank_state b k)
   unfolding step_back
   at-rank k e l = rw e (rw (lt-ltb k (state_count b) l))
 
@@ -110,8 +110,8 @@ module _ (b : List ℕ) (h : Headed b) (r : ℕ) (s : List ℕ) (earlier : Earli
 
   -- 'found' with the next state, or 'none further' where there is none
   pub answer :
-      ((u : List ℕ) × (step_back b r s earlier ≡ found u) × Next u)
-      ⊎ ((step_back b r s earlier ≡ none_further) × NoNext)
+      ((u : List ℕ) × (step_back b r s earlier ≡ found u) × Next u) ⊎ ((step_back b r s earlier ≡ none_further)
+      × NoNext)
   unfolding next_rank
   answer = go (some (state_count b) counts) refl
     where
@@ -127,8 +127,8 @@ module _ (b : List ℕ) (h : Headed b) (r : ℕ) (s : List ℕ) (earlier : Earli
             at-end (first-none counts (state_count b) e),
             λ v ok l a.
                 true-false
-                (some-intro counts (state_count b) (state_rank b v) (state-rank-below b v ok)
-                (state-counts v ok l a)) e,
+                (some-intro counts (state_count b) (state_rank b v) (state-rank-below b v ok) (state-counts v ok l a))
+                e,
           )
 
   pub found-next : (u : List ℕ) → step_back b r s earlier ≡ found u → Next u

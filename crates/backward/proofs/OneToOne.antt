@@ -15,7 +15,7 @@ use Rattle.basics.specs.Bounded.{all, some, first}
 use Rattle.basics.specs.Lists.{tabulate}
 use Rattle.basics.proofs.Truth.{true-false}
 use Rattle.basics.proofs.Bounded.{all-at, all-fails, some-false}
-use Rattle.basics.proofs.Lists.{length-tabulate, get_d_tabulate, tabulate-ext}
+use Rattle.basics.proofs.Lists.{length-tabulate, get_or-tabulate, tabulate-ext}
 use Rattle.basics.proofs.Lists.{same-list}
 use Rattle.blocks.specs.Terms.{term_of, is_dash}
 use Rattle.blocks.specs.Layout.{positions, labels, rules, label_count, left_of, right_of}
@@ -41,8 +41,8 @@ module _ (n : ℕ) (left right : ℕ → ℕ) (i : ℕ) where
   pub form-kept : is_dash (term_of (right i)) ≡ true → form_at n left right i ≡ true
   form-kept e = ap (λ (t : Bool). t || kept_term n left right (term_of (left i))) e
 
-  pub form-term :
-      is_dash (term_of (right i)) ≡ false → form_at n left right i ≡ kept_term n left right (term_of (left i))
+  pub form-term : is_dash (term_of (right i)) ≡ false → form_at n left right i
+      ≡ kept_term n left right (term_of (left i))
   form-term e = ap (λ (t : Bool). t || kept_term n left right (term_of (left i))) e
 
   form-dash : right i ≡ 255 → form_at n left right i ≡ true
@@ -118,7 +118,7 @@ module _
 
   twin-at : (x k : ℕ) → k < n → get_or (twin n left i x) k 0 ≡ twin_label left i x k
   unfolding twin
-  twin-at x k l = get_d_tabulate n (twin_label left i x) k l
+  twin-at x k l = get_or-tabulate n (twin_label left i x) k l
 
   twin-here : (x : ℕ) → get_or (twin n left i x) i 0 ≡ x
   twin-here x = twin-at x i li ∙ go (ltb (left i) 32) refl

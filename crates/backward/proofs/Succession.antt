@@ -62,8 +62,8 @@ module _
 
   -- positions with the least label: it may stand there, is below the
   -- count, and no list that keeps to the choices has a lower one
-  least_kept :
-      (u : List ℕ) (k : ℕ) → get_or u k 0 ≡ least_of (choices u k) → keeps_of (choices u k) (get_or u k 0) ≡ true
+  least_kept : (u : List ℕ) (k : ℕ) → get_or u k 0 ≡ least_of (choices u k) → keeps_of (choices u k) (get_or u k 0)
+      ≡ true
   least_kept u k e = rw e (least-keeps (choices u k))
 
   least-below :

@@ -10,8 +10,10 @@ use lib.Bits.{bit_or, or_zero_l, or_zero_r, or_shr, or_mod}
 -- of single bits
 bit-assoc : (p q r : ℕ) → p < 2 → q < 2 → r < 2 → bit_or (bit_or p q) r ≡ bit_or p (bit_or q r)
 bit-assoc zero q r a b c = ap (λ (x : ℕ). bit_or x r) (or_zero_l q) ∙ sym (or_zero_l (bit_or q r))
-bit-assoc (suc p) zero r a b c = ap (λ (x : ℕ). bit_or x r) (or_zero_r (suc p)) ∙ ap (bit_or (suc p)) (sym (or_zero_l r))
-bit-assoc (suc p) (suc q) zero a b c = or_zero_r (bit_or (suc p) (suc q)) ∙ ap (bit_or (suc p)) (sym (or_zero_r (suc q)))
+bit-assoc (suc p) zero r a b c = ap (λ (x : ℕ). bit_or x r) (or_zero_r (suc p))
+    ∙ ap (bit_or (suc p)) (sym (or_zero_l r))
+bit-assoc (suc p) (suc q) zero a b c = or_zero_r (bit_or (suc p) (suc q))
+    ∙ ap (bit_or (suc p)) (sym (or_zero_r (suc q)))
 bit-assoc (suc p) (suc q) (suc r) a b c =
     let i : p ≡ 0 = omega arith in
     let j : q ≡ 0 = omega arith in

@@ -1,6 +1,6 @@
--- Laws of `all`, `some`, `first`, `find` and `last`: what they say at each number below the bound, how to show them, and
--- that they go by the test's values alone. The proofs of every scanning loop, of matching and of relabelling rest on
--- these.
+-- Laws of `all`, `some`, `first`, `find` and `last`: what they say at each number below the bound, how to show them,
+-- and that they go by the test's values alone. The proofs of every scanning loop, of matching and of relabelling rest
+-- on these.
 use mathlib.Core.Path.{◌≡◌, refl, sym, ap, ap₂, ◌∙◌}
 use mathlib.Core.Logic.{◌⊎◌, ⊎_elim}
 use mathlib.Core.Bool.{Bool, true, false, cond, not, ◌&&◌, ◌||◌, true≢false}

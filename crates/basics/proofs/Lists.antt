@@ -40,8 +40,8 @@ module _ (n : ℕ) (f : ℕ → ℕ) where
   pub length-tabulate : length (tabulate n f) ≡ n
   length-tabulate = length_from n 0 f
 
-  pub get_d_tabulate : (k : ℕ) → k < n → get_or (tabulate n f) k 0 ≡ f k
-  get_d_tabulate k l = get_or-from n 0 f k l ∙ ap f (zero-add k)
+  pub get_or-tabulate : (k : ℕ) → k < n → get_or (tabulate n f) k 0 ≡ f k
+  get_or-tabulate k l = get_or-from n 0 f k l ∙ ap f (zero-add k)
 
   tabulate-snoc : tabulate (suc n) f ≡ tabulate n f ++ (f n ∷ [])
   tabulate-snoc = snoc-from n 0 f ∙ ap (λ (k : ℕ). tabulate n f ++ (f k ∷ [])) (zero-add n)
@@ -55,7 +55,7 @@ same-list n u v a b h = ext_get_or 0 u v (a ∙ sym b) (λ i l. h i (omega arith
 pub tabulate-ext : (n : ℕ) (f g : ℕ → ℕ) → ((k : ℕ) → k < n → f k ≡ g k) → tabulate n f ≡ tabulate n g
 tabulate-ext n f g h =
     same-list n (tabulate n f) (tabulate n g) (length-tabulate n f) (length-tabulate n g) (λ k l.
-    get_d_tabulate n f k l ∙ h k l ∙ sym (get_d_tabulate n g k l))
+    get_or-tabulate n f k l ∙ h k l ∙ sym (get_or-tabulate n g k l))
 
 -- lists of the lengths g 0, g 1, .. behind one another
 module _ (f : ℕ → List ℕ) (g : ℕ → ℕ) where
@@ -65,11 +65,11 @@ module _ (f : ℕ → List ℕ) (g : ℕ → ℕ) where
       length-append (joined n f) (f n)
       ∙ ap₂ ◌+◌ (length-joined-sum n (λ r l. h r (omega arith))) (h n (omega arith))
 
-  pub getD-joined-sum :
+  pub get_or-joined-sum :
       (n : ℕ) → ((r : ℕ) → r < n → length (f r) ≡ g r)
       → (r k : ℕ) → r < n → k < g r → get_or (joined n f) (sum_to g r + k) 0 ≡ get_or (f r) k 0
-  getD-joined-sum zero h r k l m = absurd (not-suc-le-zero l)
-  getD-joined-sum (suc n) h r k l m =
+  get_or-joined-sum zero h r k l m = absurd (not-suc-le-zero l)
+  get_or-joined-sum (suc n) h r k l m =
       let len = length-joined-sum n (λ r l. h r (omega arith)) in
       ⊎_elim
       (λ e.
@@ -78,7 +78,7 @@ module _ (f : ℕ → List ℕ) (g : ℕ → ℕ) where
       (λ j.
       let a = sum-rises g (suc r) n j in
       get_or-append (joined n f) (f n) 0 (sum_to g r + k) (omega arith)
-      ∙ getD-joined-sum n (λ r l. h r (omega arith)) r k j m)
+      ∙ get_or-joined-sum n (λ r l. h r (omega arith)) r k j m)
       (eq-or-lt_of_le (le_of_suc-le-suc l))
 
 -- lists of one length w behind one another
@@ -86,9 +86,9 @@ module _ (f : ℕ → List ℕ) (w : ℕ) (n : ℕ) (h : (r : ℕ) → r < n →
   pub length-joined : length (joined n f) ≡ n * w
   length-joined = length-joined-sum f (λ r. w) n h ∙ sum_same w n
 
-  pub getD-joined : (r k : ℕ) → r < n → k < w → get_or (joined n f) (r * w + k) 0 ≡ get_or (f r) k 0
-  getD-joined r k l m =
-      ap (λ (i : ℕ). get_or (joined n f) (i + k) 0) (sym (sum_same w r)) ∙ getD-joined-sum f (λ r. w) n h r k l m
+  pub get_or-joined : (r k : ℕ) → r < n → k < w → get_or (joined n f) (r * w + k) 0 ≡ get_or (f r) k 0
+  get_or-joined r k l m =
+      ap (λ (i : ℕ). get_or (joined n f) (i + k) 0) (sym (sum_same w r)) ∙ get_or-joined-sum f (λ r. w) n h r k l m
 
 -- one list more, within all of them
 pub joined-more : (f : ℕ → List ℕ) (r : ℕ) → joined (r + 1) f ≡ joined r f ++ f r

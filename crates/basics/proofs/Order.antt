@@ -44,7 +44,8 @@ module _ (n : ℕ) (u v : List ℕ) where
       equal : (k : ℕ) → differs k ≡ false → get_or u k 0 ≡ get_or v k 0
       equal k h = eqb-true _ _ (not-false _ h)
 
-      go : (t : Bool) → some n differs ≡ t → ((k : ℕ) → k < n → get_or u k 0 ≡ get_or v k 0) ⊎ (Before n u v ⊎ Before n v u)
+      go : (t : Bool) → some n differs ≡ t
+          → ((k : ℕ) → k < n → get_or u k 0 ≡ get_or v k 0) ⊎ (Before n u v ⊎ Before n v u)
       go false e = inl (λ k l. equal k (some-false differs n e k l))
       go true e =
           let h = first_holds differs n e in

@@ -1,7 +1,7 @@
 -- Sets of numbers below 64 as words: the members of the empty set, and that no other has none (`no_member`), of all, of
 -- twice a set, of what two sets share (`member-and`); the lowest member (`lowest-member`, `lowest-in`, `lowest-least`),
--- and the set without it (`without_lowest_lem`, `without_other`, `without-less`). The code that makes sets and goes through
--- them rests on these.
+-- and the set without it (`without_lowest_lem`, `without_other`, `without-less`). The code that makes sets and goes
+-- through them rests on these.
 use mathlib.Core.Path.{◌≡◌, refl, sym, ap, ap₂, ◌∙◌}
 use mathlib.Core.Bool.{Bool, true, false, ◌&&◌}
 use Prim.Native.Nat.{ℕ, zero, suc, ◌-◌, ◌/◌, ◌%◌, ◌^◌, ◌<◌}
@@ -104,7 +104,8 @@ lowest-within (suc k) s p l =
     (λ e. omega (arith, low-even k s e, lowest-within k (s / 2) (omega arith) (half-below k s l)))
     (λ e. omega (arith, low-odd k s e))
 
-pub lowest-in : (k s : ℕ) → 0 < s → s < 2 ^ k → (member s (count_trailing_zeros k s) ≡ true) × (count_trailing_zeros k s < k)
+pub lowest-in : (k s : ℕ) → 0 < s → s < 2 ^ k → (member s (count_trailing_zeros k s) ≡ true)
+    × (count_trailing_zeros k s < k)
 lowest-in k s p l = let h = lowest-within k s p l in (lowest-member k s h, h)
 
 pub lowest-least : (k s j : ℕ) → j < count_trailing_zeros k s → member s j ≡ false
@@ -166,7 +167,8 @@ without_lowest_lem (suc k) s p l =
     by_first s
     (λ e.
     ap (member (bit_and s (s - 1))) (low-even k s e)
-    ∙ member-next (bit_and s (s - 1)) (bit_and (s / 2) (s / 2 - 1)) (count_trailing_zeros k (s / 2)) (without-even s p e)
+    ∙ member-next (bit_and s (s - 1)) (bit_and (s / 2) (s / 2 - 1)) (count_trailing_zeros k (s / 2))
+    (without-even s p e)
     ∙ without_lowest_lem k (s / 2) (omega arith) (half-below k s l))
     (λ e.
     let h : (s - 1) % 2 ≡ 0 = omega arith in

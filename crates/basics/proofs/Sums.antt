@@ -42,7 +42,11 @@ module _ (f : ℕ → ℕ) where
   pub largest-below : (i n x : ℕ) → ((j : ℕ) → i ≤ j → j < i + n → f j ≤ x) → largest_from f i n ≤ x
   largest-below i zero x h = omega arith
   largest-below i (suc n) x h =
-      omega (arith, h i (omega arith) (omega arith), largest-below (suc i) n x (λ j l m. h j (omega arith) (omega arith)))
+      omega (
+        arith,
+        h i (omega arith) (omega arith),
+        largest-below (suc i) n x (λ j l m. h j (omega arith) (omega arith)),
+      )
 
 pub largest-ext :
     (f g : ℕ → ℕ) (i n : ℕ) → ((j : ℕ) → i ≤ j → j < i + n → f j ≡ g j) → largest_from f i n ≡ largest_from g i n

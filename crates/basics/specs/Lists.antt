@@ -1,6 +1,6 @@
 -- Lists made by a function of the index (`tabulate`), lists joined by one (`joined`), a list written over the front of
--- another (`at_front`), lists of bytes (`Bytes`), and sums (`total`). States, relabelled blocks and the contents of lent
--- buffers are stated with these, and the visits of a search are a sum.
+-- another (`at_front`), lists of bytes (`Bytes`), and sums (`total`). States, relabelled blocks and the contents of
+-- lent buffers are stated with these, and the visits of a search are a sum.
 use Rattle.std.specs.Prelude.{ℕ, zero, suc, ◌+◌, ◌≤◌, List, [], ◌∷◌, ◌++◌, length, get_or, drop}
 
 -- f i, f (i + 1), .. : n elements

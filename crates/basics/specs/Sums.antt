@@ -1,6 +1,6 @@
--- Over the numbers f 0, f 1, ..: their sum (`sum_to`), the largest of them (`largest_from`), and several below 65,536 in
--- one number (`packed_from`). What the labels of a state add to its rank, and the entries of a state in several tables,
--- are stated with these.
+-- Over the numbers f 0, f 1, ..: their sum (`sum_to`), the largest of them (`largest_from`), and several below 65,536
+-- in one number (`packed_from`). What the labels of a state add to its rank, and the entries of a state in several
+-- tables, are stated with these.
 use Rattle.std.specs.Prelude.{ℕ, zero, suc, ◌+◌, ◌*◌, max}
 
 -- f 0, f 1, .. together: n numbers

@@ -20,7 +20,8 @@ use Rattle.rounds.specs.Systems.{Estimate}
 use Rattle.rounds.specs.Rounds as rounds
 use Rattle.search.specs.Exercises.{Passes, estimate_of, plan_goal}
 use Rattle.search.proofs.Demand.{tables-passing}
-use Rattle.records.specs.Records.{start_of, limits_of, record_conditions, search_asked, answer_bytes, goal_asked, record_of}
+use Rattle.records.specs.Records.{start_of, limits_of, record_conditions, search_asked, answer_bytes, goal_asked}
+use Rattle.records.specs.Records.{record_of}
 use Rattle.records.specs.Records.{answer_record}
 use Rattle.records.proofs.AnswerMeaning.{answer-means}
 use Rattle.search_calls.specs.Searching.{SearchAnswer, reported, tables_conditions, search_conditions, find_plan}

@@ -1,8 +1,9 @@
--- Many queries in one call (document 02, F-4): `find_plans` is the answer with the final contents of the answer records,
--- for every input, defined record by record (`answers_of`), and `BatchKept` what the call promises: each record is what
--- a single call gives for its query (`call_bytes`), with demand 3. `batch_of` gives the document's answer for each case
--- of the enum, `batch_conditions` turn the call back.
-use Rattle.std.specs.Prelude.{◌≡◌, Bool, ◌&&◌, List, ◌∷◌, ◌++◌, ℕ, ◌*◌, ◌/◌, ◌≤◌, ◌<◌, leb, eqb, length, take, drop, replicate}
+-- Many queries in one call (document 02, F-4): `find_plans` is the answer with the final contents of the answer
+-- records, for every input, defined record by record (`answers_of`), and `BatchKept` what the call promises: each
+-- record is what a single call gives for its query (`call_bytes`), with demand 3. `batch_of` gives the document's
+-- answer for each case of the enum, `batch_conditions` turn the call back.
+use Rattle.std.specs.Prelude.{◌≡◌, Bool, ◌&&◌, List, ◌∷◌, ◌++◌, ℕ, ◌*◌, ◌/◌, ◌≤◌, ◌<◌, leb, eqb, length, take, drop}
+use Rattle.std.specs.Prelude.{replicate}
 use Rattle.basics.specs.Lists.{at_front, joined}
 use Rattle.refusals.specs.Answers.{Answer, refused, told, Condition, ◌unless◌, verdict, Outcome, outcome, guarded}
 use Rattle.refusals.specs.Refusals.{refusal_number}

@@ -14,7 +14,8 @@ use Rattle.refusals.specs.Answers.{told, verdict, ◌unless◌}
 use Rattle.refusals.proofs.Verdicts.{verdict-told, verdict-behind, verdict-parts}
 use Rattle.blocks.specs.Terms.{term_of, term_ok}
 use Rattle.blocks.specs.Layout.{positions, labels, abstracts, rules, goals, label_count, abstract_count}
-use Rattle.blocks.specs.Layout.{abstract_states, head_length, map_byte, map_at, left_of, right_of, goal_of, block_length}
+use Rattle.blocks.specs.Layout.{abstract_states, head_length, map_byte, map_at, left_of, right_of, goal_of}
+use Rattle.blocks.specs.Layout.{block_length}
 use Rattle.blocks.specs.Validity.{within, sizes_ok, head_ok, length_ok, map_ok, side_ok, rule_terms_ok, goal_terms_ok}
 use Rattle.blocks.specs.Validity.{terms_ok, bound_in, rule_bound, bound_ok}
 use Rattle.blocks.specs.Validity.{shape_conditions, content_conditions, block_conditions, Sizes, Headed, Sized, Valid}

@@ -15,9 +15,11 @@ use Rattle.basics.proofs.Bounded.{all-ext, some-ext}
 use Rattle.basics.proofs.Placing.{length-placed, placed-other, placed_at}
 use Rattle.blocks.specs.Terms.{term_of, term_ok}
 use Rattle.blocks.specs.Layout.{positions, labels, abstracts, rules, goals, head_length, head_byte, label_count}
-use Rattle.blocks.specs.Layout.{abstract_states, map_byte, rule_width, rule_at, left_at, right_at, goal_at, block_length}
+use Rattle.blocks.specs.Layout.{abstract_states, map_byte, rule_width, rule_at, left_at, right_at, goal_at}
+use Rattle.blocks.specs.Layout.{block_length}
 use Rattle.blocks.specs.Layout.{cost_of, left_of, right_of, goal_of}
-use Rattle.blocks.specs.Validity.{map_ok, side_ok, rule_terms_ok, goal_terms_ok, terms_ok, bound_in, rule_bound, bound_ok}
+use Rattle.blocks.specs.Validity.{map_ok, side_ok, rule_terms_ok, goal_terms_ok, terms_ok, bound_in, rule_bound}
+use Rattle.blocks.specs.Validity.{bound_ok}
 use Rattle.blocks.specs.Validity.{Sized, Valid}
 use Rattle.blocks.specs.Remapping.{remapped, Alike}
 use Rattle.blocks.specs.declared.terms.Term.{Term}
@@ -109,7 +111,8 @@ module _ (b m : List ℕ) where
   renewed = set b 2 (get_or m 0 0)
 
   remapped-other :
-      (j : ℕ) → (j ≡ 2 → ⊥) → (j < head_length) ⊎ (head_length + labels b ≤ j) → get_or (remapped b m) j 0 ≡ get_or b j 0
+      (j : ℕ) → (j ≡ 2 → ⊥) → (j < head_length) ⊎ (head_length + labels b ≤ j) → get_or (remapped b m) j 0
+      ≡ get_or b j 0
   unfolding remapped
   remapped-other j q o =
       placed-other renewed (λ x. head_length + x) (λ x. get_or m (suc x) 0) (labels b) j

@@ -1,6 +1,6 @@
--- An enum that is known to be one of its cases has the numbers of that case: `as-case`; a refusal's number goes into them
--- as it is: `as_number`. `meant` is the document's answer for each case of the enum, `shown` the numbers of an answer.
--- The proofs of the conversions rest on these.
+-- An enum that is known to be one of its cases has the numbers of that case: `as-case`; a refusal's number goes into
+-- them as it is: `as_number`. `meant` is the document's answer for each case of the enum, `shown` the numbers of an
+-- answer. The proofs of the conversions rest on these.
 use mathlib.Core.Path.{◌≡◌, sym, ap, ◌∙◌}
 use Prim.Native.Nat.{ℕ}
 use Rattle.refusals.specs.Answers.{Answer, refused}

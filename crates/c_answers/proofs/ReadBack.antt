@@ -49,8 +49,10 @@ use Rattle.search_calls.specs.declared.searching.Search.TheVariants as searched
 use Rattle.batch_calls.specs.Batches.{batch_of}
 use Rattle.batch_calls.specs.declared.batches.Batch.{Batch}
 use Rattle.batch_calls.specs.declared.batches.Batch.TheVariants as batch
-use Rattle.c_answers.specs.Numbers.{refusal_of, decision_of, applied_of, goal_numbers_of, length_of, entry_of, replay_numbers_of, search_numbers_of}
-use Rattle.c_answers.specs.Numbers.{told_by, done_told, decision_told, applied_told, goal_told, length_told, entry_told, replay_told, search_told}
+use Rattle.c_answers.specs.Numbers.{refusal_of, decision_of, applied_of, goal_numbers_of, length_of, entry_of}
+use Rattle.c_answers.specs.Numbers.{replay_numbers_of, search_numbers_of}
+use Rattle.c_answers.specs.Numbers.{told_by, done_told, decision_told, applied_told, goal_told, length_told, entry_told}
+use Rattle.c_answers.specs.Numbers.{replay_told, search_told}
 
 -- a refusal is read back as it is, whatever the other members say
 refused-told : {A : Type 0} (a : A) (x : Refusal) → told_by (refusal_number x) a ≡ refused (refusal_number x)

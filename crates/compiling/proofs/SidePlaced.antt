@@ -19,7 +19,8 @@ use Rattle.psvn.specs.Rules.{given, rewritten}
 use Rattle.psvn.specs.TwoParts.{variables_agree}
 use Rattle.words.specs.Packing.{digit, unpack}
 use Rattle.words.specs.Code.{code_length}
-use Rattle.words.specs.Sides.{mask_at, value_at, keep_at, count_at, from_at, to_at, join_moves, rewritten_word, mask_allows}
+use Rattle.words.specs.Sides.{mask_at, value_at, keep_at, count_at, from_at, to_at, join_moves, rewritten_word}
+use Rattle.words.specs.Sides.{mask_allows}
 use Rattle.words.specs.Sides.{variables_word}
 use Rattle.words.specs.Compiled.{Sided, Tested}
 use Rattle.compiling.specs.PlacingSides.{made_by, Begun, SidePlaced, CountsPlaced}

@@ -129,7 +129,8 @@ kept-joined w keep i h =
         ap (bit_and (digit w i)) (joined_at i keep 15 (lit< tt) h) ∙ under_ones (digit w i) (digit_lt w i)
         ∙ sym (joined_at i (bit_and w keep) (digit w i) (digit_lt w i) kept)
 
-    before : (k : ℕ) → k < i → bit_and (digit w k) (digit more k) ≡ digit (bit_or (bit_and w keep) (digit w i * 16 ^ i)) k
+    before : (k : ℕ) → k < i → bit_and (digit w k) (digit more k)
+        ≡ digit (bit_or (bit_and w keep) (digit w i * 16 ^ i)) k
     before k l =
         ap (bit_and (digit w k)) (joined-before i keep 15 (lit< tt) k l) ∙ sym (digit_and w keep k)
         ∙ sym (joined-before i (bit_and w keep) (digit w i) (digit_lt w i) k l)
@@ -326,7 +327,8 @@ module _
     pub kept_more : from ≡ i → Begun n left side (with_kept s i) (i + 1)
     unfolding made_by
     kept_more e =
-        source_more (with_kept s i) (λ w. digit w i) (λ w. ap (λ (k : ℕ). get_or (unpack n w) k 0) e ∙ unpack-at n w i li)
+        source_more (with_kept s i) (λ w. digit w i) (λ w. ap (λ (k : ℕ). get_or (unpack n w) k 0) e
+        ∙ unpack-at n w i li)
         (record {
           made_is = made;
           mask_is = unchanged s.mask i;

@@ -1,5 +1,5 @@
--- `least_costs` is the table of the least costs of lists of any length (`least-costs`): a list that reaches a goal has a
--- shortcut of no more rules than were counted. So it is the one exact table (`least-costs-only`), and it passes the
+-- `least_costs` is the table of the least costs of lists of any length (`least-costs`): a list that reaches a goal has
+-- a shortcut of no more rules than were counted. So it is the one exact table (`least-costs-only`), and it passes the
 -- lower-bound test (`least-costs-pass`). What the fill answers rests on these.
 use mathlib.Core.Path.{◌≡◌}
 use mathlib.Core.Logic.{⊎_elim, inl, inr, ◌≢◌}

@@ -60,7 +60,8 @@ module _ (g : Graph) (t : List ℕ) where
         zero false e = refl
 
         rule :
-            (r : ℕ) → r < g.rules → (x : Bool) → leads_on g u r ≡ x → (y : Bool) → eqb (get_or t (g.step u r) 0) mark ≡ y
+            (r : ℕ) → r < g.rules → (x : Bool) → leads_on g u r ≡ x → (y : Bool) → eqb (get_or t (g.step u r) 0) mark
+            ≡ y
             → (not x || (y || not (eqb (get_or t u 0) mark) && leb (get_or t u 0) (g.cost r + get_or t (g.step u r) 0)))
             ≡ true
         rule r i false d y e = refl

@@ -13,7 +13,7 @@ use lib.ListN.{length, get_or}
 use borrow.Author.Tests.{lt-ltb, ltb-true, eqb-true, eqb-false}
 use Rattle.basics.specs.Marks.{mark}
 use Rattle.basics.proofs.Comparing.{below?}
-use Rattle.basics.proofs.Lists.{length-tabulate, get_d_tabulate}
+use Rattle.basics.proofs.Lists.{length-tabulate, get_or-tabulate}
 use Rattle.distances.specs.Graphs.{Graph, leads_on, reaches, total_cost}
 use Rattle.distances.specs.LeastCosts.{before, by_rule, least_by, least_within}
 use Rattle.distances.specs.Filling.{Cheap}
@@ -61,11 +61,11 @@ module _ (g : Graph) where
   module _ (u : ℕ) (l : u < g.states) where
     entry-none : get_or (least_within g zero) u 0 ≡ cond (g.goal u) 0 mark
     unfolding least_within
-    entry-none = get_d_tabulate g.states (λ u. cond (g.goal u) 0 mark) u l
+    entry-none = get_or-tabulate g.states (λ u. cond (g.goal u) 0 mark) u l
 
     entry_more : (m : ℕ) → get_or (least_within g (suc m)) u 0 ≡ least_by g (least_within g m) u g.rules
     unfolding least_within
-    entry_more m = get_d_tabulate g.states (λ u. least_by g (least_within g m) u g.rules) u l
+    entry_more m = get_or-tabulate g.states (λ u. least_by g (least_within g m) u g.rules) u l
 
   pub within-least :
       (m : ℕ) (rs : List ℕ) (u : ℕ) → u < g.states → length rs ≤ m → reaches g u rs ≡ true

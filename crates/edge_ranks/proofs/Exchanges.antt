@@ -23,7 +23,8 @@ use Rattle.words.proofs.WordRanks.{labels_rank}
 abbrev pub Exchanged : List ℕ → List ℕ → List ℕ → List ℕ → Type 0
 Exchanged a b c d =
     (j : ℕ)
-    → ((get_or a j 0 ≡ get_or b j 0) × (get_or c j 0 ≡ get_or d j 0)) ⊎ ((get_or a j 0 ≡ get_or c j 0) × (get_or b j 0 ≡ get_or d j 0))
+    → ((get_or a j 0 ≡ get_or b j 0) × (get_or c j 0 ≡ get_or d j 0)) ⊎ ((get_or a j 0 ≡ get_or c j 0)
+    × (get_or b j 0 ≡ get_or d j 0))
 
 -- the same number at a position of what is made, or the label of one position of the state
 abbrev Drawn : ℕ → (List ℕ → ℕ) → Type 0

@@ -1,5 +1,5 @@
--- Two lists of the ranks that two sides lead to, in one array (`source_at`, `target_at`): what one more label makes of a
--- list (`Extended`, `LabelsAdded`), that labels add to ranks (`Additive`), and lists that have all words (`Listed`).
+-- Two lists of the ranks that two sides lead to, in one array (`source_at`, `target_at`): what one more label makes of
+-- a list (`Extended`, `LabelsAdded`), that labels add to ranks (`Additive`), and lists that have all words (`Listed`).
 -- The contracts of the functions that find edges are stated with these.
 use Rattle.std.specs.Prelude.{◌≡◌, List, ℕ, suc, ◌+◌, ◌*◌, ◌/◌, ◌%◌, ◌^◌, ◌≤◌, ◌<◌, get_or}
 use Rattle.basics.specs.Parts.{Outside}

@@ -17,7 +17,8 @@ use Rattle.basics.proofs.Truth.{and-true}
 use Rattle.words.specs.Changes.{RanksLow}
 use Rattle.rounds.specs.Systems.{mark, at, plus}
 use Rattle.rounds.proofs.EstimateLaws.{mark-at, at-injective}
-use Rattle.figures.specs.Figures.{number_below, entry_estimate, no_figure, figure_of, entry_figure, largest_at, StandsFor}
+use Rattle.figures.specs.Figures.{number_below, entry_estimate, no_figure, figure_of, entry_figure, largest_at}
+use Rattle.figures.specs.Figures.{StandsFor}
 
 module _ (top x : ℕ) where
   pub below_at : x < top → number_below top x ≡ at x
@@ -76,7 +77,8 @@ module _ (cost : ℕ) (low : cost ≤ 8589934592) where
   pub larger-figure : (x y : ℕ) → max (entry_figure cost x) (entry_figure cost y) ≡ entry_figure cost (max x y)
   larger-figure x y =
       ⊎_elim
-      (λ l. let m : max x y ≡ y = omega arith in omega (arith, figure-rises x y (omega arith), ap (entry_figure cost) m))
+      (λ l. let m : max x y
+      ≡ y = omega arith in omega (arith, figure-rises x y (omega arith), ap (entry_figure cost) m))
       (λ l. let m : max x y ≡ x = omega arith in omega (arith, figure-rises y x l, ap (entry_figure cost) m))
       (below? x y)
 

@@ -1,7 +1,7 @@
 -- Figures as numbers, and the estimates that entries give: a number or the mark as one number (`number_below`,
--- `entry_estimate`, `figure_of`), the largest of the entries at the ranks of a state (`largest_at`) and the figure by it
--- (`entry_figure`). `StandsFor` says what the code's figure tells of the one that is meant.
--- The search is stated with these.
+-- `entry_estimate`, `figure_of`), the largest of the entries at the ranks of a state (`largest_at`) and the figure by
+-- it (`entry_figure`). `StandsFor` says what the code's figure tells of the one that is meant. The search is stated
+-- with these.
 use Rattle.std.specs.Prelude.{◌≡◌, ◌⊎◌, cond, List, ℕ, zero, suc, ◌+◌, ◌/◌, ◌%◌, ◌≤◌, ◌<◌, max, ltb, get_or}
 use Rattle.basics.specs.Marks as marks
 use Rattle.rounds.specs.Systems.{Estimate, mark, at}

@@ -73,7 +73,8 @@ module _ (b : List ℕ) (h : Headed b) where
         (next : ℕ) → next ≡ pack (digits (abstract_count b) (suc m) q)
         → next % 16 ^ m ≡ pack (digits (abstract_count b) m (q / abstract_count b m))
     rest next e =
-        ap (λ (x : ℕ). x % 16 ^ m) (split next e) ∙ digits_mod (q % abstract_count b m) (small m (q / abstract_count b m))
+        ap (λ (x : ℕ). x % 16 ^ m) (split next e)
+        ∙ digits_mod (q % abstract_count b m) (small m (q / abstract_count b m))
 
     whole : q / abstract_count b m * abstract_count b m + q % abstract_count b m ≡ q
     whole = div-add-mod' q (abstract_count b m)
@@ -111,6 +112,7 @@ module _ (b : List ℕ) (h : Headed b) where
       (e ∙ sym c, omega (arith, e, small (suc m) (q + 1), power-fits (suc m) (omega arith)))
 
   pub counting-on :
-      (u next m : ℕ) → Counting b u next (suc m) → abstract_count b m ≤ digit next m + 1 → Counting b u (next % 16 ^ m) m
+      (u next m : ℕ) → Counting b u next (suc m) → abstract_count b m ≤ digit next m + 1
+      → Counting b u (next % 16 ^ m) m
   counting-on u next m (q, a, c) l =
       (q / abstract_count b m, rest m q next a, c ∙ begun m q (omega (arith, l, here m q next a, low m q)))

@@ -11,7 +11,7 @@ use lib.ListN.{length, get_or, drop, get_or-append}
 use lib.Seq.{get_or-drop}
 use Rattle.basics.specs.Lists.{Bytes, joined, at_front}
 use Rattle.basics.proofs.Bounded.{all-intro}
-use Rattle.basics.proofs.Lists.{length-joined-sum, getD-joined-sum}
+use Rattle.basics.proofs.Lists.{length-joined-sum, get_or-joined-sum}
 use Rattle.blocks.specs.Layout.{abstract_states}
 use Rattle.psvn.specs.Relabelling.{relabel_block}
 use Rattle.psvn.specs.Ranks.{unrank}
@@ -64,7 +64,7 @@ module _ (b maps : List ℕ) (bytes : Bytes b) (k : Mapped b maps) where
         get_or-drop from (at_front whole t) i 0
         ∙ get_or-append whole (drop (length whole) t) 0 (from + i)
         (omega (arith, all-filled-length, table-within b maps j (omega arith)))
-        ∙ getD-joined-sum (filled_at b maps) (λ j. abstract_states (exercise_at b maps j)) (all_maps b maps) length_at
+        ∙ get_or-joined-sum (filled_at b maps) (λ j. abstract_states (exercise_at b maps j)) (all_maps b maps) length_at
         j i l m
 
     own-least :

@@ -19,5 +19,6 @@ all_filled b maps = joined (all_maps b maps) (λ j. filled (exercise_at b maps j
 pub record LeastEntries (b maps t : List ℕ) : Type 0 where
   pub least :
       (j k : ℕ) → j < all_maps b maps → k < abstract_states (exercise_at b maps j)
-      → LeastCost (relabel_block (exercise_at b maps j)) (unrank (exercise_at b maps j) k) (get_or (table_at b maps t j) k 0)
+      → LeastCost (relabel_block (exercise_at b maps j)) (unrank (exercise_at b maps j) k)
+      (get_or (table_at b maps t j) k 0)
   pub passing : all_pass b maps t ≡ true

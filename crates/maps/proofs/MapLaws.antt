@@ -28,7 +28,8 @@ use Rattle.blocks.specs.Validity.{within, map_ok, block_conditions, Sized, Valid
 use Rattle.blocks.specs.Remapping.{remapped, Alike}
 use Rattle.blocks.proofs.Accepted.{accepted-valid}
 use Rattle.blocks.proofs.RemappingLaws.{remapped-alike, remapped-abstracts, remapped-map, labels-alike, alike-valid}
-use Rattle.maps.specs.Maps.{map_width, further_maps, all_maps, further_map, further_abstracts, further_byte, exercise_at}
+use Rattle.maps.specs.Maps.{map_width, further_maps, all_maps, further_map, further_abstracts, further_byte}
+use Rattle.maps.specs.Maps.{exercise_at}
 use Rattle.maps.specs.Maps.{entries_before, all_entries, maps_whole, further_ok, maps_ok, map_conditions}
 use Rattle.maps.specs.Maps.{exercise_conditions, Mapped}
 
@@ -76,7 +77,8 @@ module _ (b maps : List ℕ) where
   -- one table more
   pub entries-more :
       (i : ℕ)
-      → entries_before b maps (suc (i + 1)) ≡ entries_before b maps (suc i) + abstract_states (exercise_at b maps (suc i))
+      → entries_before b maps (suc (i + 1))
+      ≡ entries_before b maps (suc i) + abstract_states (exercise_at b maps (suc i))
   entries-more i = ap (λ (k : ℕ). entries_before b maps (suc k)) (add-one i)
 
   -- the record of a further map lies in what is lent
@@ -108,11 +110,13 @@ module _ (b maps : List ℕ) where
   unfolding further_ok
   further-parts i ok =
       let K = further_abstracts b maps i in
-      let (range, bytes) = and-true (within 1 K (labels b)) (all (labels b) (λ x. ltb (further_byte b maps i x) K)) ok in
+      let (range, bytes) = and-true (within 1 K (labels b)) (all (labels b) (λ x. ltb (further_byte b maps i x) K)) ok
+      in
       let (low, high) = and-true (leb 1 K) (leb K (labels b)) range in (
         leb-true 1 K low,
         leb-true K (labels b) high,
-        λ x l. ltb-true (further_byte b maps i x) K (all-at (λ x. ltb (further_byte b maps i x) K) (labels b) bytes x l),
+        λ x l. ltb-true (further_byte b maps i x) K
+            (all-at (λ x. ltb (further_byte b maps i x) K) (labels b) bytes x l),
       )
 
   -- whole records
@@ -195,7 +199,8 @@ none-refused : (b : List ℕ) → Valid b → verdict (map_conditions b []) ≡ 
 unfolding map_conditions maps_whole maps_ok
 none-refused b v =
     let whole =
-    and_intro (eqb (0 % map_width b) 0) (leb (further_maps b []) 3) (eq-eqb (0 % map_width b) 0 (zero-mod (map_width b)))
+    and_intro (eqb (0 % map_width b) 0) (leb (further_maps b []) 3)
+    (eq-eqb (0 % map_width b) 0 (zero-mod (map_width b)))
     (le-leb (further_maps b []) 3 (omega (arith, none_lent b))) in
     let right =
     and_intro (all (further_maps b []) (further_ok b [])) (leb (all_entries b []) 16384)

@@ -1,7 +1,8 @@
 -- Further maps of an exercise (document 02, F-2), lent as records of K and L map bytes behind one another: how many
 -- there are (`further_maps`), the exercise under each map (`exercise_at`), where its table begins (`entries_before`),
 -- and what turns them back, 14 and 15 (`map_conditions`). `Mapped` says what holds once block and maps are accepted.
-use Rattle.std.specs.Prelude.{◌≡◌, ℕ, zero, suc, ◌*◌, ◌/◌, ◌%◌, ◌≤◌, Bool, ◌&&◌, List, [], ◌∷◌, ◌++◌, leb, ltb, eqb, length, get_or, drop}
+use Rattle.std.specs.Prelude.{◌≡◌, ℕ, zero, suc, ◌*◌, ◌/◌, ◌%◌, ◌≤◌, Bool, ◌&&◌, List, [], ◌∷◌, ◌++◌, leb, ltb, eqb}
+use Rattle.std.specs.Prelude.{length, get_or, drop}
 use Rattle.basics.specs.Bounded.{all}
 use Rattle.basics.specs.Sums.{sum_to}
 use Rattle.refusals.specs.Answers.{Condition, ◌unless◌}

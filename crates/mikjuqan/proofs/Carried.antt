@@ -1,6 +1,6 @@
--- From what `engine` ensures to what C receives: `carried` gives the answer in numbers, and the buffer; `tells` that the
--- answer read back from the numbers is the one that `engine` gave, for which the promise is kept.
--- `shown` are the numbers of an answer, `read` reads them back. The proofs of all calls rest on these.
+-- From what `engine` ensures to what C receives: `carried` gives the answer in numbers, and the buffer; `tells` that
+-- the answer read back from the numbers is the one that `engine` gave, for which the promise is kept. `shown` are the
+-- numbers of an answer, `read` reads them back. The proofs of all calls rest on these.
 use mathlib.Core.Path.{◌≡◌, ap, ◌∙◌}
 use mathlib.Core.List.{List}
 use Prim.Native.Nat.{ℕ}

@@ -5,7 +5,8 @@ ghost use Rattle.psvn_calls.specs.Applying.{apply_rule, ApplicationKept};
 ghost use Rattle.psvn_calls.specs.Goals.{test_goals, GoalTestKept};
 ghost use Rattle.backward_calls.specs.Predecessors.{step_back_from, PredecessorKept};
 ghost use Rattle.backward_calls.specs.Reversing.{test_reversible, ReversibilityKept};
-ghost use Rattle.c_answers.specs.Numbers.{decision_of, applied_of, goal_numbers_of, decision_told, applied_told, goal_told};
+ghost use Rattle.c_answers.specs.Numbers.{decision_of, applied_of, goal_numbers_of, decision_told, applied_told};
+ghost use Rattle.c_answers.specs.Numbers.{goal_told};
 
 use c_answers::{Decision, GoalNumbers};
 

@@ -54,7 +54,8 @@ unfolding exercise_count
 first-handed ls = by-head (head_reads ls) where
   by-head : (reads : Bool) → first_line (take (cond reads (1 + frame_count (head_of ls)) 1) ls) ≡ first_line ls
   by-head true =
-      ap (λ (n : ℕ). first_line (take n ls)) (one-add (frame_count (head_of ls))) ∙ first_taken (frame_count (head_of ls)) ls
+      ap (λ (n : ℕ). first_line (take n ls)) (one-add (frame_count (head_of ls)))
+      ∙ first_taken (frame_count (head_of ls)) ls
   by-head false = first_taken 0 ls
 
 pub head-handed : (ls : List (List ℕ)) (r : Heading) → HeadRead ls r → HeadRead (exercise_lines ls) r
@@ -78,7 +79,11 @@ module _ (x : List ℕ) where
       let count = frame_count (head_of (lines_of x)) in
       rw h
       (ap (λ (k : ℕ). length_to k x) (one-add count)
-      ∙ omega (arith, end_step x 0 count, ap (λ (k : ℕ). length_to count (drop k x)) (zero-add (length (line_from x 0)))))
+      ∙ omega (
+        arith,
+        end_step x 0 count,
+        ap (λ (k : ℕ). length_to count (drop k x)) (zero-add (length (line_from x 0))),
+      ))
 
   -- the lines on both sides of that place
   pub exercise-text : lines_of (take (exercise_end x) x) ≡ exercise_lines (lines_of x)

@@ -1,7 +1,7 @@
--- Opening an exercise: which lines the reader receives (`exercise_lines`) and where they end (`exercise_end`), what turns
--- an input back (`open_conditions`), and what opening leaves, for every input (`open_exercise`), the filled table at the
--- front of its buffer (`FilledFront`). `opening_of` gives the document's answer for each case of the enum.
--- The functions that open an exercise, and the whole output of `par`, are stated with these.
+-- Opening an exercise: which lines the reader receives (`exercise_lines`) and where they end (`exercise_end`), what
+-- turns an input back (`open_conditions`), and what opening leaves, for every input (`open_exercise`), the filled table
+-- at the front of its buffer (`FilledFront`). `opening_of` gives the document's answer for each case of the enum. The
+-- functions that open an exercise, and the whole output of `par`, are stated with these.
 use Rattle.std.specs.Prelude.{◌≡◌, ℕ, ◌+◌, ◌<◌, Bool, cond, ◌&&◌, leb, length, get_or, take, drop}
 use mathlib.Core.List.{List, ◌∷◌, flatten}
 use Rattle.basics.specs.Lists.{at_front}

@@ -1,4 +1,6 @@
 // Opening the exercise at the front of an input: its block and its filled table.
+#![tactic(auto)]
+
 mod opening;
 
 pub use opening::{LONGEST_INPUT, Opening, open};

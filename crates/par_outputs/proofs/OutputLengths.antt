@@ -24,7 +24,8 @@ use Rattle.frames.proofs.LineLaws.{line-some, line-inside}
 use Rattle.frames.proofs.ReadBytes.{block-small}
 use Rattle.par_queries.specs.QueryLines.{line_conditions, query_line_conditions, search_for, answer_line}
 use Rattle.par_queries.proofs.PrintedLines.{line-length}
-use Rattle.par_openings.specs.Openings.{longest_input, block_room, exercise_lines, exercise_end, exercise_block, open_conditions}
+use Rattle.par_openings.specs.Openings.{longest_input, block_room, exercise_lines, exercise_end, exercise_block}
+use Rattle.par_openings.specs.Openings.{open_conditions}
 use Rattle.par_openings.proofs.OpeningLaws.{end-inside}
 use Rattle.par_openings.proofs.OpenedWell.{open-valid}
 use Rattle.par_outputs.specs.Output.{par_output, answers_from}
@@ -43,8 +44,10 @@ module _ (b : List ℕ) (valid : Valid b) (bytes : CostBytes b) where
   unfolding query_line_conditions
   answer-short line some = by-verdict (verdict (query_line_conditions b line)) refl where
     by-verdict :
-        (v : Answer (Unit {0})) → verdict (query_line_conditions b line) ≡ v → length (answer_line b line) ≤ 8 * length line
-    by-verdict (refused k) h = omega (arith, some, ap length (line-by b line (refused k) h), line-length (refusal_bytes k))
+        (v : Answer (Unit {0})) → verdict (query_line_conditions b line) ≡ v
+        → length (answer_line b line) ≤ 8 * length line
+    by-verdict (refused k) h =
+        omega (arith, some, ap length (line-by b line (refused k) h), line-length (refusal_bytes k))
     by-verdict (told u) h =
         let q = line_bytes line in
         let answer = search_for b q in
@@ -55,7 +58,15 @@ module _ (b : List ℕ) (valid : Valid b) (bytes : CostBytes b) where
         let long = eqb-true (length q) (query_length b) fits in
         let short = query-short b valid bytes line h in
         let shown = ap length (query-means b valid bytes line h).shown in
-        omega (arith, bytes-half line, long, valid.sized.headed.sizes.n_low, short, shown, line-length (answer_bytes goal answer))
+        omega (
+          arith,
+          bytes-half line,
+          long,
+          valid.sized.headed.sizes.n_low,
+          short,
+          shown,
+          line-length (answer_bytes goal answer),
+        )
 
   module _ (x : List ℕ) where
     answers-within :
@@ -69,7 +80,14 @@ module _ (b : List ℕ) (valid : Valid b) (bytes : CostBytes b) where
         let within = line-inside x at m in
         let behind = answers-within n (at + length line) (omega arith) within in
         let next = ap length (answers_next b x at inside) in
-        omega (arith, answer-short line some, behind, within, next, length-append (answer_line b line) (answers_from b x (at + length line))))
+        omega (
+          arith,
+          answer-short line some,
+          behind,
+          within,
+          next,
+          length-append (answer_line b line) (answers_from b x (at + length line)),
+        ))
         (λ outside. omega (arith, ap length (answers-end b x at outside)))
         (below? at (length x))
 

@@ -35,6 +35,7 @@ module _ (x : List ℕ) where
   output-refused k h = ap (λ v. printed_for v x) h
 
   -- an accepted one
-  pub output-answers : verdict (open_conditions x) ≡ told tt → par_output x ≡ answers_from (exercise_block x) x (exercise_end x)
+  pub output-answers : verdict (open_conditions x) ≡ told tt → par_output x
+      ≡ answers_from (exercise_block x) x (exercise_end x)
   unfolding par_output answers_from
   output-answers h = ap (λ v. printed_for v x) h ∙ ap (flat_map (answer_line (exercise_block x))) (sym (query-text x))

@@ -40,7 +40,8 @@ pub record Means (x out : List ℕ) : Type 0 where
   -- input that is too long, an exercise that the reader refuses, and one that it accepts
   pub too_long : longest_input < length x → out ≡ refusal_line 2
   pub refused_exercise :
-      (k : ℕ) → length x ≤ longest_input → verdict (read_conditions (exercise_lines (lines_of x)) block_room) ≡ refused k
+      (k : ℕ) → length x ≤ longest_input → verdict (read_conditions (exercise_lines (lines_of x)) block_room)
+      ≡ refused k
       → out ≡ refusal_line k
   pub accepted :
       length x ≤ longest_input → verdict (read_conditions (exercise_lines (lines_of x)) block_room) ≡ told tt

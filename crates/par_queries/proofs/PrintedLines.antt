@@ -1,5 +1,6 @@
--- A line has two characters for each byte, and its line feed (`line-length`); the line of bytes that are known by another
--- name is their line (`line_of_lem`). That every printed line fits its buffer, and is the line of a record, rests on these.
+-- A line has two characters for each byte, and its line feed (`line-length`); the line of bytes that are known by
+-- another name is their line (`line_of_lem`). That every printed line fits its buffer, and is the line of a record,
+-- rests on these.
 use mathlib.Core.Path.{◌≡◌, refl, ap, ◌∙◌}
 use mathlib.Core.List.{List, [], ◌∷◌}
 use Prim.Native.Nat.{ℕ, ◌+◌, ◌*◌}

@@ -1,6 +1,6 @@
 -- Query lines: what turns one back (`query_line_conditions`), the search that its bytes ask for (`search_for`) by the
--- filled table (`filled_estimate`), and the line that answers it (`answer_line`); the line of a refusal (`refusal_line`).
--- All that `par` prints for an accepted exercise is made of answer lines.
+-- filled table (`filled_estimate`), and the line that answers it (`answer_line`); the line of a refusal
+-- (`refusal_line`). All that `par` prints for an accepted exercise is made of answer lines.
 use Rattle.std.specs.Prelude.{◌≡◌, ℕ, ◌+◌, List, [], ◌∷◌, ◌++◌, eqb, length}
 use Rattle.refusals.specs.Answers.{Condition, ◌unless◌, verdict, answered}
 use Rattle.filling.specs.FilledTables.{filled}

@@ -1,6 +1,6 @@
 -- Where a session stands that prints lines one after the other: `Standing`. What is printed stands at the front of the
--- buffer; one line more is printed behind it (`one_more`), and at the end all lines are (`all-printed`). What is written
--- is known by another name (`written_as`). The loop over the query lines, and the whole output, rest on these.
+-- buffer; one line more is printed behind it (`one_more`), and at the end all lines are (`all-printed`). What is
+-- written is known by another name (`written_as`). The loop over the query lines, and the whole output, rest on these.
 use mathlib.Core.Path.{◌≡◌, sym, ap, ◌∙◌}
 use mathlib.Core.List.{List, [], ◌++◌, append_assoc, append-nil}
 use Prim.Native.Nat.{ℕ, ◌+◌, ◌-◌, ◌≤◌}

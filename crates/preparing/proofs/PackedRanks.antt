@@ -70,7 +70,8 @@ module _ (b maps : List ℕ) (k : Mapped b maps) (s : List ℕ) (ok : state_ok b
       let n = positions b in
       let m = all_maps b maps in
       let sums : sum_to (λ p. label_weight singles p (get_or s p 0)) n ≡ packed_from (entry_place b maps s) 0 m =
-      sum-ext (λ p. label_weight singles p (get_or s p 0)) (λ p. packed_from (place_weight b maps p (get_or s p 0)) 0 m) n
+      sum-ext (λ p. label_weight singles p (get_or s p 0))
+      (λ p. packed_from (place_weight b maps p (get_or s p 0)) 0 m) n
       (λ p l. w.weight p (get_or s p 0) l (state-label b s ok p l))
       ∙ packed-sum (λ j p. place_weight b maps p (get_or s p 0) j) 0 m n
       ∙ packed-ext (λ j. sum_to (λ p. place_weight b maps p (get_or s p 0) j) n) (entry_place b maps s) 0 m

@@ -26,7 +26,8 @@ byte-found n f few = go (bounded.some n f) refl
         let low = (first_holds f n e).0 in
         let found : goal_byte (find n f) < no_goal = omega (arith, ap goal_byte (find-some f n e)) in
         ap not (ne_eqb (goal_byte (find n f)) no_goal (λ q. omega arith)) ∙ sym e
-    go false e = ap (λ (x : Option ℕ). not (eqb (goal_byte x) no_goal)) (find-passed f n n (omega arith) (some-false f n e)) ∙ sym e
+    go false e = ap (λ (x : Option ℕ). not (eqb (goal_byte x) no_goal))
+        (find-passed f n n (omega arith) (some-false f n e)) ∙ sym e
 
 module _ (b s : List ℕ) where
   pub lowest-met : (g : ℕ) → met_goal b s ≡ some g → LowestMet b s g

@@ -130,7 +130,8 @@ module _
           → tabulate n (λ i. φ i (get_or (rewritten n side right s) i 0)) ≡ rewritten n side' right' s'
       unfolding rewritten
       rewritten-relabelled right right' okr bd q =
-          tabulate-ext n (λ i. φ i (get_or (rewritten n side right s) i 0)) (λ i. given n side' s' i (term_of (right' i)))
+          tabulate-ext n (λ i. φ i (get_or (rewritten n side right s) i 0))
+          (λ i. given n side' s' i (term_of (right' i)))
           (λ k l.
           ap (φ k) (rewritten-at n side right s k l)
           ∙ sym (given-relabelled k (right k) l (okr k l) (bd k l))
@@ -147,7 +148,8 @@ module _ (b : List ℕ) (v : Valid b) where
   map-small i x l m = omega (arith, map_below b v i x m, abstract-count-low b v.sized.headed i)
 
   pub applies-relabelled :
-      (r : ℕ) → r < rules b → (s : List ℕ) → applies b r s ≡ true → applies (relabel_block b) r (relabel_state b s) ≡ true
+      (r : ℕ) → r < rules b → (s : List ℕ) → applies b r s ≡ true → applies (relabel_block b) r (relabel_state b s)
+      ≡ true
   unfolding applies
   applies-relabelled r lr s h =
       rw (positions-relabelled b)
@@ -169,7 +171,8 @@ module _ (b : List ℕ) (v : Valid b) where
       (right_bound b v r lr) (right-relabelled b r lr))
 
   goal-met-relabelled :
-      (g : ℕ) → g < goals b → (s : List ℕ) → goal_met b g s ≡ true → goal_met (relabel_block b) g (relabel_state b s) ≡ true
+      (g : ℕ) → g < goals b → (s : List ℕ) → goal_met b g s ≡ true → goal_met (relabel_block b) g (relabel_state b s)
+      ≡ true
   unfolding goal_met
   goal-met-relabelled g lg s h =
       rw (positions-relabelled b)

@@ -7,7 +7,7 @@ use mathlib.Core.List.{List}
 use Prim.Native.Nat.{ℕ, ◌≤◌, ◌<◌}
 use native.Mathlib.Omega.{arith}
 use lib.ListN.{length, get_or}
-use Rattle.basics.proofs.Lists.{length-tabulate, get_d_tabulate, same-list}
+use Rattle.basics.proofs.Lists.{length-tabulate, get_or-tabulate, same-list}
 use Rattle.blocks.specs.Terms.{term_of}
 use Rattle.blocks.proofs.TermCases.{View, label, variable, dash, refused, view, is_dash_lem, is-refused}
 use Rattle.psvn.specs.Rules.{given, matches, rewritten}
@@ -16,7 +16,7 @@ use Rattle.psvn.proofs.MatchingLaws.{at_position}
 module _ (n : ℕ) (left right : ℕ → ℕ) (u : List ℕ) where
   pub rewritten-at : (i : ℕ) → i < n → get_or (rewritten n left right u) i 0 ≡ given n left u i (term_of (right i))
   unfolding rewritten
-  rewritten-at i l = get_d_tabulate n (λ i. given n left u i (term_of (right i))) i l
+  rewritten-at i l = get_or-tabulate n (λ i. given n left u i (term_of (right i))) i l
 
   pub rewritten-length : length (rewritten n left right u) ≡ n
   unfolding rewritten

@@ -94,7 +94,8 @@ module _ (n : ℕ) (side : ℕ → ℕ) (s : List ℕ) where
 
   pub ruled_out : (i : ℕ) → constant_mismatch n side s ≡ some i → matches n side s ≡ false
   unfolding constant_mismatch constants_agree
-  ruled_out i h = two-parts ∙ ap (λ (t : Bool). t && variables_agree n side s) (one-fails (constant_agrees side s) n i h)
+  ruled_out i h = two-parts
+      ∙ ap (λ (t : Bool). t && variables_agree n side s) (one-fails (constant_agrees side s) n i h)
 
 -- what the answer of the first part means, by the test of each position
 pub mismatch-means : (n : ℕ) (test : ℕ → Bool) → MismatchMeans n test (find n (λ i. not (test i)))

@@ -45,10 +45,12 @@ module _ (b : List ℕ) (v : Valid b) where
       → relabel_term (map_at (relabel_block b) i) (relabel_term (map_at b i) t) ≡ relabel_term (map_at b i) t
   term-fixed i t l ok = go (view t)
     where
-      other : 16 ≤ t → relabel_term (map_at (relabel_block b) i) (relabel_term (map_at b i) t) ≡ relabel_term (map_at b i) t
+      other : 16 ≤ t → relabel_term (map_at (relabel_block b) i) (relabel_term (map_at b i) t)
+          ≡ relabel_term (map_at b i) t
       other a = rw (relabel-other (map_at b i) t a) (relabel-other (map_at (relabel_block b) i) t a)
 
-      go : View t → relabel_term (map_at (relabel_block b) i) (relabel_term (map_at b i) t) ≡ relabel_term (map_at b i) t
+      go : View t → relabel_term (map_at (relabel_block b) i) (relabel_term (map_at b i) t)
+          ≡ relabel_term (map_at b i) t
       go (label a) =
           let k : t < label_count b i = ltb-true t (label_count b i) (rw (is-label t a) at ok) in
           rw (relabel-label (map_at b i) t a)
@@ -86,10 +88,12 @@ module _ (b : List ℕ) (v : Valid b) where
   head-twice = rw (positions-relabelled b, abstracts-relabelled b, rules-relabelled b, goals-relabelled b)
 
   rules-twice : relabel_rules (relabel_block b) ≡ relabel_rules b
-  rules-twice = rw (rules-relabelled b) (joined-ext (relabel_rule (relabel_block b)) (relabel_rule b) (rules b) rule-twice)
+  rules-twice = rw (rules-relabelled b)
+      (joined-ext (relabel_rule (relabel_block b)) (relabel_rule b) (rules b) rule-twice)
 
   goals-twice : relabel_goals (relabel_block b) ≡ relabel_goals b
-  goals-twice = rw (goals-relabelled b) (joined-ext (relabel_goal (relabel_block b)) (relabel_goal b) (goals b) goal-twice)
+  goals-twice = rw (goals-relabelled b)
+      (joined-ext (relabel_goal (relabel_block b)) (relabel_goal b) (goals b) goal-twice)
 
   pub relabel-twice : relabel_block (relabel_block b) ≡ relabel_block b
   relabel-twice =

@@ -10,9 +10,10 @@ use native.Mathlib.Omega.{arith}
 use lib.ListN.{length, get_or, length-append, get_or-append}
 use lib.Seq.{get_or-append-add}
 use Rattle.basics.specs.Lists.{tabulate}
-use Rattle.basics.proofs.Lists.{length-tabulate, get_d_tabulate, length-joined, getD-joined}
+use Rattle.basics.proofs.Lists.{length-tabulate, get_or-tabulate, length-joined, get_or-joined}
 use Rattle.blocks.specs.Layout.{head_byte, positions, labels, abstracts, rules, goals, label_count, abstract_count}
-use Rattle.blocks.specs.Layout.{abstract_states, head_length, map_byte, map_at, rule_width, rule_at, left_at, right_at, goal_at}
+use Rattle.blocks.specs.Layout.{abstract_states, head_length, map_byte, map_at, rule_width, rule_at, left_at, right_at}
+use Rattle.blocks.specs.Layout.{goal_at}
 use Rattle.blocks.specs.Layout.{block_length, cost_of, left_of, right_of, goal_of, relabel_head, relabelled_length}
 use Rattle.psvn.specs.Relabelling.{relabel_term, relabel_side, relabel_rule, relabel_goal, relabel_rules, relabel_goals}
 use Rattle.psvn.specs.Relabelling.{relabel_block, relabel_state}
@@ -118,7 +119,7 @@ module _ (b : List ℕ) where
       let rest = relabel_rules b ++ relabel_goals b in
       get_or-append-add (positions b ∷ abstracts b ∷ abstracts b ∷ rules b ∷ goals b ∷ []) (id ++ rest) x 0
       ∙ get_or-append id rest 0 x (omega (arith, length-tabulate (abstracts b) (λ x. x)))
-      ∙ get_d_tabulate (abstracts b) (λ x. x) x l
+      ∙ get_or-tabulate (abstracts b) (λ x. x) x l
 
   pub map-relabelled : (i x : ℕ) → x < abstract_count b i → map_at (relabel_block b) i x ≡ x
   unfolding map_at abstract_count
@@ -143,7 +144,7 @@ module _ (b : List ℕ) where
       ap (λ (i : ℕ). get_or (relabel_block b) i 0) e ∙ body-byte j
       ∙ get_or-append rs (relabel_goals b) 0 j
       (omega (arith, rules-length, suc-mul r (rule_width b), mul-le-mul_right (rule_width b) lr))
-      ∙ getD-joined (relabel_rule b) (rule_width b) (rules b) (λ r l. rule-width r) r k lr lk
+      ∙ get_or-joined (relabel_rule b) (rule_width b) (rules b) (λ r l. rule-width r) r k lr lk
 
   goal-byte :
       (g i : ℕ) → g < goals b → i < positions b
@@ -154,12 +155,12 @@ module _ (b : List ℕ) where
       let j = length rs + (g * positions b + i) in
       let e : goal_at (relabel_block b) g + i ≡ length (relabel_head b) + j = omega (arith, goal-at g, rules-length) in
       ap (λ (k : ℕ). get_or (relabel_block b) k 0) e ∙ body-byte j ∙ get_or-append-add rs gs (g * positions b + i) 0
-      ∙ getD-joined (relabel_goal b) (positions b) (goals b) (λ g l. goal-length g) g i lg li
+      ∙ get_or-joined (relabel_goal b) (positions b) (goals b) (λ g l. goal-length g) g i lg li
 
   side-byte :
       (side : ℕ → ℕ) (i : ℕ) → i < positions b → get_or (relabel_side b side) i 0 ≡ relabel_term (map_at b i) (side i)
   unfolding relabel_side
-  side-byte side i l = get_d_tabulate (positions b) (λ i. relabel_term (map_at b i) (side i)) i l
+  side-byte side i l = get_or-tabulate (positions b) (λ i. relabel_term (map_at b i) (side i)) i l
 
   wide_enough : (k : ℕ) → k < positions b + positions b → suc k < rule_width b
   unfolding rule_width
@@ -208,6 +209,7 @@ module _ (b : List ℕ) where
   unfolding relabel_state
   relabelled-labels s = length-tabulate (positions b) (λ i. map_at b i (get_or s i 0))
 
-  pub relabelled-label : (s : List ℕ) (k : ℕ) → k < positions b → get_or (relabel_state b s) k 0 ≡ map_at b k (get_or s k 0)
+  pub relabelled-label : (s : List ℕ) (k : ℕ) → k < positions b → get_or (relabel_state b s) k 0
+      ≡ map_at b k (get_or s k 0)
   unfolding relabel_state
-  relabelled-label s k l = get_d_tabulate (positions b) (λ i. map_at b i (get_or s i 0)) k l
+  relabelled-label s k l = get_or-tabulate (positions b) (λ i. map_at b i (get_or s i 0)) k l

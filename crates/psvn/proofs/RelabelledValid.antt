@@ -10,9 +10,11 @@ use borrow.Author.Tests.{ltb-true, lt-ltb}
 use Rattle.basics.proofs.Truth.{and_intro}
 use Rattle.basics.proofs.Bounded.{all-intro}
 use Rattle.blocks.specs.Terms.{term_of, term_ok}
-use Rattle.blocks.specs.Layout.{positions, abstracts, rules, goals, label_count, abstract_count, map_byte, map_at, left_of}
+use Rattle.blocks.specs.Layout.{positions, abstracts, rules, goals, label_count, abstract_count, map_byte, map_at}
+use Rattle.blocks.specs.Layout.{left_of}
 use Rattle.blocks.specs.Layout.{right_of, goal_of}
-use Rattle.blocks.specs.Validity.{side_ok, rule_terms_ok, goal_terms_ok, map_ok, terms_ok, bound_in, rule_bound, bound_ok, Sizes}
+use Rattle.blocks.specs.Validity.{side_ok, rule_terms_ok, goal_terms_ok, map_ok, terms_ok, bound_in, rule_bound}
+use Rattle.blocks.specs.Validity.{bound_ok, Sizes}
 use Rattle.blocks.specs.Validity.{Headed, Valid}
 use Rattle.psvn.specs.Relabelling.{relabel_term, relabel_block}
 use Rattle.blocks.proofs.TermCases.{View, label, variable, dash, refused, view, is-label, is-variable, is_dash_lem}

@@ -1,7 +1,7 @@
 -- Laws of lists of rule numbers: one rule more at the end (`run_more`, `cost-more`, `in-turn-more`), rules that apply
--- in turn one by one (`in-turn-at`, `in-turn-intro`), and the last state (`run_length_lem`, `run-state`); a list reaches a
--- goal exactly where its numbers are those of rules, they apply in turn and the last state meets a goal (`reaches-run`,
--- `run-reaches`). Replay rests on these.
+-- in turn one by one (`in-turn-at`, `in-turn-intro`), and the last state (`run_length_lem`, `run-state`); a list
+-- reaches a goal exactly where its numbers are those of rules, they apply in turn and the last state meets a goal
+-- (`reaches-run`, `run-reaches`). Replay rests on these.
 use mathlib.Core.Path.{◌≡◌, refl, sym, ap, ◌∙◌}
 use mathlib.Core.Bool.{Bool, true, ◌&&◌, and_assoc, and_comm}
 use mathlib.Core.List.{List, [], ◌∷◌, ◌++◌}

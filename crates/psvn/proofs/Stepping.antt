@@ -74,6 +74,7 @@ abstract_states_lem b u =
     let n = positions b in
     rw (positions-relabelled b)
     (ap (λ (t : Bool). eqb (length u) n && t)
-    (all-ext (λ i. ltb (get_or u i 0) (label_count (relabel_block b) i)) (λ i. ltb (get_or u i 0) (abstract_count b i)) n
+    (all-ext (λ i. ltb (get_or u i 0) (label_count (relabel_block b) i))
+    (λ i. ltb (get_or u i 0) (abstract_count b i)) n
     (λ i l.
     ap (ltb (get_or u i 0)) (label-count-relabelled b i))))

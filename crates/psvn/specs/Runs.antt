@@ -1,5 +1,6 @@
--- Lists of rule numbers from a state: whether their rules apply in turn (`apply_in_turn`), the last state (`run`), their
--- cost (`total_cost`), and whether they reach a goal (`reaches`). Replay, tables and the search are stated with these.
+-- Lists of rule numbers from a state: whether their rules apply in turn (`apply_in_turn`), the last state (`run`),
+-- their cost (`total_cost`), and whether they reach a goal (`reaches`). Replay, tables and the search are stated with
+-- these.
 use Rattle.std.specs.Prelude.{ℕ, ◌+◌, ◌<◌, Bool, true, ◌&&◌, List, [], ◌∷◌, ltb, length, get_or}
 use Rattle.blocks.specs.Layout.{rules, cost_of}
 use Rattle.psvn.specs.Rules.{applies, step, meets}

@@ -1,7 +1,7 @@
 -- Matching in two parts (document 02, F-3): first all constants, where the answer is the lowest position whose constant
--- differs from the state's label, or none (`constant_mismatch`); then, on none alone, the variables (`variables_agree`).
--- `mismatch_of` reads the first part's answer, and `MismatchMeans` says what it means; `TwoParts` says that both parts
--- are `matches`. Matching on bytes and on words is stated with these.
+-- differs from the state's label, or none (`constant_mismatch`); then, on none alone, the variables
+-- (`variables_agree`). `mismatch_of` reads the first part's answer, and `MismatchMeans` says what it means; `TwoParts`
+-- says that both parts are `matches`. Matching on bytes and on words is stated with these.
 use Rattle.std.specs.Prelude.{◌≡◌, ◌↔◌, Bool, true, false, not, List, ℕ, ◌≤◌, ◌<◌, eqb, get_or}
 use Rattle.std.proofs.Math.Option.{Option, none, some}
 use Rattle.basics.specs.Bounded.{all, find}

@@ -61,7 +61,8 @@ module _ (b : List ℕ) where
       -- by the verdict, and by whether the rule applies
       applied_by :
           (v : Answer (Unit {0})) → verdict (apply_conditions b r s (length out)) ≡ v → (t : Bool) → applies b r s ≡ t
-          → Kept (guarded v out (cond t (outcome (told done) (at_front (step b r s) out)) (outcome (told does_not_apply) out)))
+          → Kept (guarded v out
+          (cond t (outcome (told done) (at_front (step b r s) out)) (outcome (told does_not_apply) out)))
       applied_by (refused k) h t e = tt
       applied_by (told u) h true e =
           let ready = apply-accepted b s r (length out) h in

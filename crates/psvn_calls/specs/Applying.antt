@@ -1,6 +1,6 @@
 -- Applying a rule, as a public call: `apply_rule` is the answer with the final contents of the lent buffer, for every
--- input, and `ApplicationKept` what the call promises. `application_of` gives the document's answer for each case of the
--- enum.
+-- input, and `ApplicationKept` what the call promises. `application_of` gives the document's answer for each case of
+-- the enum.
 use Rattle.std.specs.Prelude.{◌≡◌, ℕ, true, false, cond, List, [], ◌∷◌, ◌++◌, leb, ltb, length, take}
 use Rattle.basics.specs.Lists.{at_front}
 use Rattle.refusals.specs.Answers.{Answer, refused, told, Condition, ◌unless◌, verdict, Outcome, outcome, guarded}

@@ -1,7 +1,8 @@
--- Parts written one after another: what a part adds (`part_adds_lem`), which stays while others are written (`added-kept`);
--- none of them (`parts_none`), and one position more, whose row is a part (`part-more`) or adds nothing (`plain_more`).
--- The loop over positions, and the change of a rule, rest on these.
-use Rattle.std.proofs.Common.{◌≡◌, ℕ, zero, suc, ◌+◌, ◌*◌, ◌/◌, ◌%◌, ◌^◌, ◌<◌, ◌≤◌, false, eqb, List, get_or, sym, refl, ap, ◌∙◌, subst, ap₂, add-zero, add-one, arith, eqb-true}
+-- Parts written one after another: what a part adds (`part_adds_lem`), which stays while others are written
+-- (`added-kept`); none of them (`parts_none`), and one position more, whose row is a part (`part-more`) or adds nothing
+-- (`plain_more`). The loop over positions, and the change of a rule, rest on these.
+use Rattle.std.proofs.Common.{◌≡◌, ℕ, zero, suc, ◌+◌, ◌*◌, ◌/◌, ◌%◌, ◌^◌, ◌<◌, ◌≤◌, false, eqb, List, get_or, sym, refl}
+use Rattle.std.proofs.Common.{ap, ◌∙◌, subst, ap₂, add-zero, add-one, arith, eqb-true}
 use borrow.Author.Tests.{eqb-false, not-false}
 use Rattle.basics.specs.Sums.{sum_to}
 use Rattle.basics.proofs.Truth.{or-false}

@@ -2,7 +2,8 @@
 -- state that the rule makes (`ranks-after`). The change of a rule so written is right (`change-placed`) and stays while
 -- others are written (`change-kept`); together they are `Changed` (`changed`), by the weights at the front
 -- (`singles-kept`).
-use Rattle.std.proofs.Common.{◌≡◌, ℕ, ◌+◌, ◌*◌, ◌%◌, ◌<◌, ◌≤◌, true, List, length, get_or, set, sym, ap, ◌∙◌, arith, get_or-set_other, get_or-set_same}
+use Rattle.std.proofs.Common.{◌≡◌, ℕ, ◌+◌, ◌*◌, ◌%◌, ◌<◌, ◌≤◌, true, List, length, get_or, set, sym, ap, ◌∙◌, arith}
+use Rattle.std.proofs.Common.{get_or-set_other, get_or-set_same}
 use native.Mathlib.Nat.{mod-add-mod}
 use Rattle.basics.specs.Sums.{sum_to}
 use Rattle.basics.proofs.Parts.{outside_set, outside-within}
@@ -16,7 +17,8 @@ use Rattle.psvn.specs.Rules.{given, applies, step}
 use Rattle.psvn.proofs.Making.{rewritten-at}
 use Rattle.psvn.proofs.Stepping.{step-state}
 use Rattle.words.specs.Packing.{unpack}
-use Rattle.words.specs.Changes.{word_span, changes_length, ranks_of, ranks_word, change_place, part_count, added_to, next_ranks}
+use Rattle.words.specs.Changes.{word_span, changes_length, ranks_of, ranks_word, change_place, part_count, added_to}
+use Rattle.words.specs.Changes.{next_ranks}
 use Rattle.words.specs.Changes.{Changed}
 use Rattle.words.proofs.WordDigits.{unpack-at}
 use Rattle.rank_changes.specs.Rows.{entry, entry_of, Balanced}

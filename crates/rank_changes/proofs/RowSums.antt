@@ -2,7 +2,9 @@
 -- and the sum with it (`sum_added`). Rows begun are balanced (`balanced-none`), also with one term more, a constant
 -- (`constant-more`) or one with a position's label (`row_more`; a right variable's: `source-below`). Making and folding
 -- rows, and the ranks after a rule, rest on these.
-use Rattle.std.proofs.Common.{◌≡◌, ℕ, zero, suc, ◌+◌, ◌*◌, ◌%◌, ◌<◌, ◌≤◌, true, eqb, List, length, get_or, set, sym, refl, ap, ◌∙◌, ⊎_elim, not-suc-le-zero, add_assoc, add-one, arith, get_or-set_other, get_or-set_same, below_more}
+use Rattle.std.proofs.Common.{◌≡◌, ℕ, zero, suc, ◌+◌, ◌*◌, ◌%◌, ◌<◌, ◌≤◌, true, eqb, List, length, get_or, set, sym}
+use Rattle.std.proofs.Common.{refl, ap, ◌∙◌, ⊎_elim, not-suc-le-zero, add_assoc, add-one, arith, get_or-set_other}
+use Rattle.std.proofs.Common.{get_or-set_same, below_more}
 use native.Mathlib.Nat.{mod-mod, mod-add-mod, add-mod-mod}
 use Rattle.basics.specs.Bounded.{some, first}
 use Rattle.basics.specs.Sums.{sum_to}
@@ -132,7 +134,8 @@ module _ (n : ℕ) (left right : ℕ → ℕ) (singles : List ℕ) (few : n ≤ 
     constant-more c x e f =
         record {
           summed = λ s small.
-              with_constant_lem (sum_to (entry_of singles s) n) constant (sum_to (entry_of rows s) n) _ (entry singles i x) _
+              with_constant_lem (sum_to (entry_of singles s) n) constant (sum_to (entry_of rows s) n) _
+              (entry singles i x) _
               (b.summed s small)
               (more s (entry singles i x)
               (ap (λ t. entry singles i (given n left s i t)) e ∙ ap (entry singles i) (sym f)));
@@ -146,7 +149,8 @@ module _ (n : ℕ) (left right : ℕ → ℕ) (singles : List ℕ) (few : n ≤ 
         record {
           summed = λ s small.
               let d = entry singles i (get_or s p 0) in
-              with_row (sum_to (entry_of singles s) n) constant (sum_to (entry_of rows s) n) (sum_to (entry_of rows' s) n)
+              with_row (sum_to (entry_of singles s) n) constant (sum_to (entry_of rows s) n)
+              (sum_to (entry_of rows' s) n)
               _ d _ (b.summed s small) (more s d (ap (entry singles i) (label s)))
               (sum_added added n l s small);
           len = added.rows.len ∙ b.len;

@@ -1,7 +1,8 @@
 -- Which rows of a rule are parts of its change (`plain_row`, `is_part`), and what writing these leaves: a part
 -- (`PartPlaced`), and all of them (`PartsPlaced`), each with what it keeps of the array. The functions that write
 -- parts are stated with these.
-use Rattle.std.specs.Prelude.{◌≡◌, ℕ, ◌+◌, ◌*◌, ◌<◌, ◌≤◌, Bool, not, ◌||◌, List, ◌==◌, nat_eq, slice_index, slice_index_or}
+use Rattle.std.specs.Prelude.{◌≡◌, ℕ, ◌+◌, ◌*◌, ◌<◌, ◌≤◌, Bool, not, ◌||◌, List, ◌==◌, nat_eq, slice_index}
+use Rattle.std.specs.Prelude.{slice_index_or}
 use Rattle.basics.specs.Bounded.{all}
 use Rattle.basics.specs.Parts.{Outside}
 use Rattle.basics.specs.Sums.{sum_to}

@@ -1,6 +1,6 @@
--- The numbers of an answer's record are bytes (`answer-small`), where its goal and those of its plan are and the plan has
--- at most 255 steps; four bytes hold what is below 2^32 (`four_below`, `four-back`).
--- That a printed answer line reads back as its answer rests on this.
+-- The numbers of an answer's record are bytes (`answer-small`), where its goal and those of its plan are and the plan
+-- has at most 255 steps; four bytes hold what is below 2^32 (`four_below`, `four-back`). That a printed answer line
+-- reads back as its answer rests on this.
 use mathlib.Core.Path.{◌≡◌, refl}
 use mathlib.Core.List.{List, [], ◌∷◌, ◌++◌}
 use Prim.Native.Nat.{ℕ, zero, suc, ◌≤◌, ◌<◌}
@@ -24,13 +24,15 @@ bytes-within (x ∷ l) h = bytes-more x l (h 0 (omega arith)) (bytes-within l (�
 four-small : (x : ℕ) → Bytes (bytes_of x)
 four-small x =
     bytes-within (bytes_of x) (λ i l.
-    let d = digit-below (λ j. 256) (λ j. omega arith) 4 x i (omega (arith, length_digits (λ j. 256) 4 x)) in omega arith)
+    let d = digit-below (λ j. 256) (λ j. omega arith) 4 x i (omega (arith, length_digits (λ j. 256) 4 x)) in
+    omega arith)
 
 -- the bytes of a plan, with its steps, its cost and the visits in front
 plan-small : (cost used : ℕ) (p : List ℕ) → length p ≤ 255 → Bytes p → Bytes (plan_bytes cost used p)
 plan-small cost used p few small =
     let numbers = bytes-append (bytes_of cost) (bytes_of used) (four-small cost) (four-small used) in
-    bytes-append (plan_front (length p) cost used) p (bytes-more (length p) (bytes_of cost ++ bytes_of used) few numbers) small
+    bytes-append (plan_front (length p) cost used) p
+    (bytes-more (length p) (bytes_of cost ++ bytes_of used) few numbers) small
 
 -- the bytes of an answer with no plan
 bare-small : (status used : ℕ) → status ≤ 2 → Bytes (status ∷ plan_bytes 0 used [])
@@ -44,7 +46,8 @@ pub answer-small :
 answer-small goal (found u p c) h =
     let (low, few, small) = h u c p refl in
     let bytes = plan_bytes c (visits (found u p c)) p in
-    bytes-more 0 (goal ∷ bytes) (omega arith) (bytes-more goal bytes low (plan-small c (visits (found u p c)) p few small))
+    bytes-more 0 (goal ∷ bytes) (omega arith)
+    (bytes-more goal bytes low (plan-small c (visits (found u p c)) p few small))
 answer-small goal (no_plan u) h = bare-small 1 (visits (no_plan u)) (omega arith)
 answer-small goal (spent u) h = bare-small 2 (visits (spent u)) (omega arith)
 

@@ -34,7 +34,8 @@ written-fits {bytes} {old} w =
     omega (arith, w.told, ap length w.front, front_fits bytes old)
 
 -- and where it fits, the buffer keeps its length
-pub written-length : {bytes old new : List ℕ} {n : ℕ} → Written bytes old n new → n ≤ length old → length new ≡ length old
+pub written-length : {bytes old new : List ℕ} {n : ℕ} → Written bytes old n new → n ≤ length old → length new
+    ≡ length old
 written-length {bytes} {old} w l =
     let rest = drop (length bytes) old in
     omega (arith, w.told, ap length w.front, length-append bytes rest, length-drop (length bytes) old)

@@ -1,7 +1,7 @@
 -- The lists of a round by their figures: it visits just the open lists whose prefixes all have a figure of at most the
 -- threshold (`visited-in`, `in-visited`), and its edges are those with an overshoot (`edge-overshoot`,
--- `overshoot-edge`). So the next threshold is the least overshoot (`next-least`, `next_threshold`). These show the rounds
--- to be the rounds of document 01; the thresholds of a search as a list rest on them.
+-- `overshoot-edge`). So the next threshold is the least overshoot (`next-least`, `next_threshold`). These show the
+-- rounds to be the rounds of document 01; the thresholds of a search as a list rest on them.
 use mathlib.Core.Path.{◌≡◌, refl, ap, subst, sym, ◌∙◌}
 use mathlib.Core.Logic.{inl, inr}
 use mathlib.Core.Option.{some}

@@ -1,7 +1,8 @@
 -- The visits of a search with no allowance are those of its rounds, added up (`visits-sum`), and with an allowance they
--- are counted so (`visits-counted`). Its thresholds are first the start's estimate (`first_threshold`) and then each the
--- next after a round at the one before (`consecutive`); they are just those at which a round is made (`round-at-member`,
--- `member-round-at`). A round is the same after any visits (`round-later`). The search on an exercise rests on these.
+-- are counted so (`visits-counted`). Its thresholds are first the start's estimate (`first_threshold`) and then each
+-- the next after a round at the one before (`consecutive`); they are just those at which a round is made
+-- (`round-at-member`, `member-round-at`). A round is the same after any visits (`round-later`). The search on an
+-- exercise rests on these.
 use mathlib.Core.Path.{◌≡◌, refl, sym, ap, subst, ◌∙◌}
 use mathlib.Core.Logic.{◌⊎◌, inl, inr}
 use mathlib.Core.Bool.{Bool, true, false, cond}

@@ -1,6 +1,6 @@
 -- The thresholds of the rounds that a search with no allowance makes (`thresholds`), and how they follow one another
--- (`Consecutive`, `RoundAt`). Visits are counted over these rounds: `round_visits` are those of one, and `VisitsCounted`
--- says what they are for an answer.
+-- (`Consecutive`, `RoundAt`). Visits are counted over these rounds: `round_visits` are those of one, and
+-- `VisitsCounted` says what they are for an answer.
 use Rattle.std.specs.Prelude.{◌≡◌, cond, List, [], ◌∷◌, map, ℕ, zero, suc, ◌≤◌, ◌<◌, leb, length}
 use Rattle.basics.specs.Lists.{total}
 use Rattle.rounds.specs.Systems.{System, Estimate, mark, at}

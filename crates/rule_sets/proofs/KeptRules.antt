@@ -55,6 +55,7 @@ sets-made {code} rules n s long few low k p =
       plain =
           rw (get_or-set_same code plain_place s 0 (omega arith))
           (plain_set_lem rules
-          (plain-kept (outside_set plain_place s (omega arith) (omega arith) (outside-none sets_place counts_place code))
+          (plain-kept (outside_set plain_place s (omega arith) (omega arith)
+          (outside-none sets_place counts_place code))
           rules few s p));
     }

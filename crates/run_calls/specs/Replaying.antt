@@ -1,6 +1,6 @@
--- Replaying a recorded run, as a public call: `replay_run` is the answer with the final contents of the lent buffer, for
--- every input, and `ReplayKept` what the call promises. `replay_of` gives the document's answer for each case of the
--- enum.
+-- Replaying a recorded run, as a public call: `replay_run` is the answer with the final contents of the lent buffer,
+-- for every input, and `ReplayKept` what the call promises. `replay_of` gives the document's answer for each case of
+-- the enum.
 use Rattle.std.specs.Prelude.{◌≡◌, ℕ, true, List, [], ◌∷◌, ◌++◌, leb, length, take}
 use Rattle.basics.specs.Lists.{at_front}
 use Rattle.refusals.specs.Answers.{Answer, refused, told, Condition, ◌unless◌, verdict, Outcome, outcome, guarded}

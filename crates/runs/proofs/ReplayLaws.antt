@@ -61,7 +61,8 @@ module _ (b s rs : List ℕ) where
       let a = in-turn-at b s (take n rs) h i (omega (arith, length-take-le n rs m)) in
       ap not (rw (get_or-take n rs i 0 l, take-take i n rs (omega arith)) at a)
 
-  before-intro : (n : ℕ) → n ≤ length rs → ((i : ℕ) → i < n → fails b s rs i ≡ false) → apply_in_turn b s (take n rs) ≡ true
+  before-intro : (n : ℕ) → n ≤ length rs → ((i : ℕ) → i < n → fails b s rs i ≡ false) → apply_in_turn b s (take n rs)
+      ≡ true
   before-intro n m h =
       in-turn-intro b s (take n rs) (λ i l.
       let k : i < n = omega (arith, length-take-le n rs m) in
@@ -94,7 +95,8 @@ module _ (b s rs : List ℕ) where
   count-within = first-within (fails b s rs) (length rs)
 
   -- and back: by the count, a rule is left or none
-  stopped : ltb (applied_count b s rs) (length rs) ≡ true → StuckAt b s rs (replay_end b s rs no_goal) (replay_state b s rs)
+  stopped : ltb (applied_count b s rs) (length rs) ≡ true
+      → StuckAt b s rs (replay_end b s rs no_goal) (replay_state b s rs)
   unfolding applied_count replay_end
   stopped e =
       let n = applied_count b s rs in
@@ -136,14 +138,16 @@ module _ (b s rs : List ℕ) where
     where
       go : (t : Bool) → ltb (applied_count b s rs) (length rs) ≡ t → DoneAt b s rs d (replay_state b s rs)
       go true e = absurd (let z : ◌≡◌ {A = ℕ} 0 1 = cc (e, h) in omega arith)
-      go false e = let q : done_end ≡ d = cc (e, h) in subst (λ (e : RunEnd). DoneAt b s rs e (replay_state b s rs)) q (finished v e)
+      go false e = let q : done_end
+          ≡ d = cc (e, h) in subst (λ (e : RunEnd). DoneAt b s rs e (replay_state b s rs)) q (finished v e)
 
   pub stuck_at : (d : RunEnd) → replay_ending b s rs ≡ Stuck d → StuckAt b s rs d (replay_state b s rs)
   unfolding replay_ending
   stuck_at d h = go (ltb (applied_count b s rs) (length rs)) refl
     where
       go : (t : Bool) → ltb (applied_count b s rs) (length rs) ≡ t → StuckAt b s rs d (replay_state b s rs)
-      go true e = let q : replay_end b s rs no_goal ≡ d = cc (e, h) in subst (λ (e : RunEnd). StuckAt b s rs e (replay_state b s rs)) q (stopped e)
+      go true e = let q : replay_end b s rs no_goal
+          ≡ d = cc (e, h) in subst (λ (e : RunEnd). StuckAt b s rs e (replay_state b s rs)) q (stopped e)
       go false e = absurd (let z : ◌≡◌ {A = ℕ} 0 1 = cc (e, h) in omega arith)
 
   -- the state there
@@ -160,7 +164,8 @@ module _ (b s rs : List ℕ) where
       rw (get_or-take n rs i 0 m) (h i (omega (arith, count-within))))
 
 -- no rules
-pub replay-empty : (b s : List ℕ) → replay_ending b s [] ≡ Done (record { steps = 0; cost = 0; goal = goal_byte (met_goal b s) })
+pub replay-empty : (b s : List ℕ) → replay_ending b s []
+    ≡ Done (record { steps = 0; cost = 0; goal = goal_byte (met_goal b s) })
 unfolding replay_ending replay_end replay_state applied_count
 replay-empty b s = refl
 

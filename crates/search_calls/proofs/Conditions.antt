@@ -55,13 +55,15 @@ module _ (b maps s : List ℕ) (l : Limits) (t : List ℕ) (room : ℕ) where
 
   -- block and maps are refused, or what is asked, or what is lent decides
   pub exercise-refused :
-      (k : ℕ) → verdict (exercise_conditions b maps) ≡ refused k → verdict (search_conditions b maps s l t room) ≡ refused k
+      (k : ℕ) → verdict (exercise_conditions b maps) ≡ refused k → verdict (search_conditions b maps s l t room)
+      ≡ refused k
   unfolding search_conditions
   exercise-refused k h = verdict-before (exercise_conditions b maps) (query_conditions b s l ++ lent) k h
 
   module _ (valid : verdict (exercise_conditions b maps) ≡ told tt) where
     pub query-refused :
-        (k : ℕ) → verdict (query_conditions b s l) ≡ refused k → verdict (search_conditions b maps s l t room) ≡ refused k
+        (k : ℕ) → verdict (query_conditions b s l) ≡ refused k → verdict (search_conditions b maps s l t room)
+        ≡ refused k
     unfolding search_conditions
     query-refused k h =
         verdict-behind (exercise_conditions b maps) (query_conditions b s l ++ lent) valid

@@ -43,7 +43,8 @@ module _ (b maps s : List ℕ) (l : Limits) (t buffer buffer' : List ℕ) where
 
   pub answered-by :
       l.steps ≤ length buffer → (r : Ending) → FoundWithin l.steps r → Ended r
-      → outcome (search_of (given_as r)) buffer' ≡ answering (reported (plan_goal b s whole) whole) (at_front (rounds.plan whole) buffer)
+      → outcome (search_of (given_as r)) buffer'
+      ≡ answering (reported (plan_goal b s whole) whole) (at_front (rounds.plan whole) buffer)
   unfolding rounds.visits
   answered-by room (ending.Found p) within h =
       let longer = front-longer (rounds.plan whole) buffer in

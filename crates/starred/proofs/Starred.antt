@@ -10,8 +10,10 @@ use lib.Dec.{lit<, lit≤}
 use lib.ListN.{get_or}
 use Rattle.basics.proofs.Truth.{true-false}
 use Rattle.refusals.specs.Answers.{told, outcome}
-use Rattle.blocks.specs.Layout.{labels, rules, head_byte, label_count, abstract_count, abstract_states, map_byte, map_at}
-use Rattle.blocks.specs.Layout.{rule_width, rule_at, left_at, right_at, goal_at, block_length, frame_count, frame_length}
+use Rattle.blocks.specs.Layout.{labels, rules, head_byte, label_count, abstract_count, abstract_states, map_byte}
+use Rattle.blocks.specs.Layout.{map_at}
+use Rattle.blocks.specs.Layout.{rule_width, rule_at, left_at, right_at, goal_at, block_length, frame_count}
+use Rattle.blocks.specs.Layout.{frame_length}
 use Rattle.blocks.specs.Layout.{cost_of, relabel_head}
 use Rattle.blocks.specs.Validity.{sizes_ok, head_ok, length_ok, map_ok, side_ok, rule_terms_ok, goal_terms_ok, terms_ok}
 use Rattle.blocks.specs.Validity.{rule_bound, bound_ok, shape_conditions, content_conditions, block_conditions, Valid}
@@ -64,24 +66,32 @@ use Rattle.starred.specs.Starred.{block_e, table_e, session_e}
 -- the definitions that are opened to compute
 computing : Unit {0}
 unfolding example_block example_state example_image pair_block block_e table_e head_byte label_count abstract_count
-    abstract_states map_byte map_at cost_of relabel_head rule_width rule_at left_at right_at goal_at block_length sizes_ok head_ok
-    length_ok map_ok side_ok rule_terms_ok goal_terms_ok terms_ok rule_bound bound_ok shape_conditions content_conditions
-    block_conditions labelled bound matches rewritten applies step leads state_conditions apply_conditions apply_rule step_back_conditions step_back_from reversible
-    reversible_conditions test_reversible goal_met meets met_goal relabel_side relabel_rule relabel_goal relabel_block rank unrank
-    step_rank passes_at passes certifies passes_test least_by least_within least_costs filled further_maps maps_whole further_ok
+    abstract_states map_byte map_at cost_of relabel_head rule_width rule_at left_at right_at goal_at block_length
+    sizes_ok head_ok
+    length_ok map_ok side_ok rule_terms_ok goal_terms_ok terms_ok rule_bound bound_ok shape_conditions
+    content_conditions
+    block_conditions labelled bound matches rewritten applies step leads state_conditions apply_conditions apply_rule
+    step_back_conditions step_back_from reversible
+    reversible_conditions test_reversible goal_met meets met_goal relabel_side relabel_rule relabel_goal relabel_block
+    rank unrank
+    step_rank passes_at passes certifies passes_test least_by least_within least_costs filled further_maps maps_whole
+    further_ok
     maps_ok map_conditions exercise_conditions all_filled all_pass table_conditions fill_table test_table
 computing = tt
 
 -- and those for a search
 searching : Unit {0}
-unfolding relabel_state entry estimate largest_entry lower and_then behind take_up conclude capped begin arrive offer extend visit
-    round rounds rounds_from search log_then log_behind log_take log_arrive log_extend log_visit round_log thresholds_from
+unfolding relabel_state entry estimate largest_entry lower and_then behind take_up conclude capped begin arrive offer
+    extend visit
+    round rounds rounds_from search log_then log_behind log_take log_arrive log_extend log_visit round_log
+    thresholds_from
     thresholds visits search_from query_conditions lent_conditions tables_conditions search_conditions find_plan
 searching = tt
 
 -- and those for what `par` prints
 printing : Unit {0}
-unfolding session_e is_digit digit_value digit_of flat_map frame_count frame_length frame_conditions read_conditions head_reads exercise_count
+unfolding session_e is_digit digit_value digit_of flat_map frame_count frame_length frame_conditions read_conditions
+    head_reads exercise_count
     open_conditions query_line_conditions search_asked answer_line par_output
 printing = tt
 
@@ -103,7 +113,8 @@ example-leads = refl
 
 -- no other state is taken to the image
 only : (u : List ℕ) → state_ok example_block u ≡ true → leads example_block 0 u example_image ≡ true → u ≡ example_state
-only u ok h = one-predecessor example_block 0 example-form example_image u example_state ok example_state_lem h example-leads
+only u ok h = one-predecessor example_block 0 example-form example_image u example_state ok example_state_lem h
+    example-leads
 
 example-found : step_back example_block 0 example_image from_first ≡ found example_state
 example-found =
@@ -163,13 +174,17 @@ unfolding computing searching printing
 starred =
     record {
       example_step = refl;
-      example_only = λ u ok h e. reversible-one example_block 0 example-form u example_state ok example_state_lem h refl e;
-      example_first = ap (λ (next : NextState). outcome (told (is_found next)) (written_out next room_example)) example-found;
-      example_no_further = ap (λ (next : NextState). outcome (told (is_found next)) (written_out next room_example)) example-none;
+      example_only = λ u ok h e. reversible-one example_block 0 example-form u example_state ok example_state_lem h
+          refl e;
+      example_first = ap (λ (next : NextState). outcome (told (is_found next)) (written_out next room_example))
+          example-found;
+      example_no_further = ap (λ (next : NextState). outcome (told (is_found next)) (written_out next room_example))
+          example-none;
       pair_reversible = refl;
       pair_one_to_one = reversible-one pair_block 0 pair-form;
       pair_not_reversible = refl;
-      pair_not_one_to_one = λ one. true-false ((reversible_exactly pair_block 1 pair-valid pair-rule pair-labels).1 one) pair-no-form;
+      pair_not_one_to_one =
+          λ one. true-false ((reversible_exactly pair_block 1 pair-valid pair-rule pair-labels).1 one) pair-no-form;
       table_filled = refl;
       table_least = e-entry;
       table_passes = refl;

@@ -137,7 +137,8 @@ pub record Starred : Type 0 where
   -- the table of zeros passes, of input E and of every exercise
   pub zeros_pass : test_table block_e [] (0 ∷ 0 ∷ 0 ∷ 0 ∷ 0 ∷ 0 ∷ 0 ∷ 0 ∷ []) ≡ told true
   pub zeros_always_pass :
-      (b : List ℕ) → Valid b → (t : List ℕ) → ((k : ℕ) → k < abstract_states b → get_or t k 0 ≡ 0) → passes_test b t ≡ true
+      (b : List ℕ) → Valid b → (t : List ℕ) → ((k : ℕ) → k < abstract_states b → get_or t k 0 ≡ 0) → passes_test b t
+      ≡ true
   -- the search of input E from <1,2,0> with its table, step limit 8, cost limit 100 and allowance 100: found, 3 steps,
   -- cost 5, 10 visits, plan 2, 0, 5, which reaches goal 0
   pub search_found :
@@ -151,12 +152,15 @@ pub record Starred : Type 0 where
       ≡ 1 ∷ 2 ∷ 3 ∷ 4 ∷ []
   -- an allowance of 9 is spent; without a plan the goal is FF
   pub search_spent :
-      find_plan block_e [] start_e (limits 8 100 9) table_e room_e ≡ outcome (told (search_answer 2 0 0 9 no_goal)) room_e
+      find_plan block_e [] start_e (limits 8 100 9) table_e room_e
+      ≡ outcome (told (search_answer 2 0 0 9 no_goal)) room_e
   -- with cost limit 4, or with step limit 2, there is no plan
   pub search_cost_limit :
-      find_plan block_e [] start_e (limits 8 4 100) table_e room_e ≡ outcome (told (search_answer 1 0 0 6 no_goal)) room_e
+      find_plan block_e [] start_e (limits 8 4 100) table_e room_e
+      ≡ outcome (told (search_answer 1 0 0 6 no_goal)) room_e
   pub search_step_limit :
-      find_plan block_e [] start_e (limits 2 100 100) table_e room_e ≡ outcome (told (search_answer 1 0 0 11 no_goal)) room_e
+      find_plan block_e [] start_e (limits 2 100 100) table_e room_e
+      ≡ outcome (told (search_answer 1 0 0 11 no_goal)) room_e
   -- the table of zeros gives the same plan, after 19 visits
   pub search_zeros :
       find_plan block_e [] start_e (limits 8 100 100) (0 ∷ 0 ∷ 0 ∷ 0 ∷ 0 ∷ 0 ∷ 0 ∷ 0 ∷ []) room_e

@@ -1,7 +1,7 @@
--- Filling and testing the tables of all maps, as public calls: `fill_table` is the answer with the final contents of the
--- lent table, `test_table` the answer, for every input; `FillingKept` and `TableTestKept` are what they promise.
--- `filling_of` and `table_test_of` give the document's answer for each case of their enums; `table_conditions` turn both
--- calls back.
+-- Filling and testing the tables of all maps, as public calls: `fill_table` is the answer with the final contents of
+-- the lent table, `test_table` the answer, for every input; `FillingKept` and `TableTestKept` are what they promise.
+-- `filling_of` and `table_test_of` give the document's answer for each case of their enums; `table_conditions` turn
+-- both calls back.
 use Rattle.std.specs.Prelude.{◌≡◌, ℕ, Bool, true, false, List, [], ◌∷◌, ◌++◌, leb, length}
 use Rattle.basics.specs.Lists.{at_front}
 use Rattle.refusals.specs.Answers.{Answer, refused, told, Condition, ◌unless◌, verdict, answered}

@@ -25,7 +25,8 @@ part_rank b s i = value_to (abstract_count b) (relabel_state b s) i
 
 module _ (b s : List ℕ) where
   pub part-more :
-      (i : ℕ) → i < positions b → part_rank b s (i + 1) ≡ part_rank b s i * abstract_count b i + map_at b i (get_or s i 0)
+      (i : ℕ) → i < positions b → part_rank b s (i + 1)
+      ≡ part_rank b s i * abstract_count b i + map_at b i (get_or s i 0)
   part-more i l =
       ap (part_rank b s) (add-one i)
       ∙ ap (λ (x : ℕ). part_rank b s i * abstract_count b i + x) (relabelled-label b s i l)

@@ -21,7 +21,8 @@ module _
   applied = ap (applies_word code r) e ∙ word-applies a code weights ready u r l
 
   pub no-cost : (t : List ℕ) → applies_word code r w ≡ false → via (graph_of a) t u r ≡ none
-  no-cost t h = via-none (graph_of a) t u r (step_rank a u r) refl (step-out a code weights ready u r l (sym applied ∙ h))
+  no-cost t h = via-none (graph_of a) t u r (step_rank a u r) refl
+      (step-out a code weights ready u r l (sym applied ∙ h))
 
   -- the rank v of the word m that the rule makes
   pub leads-to :

@@ -61,7 +61,8 @@ module _ (a code weights : List ℕ) (ready : Ready a code weights) where
         additive-first ready.compiled ready.weighted some (left_place r) (left_of a r) (left_of a r)
         (ready.compiled.rule r l).left.sided left-terms
 
-    pub rule-second : Additive (position_count code) (labels a) (second_rank code weights (left_place r) (right_place r))
+    pub rule-second : Additive (position_count code) (labels a)
+        (second_rank code weights (left_place r) (right_place r))
     rule-second =
         additive-second ready.compiled ready.weighted some (left_place r) (left_of a r) (left_of a r)
         (ready.compiled.rule r l).left.sided left-terms (right_place r) (left_of a r) (right_of a r)
@@ -151,7 +152,8 @@ module _ (a code weights : List ℕ) (ready : Ready a code weights) where
   unfolding applies
   rule-listed t r l sources targets count cost h c p u i v = go (applies a r (unrank a u)) refl
     where
-      go : (x : Bool) → applies a r (unrank a u) ≡ x → Bounded (get_or t u 0) (cost_of a r) (get_or t (step_rank a u r) 0)
+      go : (x : Bool) → applies a r (unrank a u) ≡ x
+          → Bounded (get_or t u 0) (cost_of a r) (get_or t (step_rank a u r) 0)
       go true e =
           let s = ready.compiled.rule r l in
           let (j, k, es, et) =

@@ -1,6 +1,6 @@
 -- What stays of a compiled block where parts of it are written anew: a side whose elements stay makes and tests the
--- same (`sided-kept`, `tested-kept`), and so a rule whose sides and cost stay is the same (`rule-kept`). Sides and costs
--- stand in front of the sets of rules, so that code in which only these are written says the same of its block
+-- same (`sided-kept`, `tested-kept`), and so a rule whose sides and cost stay is the same (`rule-kept`). Sides and
+-- costs stand in front of the sets of rules, so that code in which only these are written says the same of its block
 -- (`compiled-kept`). Compiling side after side, and making the sets, rest on these.
 use Rattle.std.proofs.Common.{◌≡◌, ℕ, ◌+◌, ◌*◌, ◌%◌, ◌<◌, ◌≤◌, List, get_or, ap, ◌∙◌, arith}
 use Rattle.basics.specs.Parts.{Outside}

@@ -2,7 +2,8 @@
 -- says of the word's state (`mismatch-word`, `matches-word`, `applies-word`, `step-word`, `step_small`, `cost-word`),
 -- goals likewise (`meets_word_lem`, `met-goal-word`), and the rank of the relabelled state (`rank-word`). The words of
 -- states and of ranks hold those states (`state-word`, `unpack-word-of`). The tables and the search rest on these.
-use Rattle.std.proofs.Common.{◌≡◌, ℕ, zero, suc, ◌+◌, ◌*◌, ◌/◌, ◌^◌, ◌<◌, ◌≤◌, true, not, ◌&&◌, ◌⊎◌, List, get_or, sym, refl, ap, ◌∙◌, ap₂, inl, inr, ⊎_elim, add_assoc, arith}
+use Rattle.std.proofs.Common.{◌≡◌, ℕ, zero, suc, ◌+◌, ◌*◌, ◌/◌, ◌^◌, ◌<◌, ◌≤◌, true, not, ◌&&◌, ◌⊎◌, List, get_or, sym}
+use Rattle.std.proofs.Common.{refl, ap, ◌∙◌, ap₂, inl, inr, ⊎_elim, add_assoc, arith}
 use Rattle.basics.proofs.Bounded.{all_past, all-ext, some-ext, find_past, find-ext}
 use Rattle.basics.proofs.Comparing.{same?}
 use Rattle.blocks.specs.Terms.{term_of}
@@ -96,7 +97,8 @@ module _ {b weights : List ℕ} (t : Weighted b weights) where
     digit_low j l =
         omega (arith, state-label b (unpack (positions b) w) ok j l, unpack-at (positions b) w j l)
 
-    weight-at : (j : ℕ) → j < positions b → weight_of b j (digit w j) ≡ weight_of b j (get_or (unpack (positions b) w) j 0)
+    weight-at : (j : ℕ) → j < positions b → weight_of b j (digit w j)
+        ≡ weight_of b j (get_or (unpack (positions b) w) j 0)
     weight-at j l = ap (weight_of b j) (sym (unpack-at (positions b) w j l))
 
     -- the weights of the pairs are those of their labels
@@ -136,7 +138,8 @@ module _ {b weights : List ℕ} (t : Weighted b weights) where
 
 -- the words of states and of ranks
 module _ {b : List ℕ} (h : Headed b) where
-  pub state-word : (s : List ℕ) → state_ok b s ≡ true → (unpack (positions b) (pack s) ≡ s) × (pack s < 16 ^ positions b)
+  pub state-word : (s : List ℕ) → state_ok b s ≡ true → (unpack (positions b) (pack s) ≡ s)
+      × (pack s < 16 ^ positions b)
   state-word s ok =
       let e = state-length b s ok in
       let small : Small s = λ k l. label-below b h s ok k (omega arith) in

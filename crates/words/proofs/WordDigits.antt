@@ -1,13 +1,16 @@
 -- Base-16 words: the digits of a byte (`pair-byte`), of `&`, `|`, `^` and of one digit at its place, and that a word of
 -- n labels is told by its first n digits (`same_digits`); packing and unpacking undo one another (`unpack-pack`,
 -- `pack-unpack`). The functions on words, compiling and what compiled arrays mean rest on these.
-use Rattle.std.proofs.Common.{◌≡◌, ℕ, zero, suc, ◌+◌, ◌*◌, ◌/◌, ◌%◌, ◌^◌, ◌<◌, ◌≤◌, List, [], ◌∷◌, ◌++◌, length, get_or, sym, refl, ap, ◌∙◌, ap₂, lt_of_lt_of_le, le_of_suc-le-suc, not-suc-le-zero, add-zero, add-suc, mod-lt, mod-eq_of_lt, zero-lt-suc, mul_assoc, suc-add, pow-suc, div-add-mod', zero-add, mul-one, div-one, mul-div_cancel, arith, lit<, pow-add, shl_exact}
+use Rattle.std.proofs.Common.{◌≡◌, ℕ, zero, suc, ◌+◌, ◌*◌, ◌/◌, ◌%◌, ◌^◌, ◌<◌, ◌≤◌, List, [], ◌∷◌, ◌++◌, length, get_or}
+use Rattle.std.proofs.Common.{sym, refl, ap, ◌∙◌, ap₂, lt_of_lt_of_le, le_of_suc-le-suc, not-suc-le-zero, add-zero}
+use Rattle.std.proofs.Common.{add-suc, mod-lt, mod-eq_of_lt, zero-lt-suc, mul_assoc, suc-add, pow-suc, div-add-mod'}
+use Rattle.std.proofs.Common.{zero-add, mul-one, div-one, mul-div_cancel, arith, lit<, pow-add, shl_exact}
 use native.Mathlib.Nat.{pow-succ', pow-le-pow_right, div-div-eq-div-mul, div-eq_of_lt}
 use native.Mathlib.Nat.{mul-mod_left, one-le-pow}
 use lib.Arith.{digits_lt, digits_div, digits_mod}
 use lib.Bits.{bit_and, bit_or, bit_xor, and_shr, and_mod, or_shr, or_mod, xor_shr, xor_mod, or_lt, or_zero_l, or_zero_r}
 use Rattle.basics.specs.Lists.{tabulate_from}
-use Rattle.basics.proofs.Lists.{length-tabulate, get_d_tabulate, tabulate-ext, same-list}
+use Rattle.basics.proofs.Lists.{length-tabulate, get_or-tabulate, tabulate-ext, same-list}
 use Rattle.words.specs.Packing.{digit, digit_pair, pack, unpack}
 
 -- powers of 16 and of 2
@@ -146,7 +149,7 @@ module _ (n w : ℕ) where
 
   pub unpack-at : (i : ℕ) → i < n → get_or (unpack n w) i 0 ≡ digit w i
   unfolding unpack
-  unpack-at i l = get_d_tabulate n (digit w) i l
+  unpack-at i l = get_or-tabulate n (digit w) i l
 
 -- the last label stands highest
 pub pack-last : (s : List ℕ) (x : ℕ) → pack (s ++ (x ∷ [])) ≡ pack s + x * 16 ^ length s

@@ -2,7 +2,8 @@
 -- differ in some bits, and the lowest of these stands in the lowest position that differs (`mismatch-found`); where
 -- they do not differ, no constant does (`mismatch-none`). By the answer all constants agree, or the side is ruled out
 -- (`constants-agree-word`, `ruled-out-word`). The functions that match on words rest on these.
-use Rattle.std.proofs.Common.{◌≡◌, ℕ, zero, suc, ◌+◌, ◌*◌, ◌/◌, ◌%◌, ◌^◌, ◌<◌, Bool, true, false, not, ◌&&◌, eqb, List, sym, ap, ◌∙◌, arith, lit<, pow-add, eq-eqb, ne_eqb}
+use Rattle.std.proofs.Common.{◌≡◌, ℕ, zero, suc, ◌+◌, ◌*◌, ◌/◌, ◌%◌, ◌^◌, ◌<◌, Bool, true, false, not, ◌&&◌, eqb, List}
+use Rattle.std.proofs.Common.{sym, ap, ◌∙◌, arith, lit<, pow-add, eq-eqb, ne_eqb}
 use mathlib.Core.Option.{none, some}
 use native.Mathlib.Nat.{div-div-eq-div-mul}
 use lib.Bits.{bit_and, bit_xor, and_le_l, and_le_r, xor_add_and, xor_self}

@@ -1,7 +1,9 @@
 -- Ranks by words: one digit more of the word of a rank (`word_more`); place values, from the last position on
 -- (`place-last`, `place-more`), stay within the number of states (`place-below`); a state's weights add up to the rank
 -- of its relabelled state (`labels-rank`). The word of a rank, the rank of a word, and the weights rest on these.
-use Rattle.std.proofs.Common.{◌≡◌, ℕ, zero, suc, ◌+◌, ◌-◌, ◌*◌, ◌/◌, ◌%◌, ◌^◌, ◌<◌, ◌≤◌, List, get_or, sym, ap, ◌∙◌, ap₂, add-zero, add-suc, mul-le-mul_right, mul_assoc, add-mul, suc-add, one-mul, zero-mul, mul-one, arith}
+use Rattle.std.proofs.Common.{◌≡◌, ℕ, zero, suc, ◌+◌, ◌-◌, ◌*◌, ◌/◌, ◌%◌, ◌^◌, ◌<◌, ◌≤◌, List, get_or, sym, ap, ◌∙◌}
+use Rattle.std.proofs.Common.{ap₂, add-zero, add-suc, mul-le-mul_right, mul_assoc, add-mul, suc-add, one-mul, zero-mul}
+use Rattle.std.proofs.Common.{mul-one, arith}
 use native.Mathlib.Nat.{pow-succ'}
 use Rattle.basics.specs.Digits.{value_to, digits, span}
 use Rattle.basics.proofs.Digits.{length_digits}

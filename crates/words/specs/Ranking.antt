@@ -1,6 +1,6 @@
--- Ranks by words: the rank of the relabelled state as a sum of weights (`rank_word`), and the word of the abstract state
--- of a rank (`word_of`). The array of weights has one for each pair of positions and each two labels that stand there:
--- the weights of their abstract labels together.
+-- Ranks by words: the rank of the relabelled state as a sum of weights (`rank_word`), and the word of the abstract
+-- state of a rank (`word_of`). The array of weights has one for each pair of positions and each two labels that stand
+-- there: the weights of their abstract labels together.
 use Rattle.std.specs.Prelude.{ℕ, zero, suc, ◌+◌, ◌-◌, ◌*◌, ◌/◌, List, slice_index}
 use Rattle.blocks.specs.Layout.{positions, abstract_count, map_at}
 use Rattle.psvn.specs.Ranks.{unrank}

@@ -1,8 +1,9 @@
 -- Sides compiled for words, as the arrays hold them: what a side makes of a word (`rewritten_word`), whether a word
--- matches it, in two parts (`mismatch_word`, `variables_word`; `matches_word`), and so a rule's test, its result and its
--- cost, and the goal met. Where a side stands in the arrays is defined here; `compiling` knows it too, and other
+-- matches it, in two parts (`mismatch_word`, `variables_word`; `matches_word`), and so a rule's test, its result and
+-- its cost, and the goal met. Where a side stands in the arrays is defined here; `compiling` knows it too, and other
 -- crates name a side by its number.
-use Rattle.std.specs.Prelude.{ℕ, zero, suc, ◌+◌, ◌*◌, ◌%◌, ◌^◌, Bool, not, ◌&&◌, List, [], ◌∷◌, ◌==◌, bit_and, bit_or, slice_index}
+use Rattle.std.specs.Prelude.{ℕ, zero, suc, ◌+◌, ◌*◌, ◌%◌, ◌^◌, Bool, not, ◌&&◌, List, [], ◌∷◌, ◌==◌, bit_and, bit_or}
+use Rattle.std.specs.Prelude.{slice_index}
 use Rattle.std.proofs.Math.Option.{Option}
 use Rattle.basics.specs.Bounded.{all, some, find}
 use Rattle.words.specs.Packing.{digit}
@@ -50,7 +51,8 @@ join_moves v w from to (suc j) = bit_or (join_moves v w from to j) (moved w (dig
 -- what the side at place x keeps of a word, its constants, and its moves
 unfoldable pub rewritten_word : List ℕ → ℕ → ℕ → ℕ
 rewritten_word code x w =
-    join_moves (bit_or (bit_and w (keep_at code x)) (value_at code x)) w (from_at code x) (to_at code x) (count_at code x)
+    join_moves (bit_or (bit_and w (keep_at code x)) (value_at code x)) w (from_at code x) (to_at code x)
+    (count_at code x)
 
 -- the first part of matching: a label may stand at position i, as far as the constants of the side at place x go; no
 -- constant differs from a word's label there, and none at all; "the lowest position whose constant differs", or none

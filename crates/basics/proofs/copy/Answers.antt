@@ -13,7 +13,8 @@ use Rattle.basics.proofs.copy.Goals as goal
 use Rattle.basics.proofs.copy.Goals.{After-loop-i, After-shared_slice_known-1}
 
 -- one byte more
-copy_more : (i : ℕ) (s d : List ℕ) → i < length s → set (sets d 0 (take i s)) i (get_or s i 0) ≡ sets d 0 (take (i + 1) s)
+copy_more : (i : ℕ) (s d : List ℕ) → i < length s → set (sets d 0 (take i s)) i (get_or s i 0)
+    ≡ sets d 0 (take (i + 1) s)
 copy_more i s d l =
     ap (λ (k : ℕ). set (sets d 0 (take i s)) k (get_or s i 0))
     (sym (length-take-le i s (omega arith)) ∙ sym (zero-add (length (take i s))))

@@ -13,7 +13,8 @@ loop-label-init c =
     (omega arith, omega arith, omega arith, sym (one-mul n), c.requires.lists_len.0, grown-none n, grown-none n)
 
 pub returns-then-at-count : goal.returns-then-at-count
-returns-then-at-count c = let i = c.loop-label.invariant in record { labels_added = grown-over i.5; labels_added_2 = grown-over i.6; lists_len_2 = i.4 }
+returns-then-at-count c = let i = c.loop-label.invariant in
+    record { labels_added = grown-over i.5; labels_added_2 = grown-over i.6; lists_len_2 = i.4 }
 
 pub extend-requires : goal.extend-requires
 extend-requires c =
@@ -50,4 +51,9 @@ loop-label-preserved c =
 pub returns : goal.returns
 returns c =
     let i = c.loop-label.invariant in
-    record { labels_added = grown-all i.5 (omega arith) i.1 i.2 i.3; labels_added_2 = grown-all i.6 (omega arith) i.1 i.2 i.3; lists_len_2 = i.4 }
+    record {
+      labels_added = grown-all i.5 (omega arith) i.1 i.2 i.3;
+      labels_added_2 =
+          grown-all i.6 (omega arith) i.1 i.2 i.3;
+      lists_len_2 = i.4;
+    }

@@ -11,7 +11,8 @@ abbrev pub invariant-loop-label : goal.invariant-loop-label
 invariant-loop-label l =
     (1 ≤ l.label) × (l.at ≤ 16384) × (l.count ≤ l.at) × (l.at ≡ l.label * l.count) × (length l.lists ≡ lists_length)
     × Grown (first_rank l.code l.weights l.x) l.label l.p l.count l.at (source_at l.initial.lists) (source_at l.lists)
-    × Grown (second_rank l.code l.weights l.x l.y) l.label l.p l.count l.at (target_at l.initial.lists) (target_at l.lists)
+    × Grown (second_rank l.code l.weights l.x l.y) l.label l.p l.count l.at (target_at l.initial.lists)
+    (target_at l.lists)
 
 abbrev pub decreases-loop-label : goal.decreases-loop-label
 decreases-loop-label l = l.labels - l.label

@@ -38,7 +38,11 @@ pub add_labels-count-requires : goal.add_labels-count-requires
 add_labels-count-requires c =
     let l = c.loop-p in
     let q = c.requires.code_bound in
-    record { code_bound = (q.0, q.1, q.2, q.3, omega arith, l.invariant.1); lists_len = (l.invariant.2, omega (arith, l.invariant.3), omega (arith, l.invariant.4)) }
+    record {
+      code_bound = (q.0, q.1, q.2, q.3, omega arith, l.invariant.1);
+      lists_len =
+          (l.invariant.2, omega (arith, l.invariant.3), omega (arith, l.invariant.4));
+    }
 
 pub loop-p-preserved-then-not-is_idle : goal.loop-p-preserved-then-not-is_idle
 loop-p-preserved-then-not-is_idle c =
@@ -56,7 +60,8 @@ loop-p-preserved-then-not-is_idle c =
       q.labels_added.front ∙ l.invariant.3,
       q.labels_added_2.front ∙ l.invariant.4,
       λ z.
-          listed_more f g n a.labels c.requires.additive c.requires.additive_2 (l.p - 1) (omega (arith, k, l.invariant.0)) _ _ _ _
+          listed_more f g n a.labels c.requires.additive c.requires.additive_2 (l.p - 1)
+          (omega (arith, k, l.invariant.0)) _ _ _ _
           l.count c.add_labels-count.result l.invariant.3 l.invariant.4 q.labels_added q.labels_added_2 z
           (rw e at (l.invariant.5 (q.labels_added.not_none z))),
     )

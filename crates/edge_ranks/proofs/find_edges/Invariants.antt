@@ -13,7 +13,8 @@ invariant-loop-p l =
     × (source_at l.lists 0 ≡ first_rank l.code l.weights l.x 0 % 16384)
     × (target_at l.lists 0 ≡ second_rank l.code l.weights l.x l.y 0 % 16384)
     × (0 < l.count
-    → Listed (first_rank l.code l.weights l.x) (second_rank l.code l.weights l.x l.y) (position_count l.code) l.labels l.p
+    → Listed (first_rank l.code l.weights l.x) (second_rank l.code l.weights l.x l.y) (position_count l.code) l.labels
+    l.p
     (source_at l.lists) (target_at l.lists) l.count)
 
 abbrev pub decreases-loop-p : goal.decreases-loop-p

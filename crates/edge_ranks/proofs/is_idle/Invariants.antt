@@ -7,7 +7,8 @@ use Rattle.edge_ranks.proofs.is_idle.Given as goal
 
 abbrev pub invariant-loop-label : goal.invariant-loop-label
 invariant-loop-label live =
-    (1 ≤ live.label) × ((l : ℕ) → 1 ≤ l → l < live.label → rewritten_word live.code live.x (l * 16 ^ live.p) ≡ live.base)
+    (1 ≤ live.label) × ((l : ℕ) → 1 ≤ l → l < live.label → rewritten_word live.code live.x (l * 16 ^ live.p)
+    ≡ live.base)
 
 abbrev pub decreases-loop-label : goal.decreases-loop-label
 decreases-loop-label l = l.labels - l.label

@@ -15,4 +15,5 @@ returns-then-threshold-figure c =
 pub returns : goal.returns
 returns c =
     let a = c.args in
-    sym (ap (λ (t : Bool). t && leb a.least a.figure) (le-ltb a.threshold a.figure (omega (arith, c.if-threshold-figure.false))))
+    sym (ap (λ (t : Bool). t && leb a.least a.figure)
+    (le-ltb a.threshold a.figure (omega (arith, c.if-threshold-figure.false))))

@@ -17,7 +17,8 @@ use Rattle.map_tables.proofs.Places.{own-inside, place-small, lies-inside, lent-
 use Rattle.map_fills.specs.MapFills.{all_filled}
 use Rattle.map_fills.proofs.AllFilled.{filled_at, filled-to}
 use Rattle.map_fills.proofs.fill_all.Goals as goal
-use Rattle.map_fills.proofs.fill_all.Goals.{After-abstract_states-at, After-entries_of-at, After-fill_further-arg-1, After-loop-i, After-slice_known-in-loop-i-1, In-loop-i}
+use Rattle.map_fills.proofs.fill_all.Goals.{After-abstract_states-at, After-entries_of-at, After-fill_further-arg-1}
+use Rattle.map_fills.proofs.fill_all.Goals.{After-loop-i, After-slice_known-in-loop-i-1, In-loop-i}
 
 pub further_maps-count-requires : goal.further_maps-count-requires
 further_maps-count-requires c = (c.requires.0.valid 0 (omega arith)).sized.headed
@@ -40,7 +41,8 @@ abbrev first : (c : After-abstract_states-at) → List ℕ
 first c = c.fill.new.table
 
 -- a list no shorter than the table over what it leaves, and over the lent one
-over : (c : After-abstract_states-at) → (new : List ℕ) → length (filled (block c)) ≤ length new → at_front new (first c) ≡ at_front new c.args.table.now
+over : (c : After-abstract_states-at) → (new : List ℕ) → length (filled (block c)) ≤ length new
+    → at_front new (first c) ≡ at_front new c.args.table.now
 over c new l = ap (at_front new) c.fill.ensures ∙ front-over new (filled (block c)) c.args.table.now l
 
 pub loop-i-init : goal.loop-i-init
@@ -224,7 +226,8 @@ abbrev first-3 : (c : After-loop-i) → List ℕ
 first-3 c = c.fill.new.table
 
 -- a list no shorter than the table over what it leaves, and over the lent one
-over-2 : (c : After-loop-i) → (new : List ℕ) → length (filled (block-6 c)) ≤ length new → at_front new (first-3 c) ≡ at_front new c.args.table.now
+over-2 : (c : After-loop-i) → (new : List ℕ) → length (filled (block-6 c)) ≤ length new → at_front new (first-3 c)
+    ≡ at_front new c.args.table.now
 over-2 c new l = ap (at_front new) c.fill.ensures ∙ front-over new (filled (block-6 c)) c.args.table.now l
 
 pub returns : goal.returns

@@ -16,7 +16,9 @@ use Rattle.tables.specs.Tables.{passes_test}
 use Rattle.map_tables.specs.MapTables.{all_pass}
 use Rattle.map_tables.proofs.Places.{own-inside, place-small, lies-inside, lent-table, lent-long, onward}
 use Rattle.map_tables.proofs.all_pass.Goals as goal
-use Rattle.map_tables.proofs.all_pass.Goals.{After-entries_of-at, After-further_passes-arg-1, After-loop-i, Else-not-further_passes, In-loop-i, Then-not-further_passes, Then-not-passes}
+use Rattle.map_tables.proofs.all_pass.Goals.{After-entries_of-at, After-further_passes-arg-1, After-loop-i}
+use Rattle.map_tables.proofs.all_pass.Goals.{Else-not-further_passes, In-loop-i, Then-not-further_passes}
+use Rattle.map_tables.proofs.all_pass.Goals.{Then-not-passes}
 use Rattle.map_tables.proofs.all_pass.Invariants.{holds}
 
 pub passes-requires : goal.passes-requires
@@ -76,7 +78,8 @@ abbrev table : (c : In-loop-i) → List ℕ
 table c = c.args.table.now
 
 ends : (c : In-loop-i) → (at c) + abstract_states (exercise_at (block c) (maps-2 c) (suc (i c))) ≤ length (table c)
-ends c = lies-inside (block c) (maps-2 c) c.requires.0 (i c) (inside c) (at c) c.loop-i.invariant.2 (table c) c.requires.1
+ends c = lies-inside (block c) (maps-2 c) c.requires.0 (i c) (inside c) (at c) c.loop-i.invariant.2 (table c)
+    c.requires.1
 
 pub slice_bounds-further_passes-count : goal.slice_bounds-further_passes-count
 slice_bounds-further_passes-count c = omega (arith, ends c)
@@ -142,7 +145,8 @@ pub returns-then-not-further_passes : goal.returns-then-not-further_passes
 unfolding all_pass
 returns-then-not-further_passes c =
     let fails = sym (tested c) ∙ c.if-not-further_passes.true in
-    sym (all-false (holds (block-3 c) (maps-4 c) (table-3 c)) (all_maps (block-3 c) (maps-4 c)) (suc (i-3 c)) (omega arith) fails)
+    sym (all-false (holds (block-3 c) (maps-4 c) (table-3 c)) (all_maps (block-3 c) (maps-4 c)) (suc (i-3 c))
+    (omega arith) fails)
 
 abbrev block-4 : (c : Else-not-further_passes) → List ℕ
 block-4 c = c.args.block.now

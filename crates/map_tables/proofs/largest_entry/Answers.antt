@@ -14,7 +14,8 @@ use Rattle.map_tables.specs.MapTables.{entry_at, largest_entry}
 use Rattle.map_tables.proofs.Largest.{largest-next}
 use Rattle.map_tables.proofs.Places.{own-inside, place-small, lies-inside, lent-table, lent-long, onward}
 use Rattle.map_tables.proofs.largest_entry.Goals as goal
-use Rattle.map_tables.proofs.largest_entry.Goals.{After-entries_of-at, After-further_entry-arg-1, After-larger-largest, In-loop-i}
+use Rattle.map_tables.proofs.largest_entry.Goals.{After-entries_of-at, After-further_entry-arg-1, After-larger-largest}
+use Rattle.map_tables.proofs.largest_entry.Goals.{In-loop-i}
 
 pub further_maps-count-requires : goal.further_maps-count-requires
 further_maps-count-requires c = (c.requires.0.valid 0 (omega arith)).sized.headed

@@ -28,7 +28,8 @@ decreases-loop block code changes entries input from output₀ at₀ to₀ outpu
 abbrev start-from-loop : tie.At-loop invariant-loop decreases-loop → tie.Start invariant-loop decreases-loop
 start-from-loop c = c.before.before.before.before
 
-abbrev answered-from-arg : tie.After-print-part-arg invariant-loop decreases-loop → tie.After-answer-line invariant-loop decreases-loop
+abbrev answered-from-arg : tie.After-print-part-arg invariant-loop decreases-loop
+    → tie.After-answer-line invariant-loop decreases-loop
 answered-from-arg c = c.before.before.before
 
 loop-holds : tie.Need-loop-init invariant-loop decreases-loop

@@ -9,4 +9,8 @@ returns c =
     let copied = c.copy_singles.ensures in
     let placed = c.place_rule_changes.ensures in
     let maps = placed.front 256 (omega arith) ∙ copied.changes.behind 256 (omega arith) in
-    record { changed = changed c.args.block.now c.requires.0 copied placed; by_index = (singles-kept copied placed, placed.len, maps) }
+    record {
+      changed = changed c.args.block.now c.requires.0 copied placed;
+      by_index =
+          (singles-kept copied placed, placed.len, maps);
+    }

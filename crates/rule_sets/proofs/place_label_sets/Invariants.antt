@@ -15,7 +15,8 @@ Written code rules k = (m : ℕ) → m < k → Agreeing code rules (m / 16) (m %
 
 abbrev pub invariant-loop-k : goal.invariant-loop-k
 invariant-loop-k l =
-    (l.k ≤ 16 * l.n) × (l.rules ≤ 64) × (l.n ≤ 16) × (length l.code ≡ code_length) × Outside sets_place counts_place l.initial.code l.code
+    (l.k ≤ 16 * l.n) × (l.rules ≤ 64) × (l.n ≤ 16) × (length l.code ≡ code_length)
+    × Outside sets_place counts_place l.initial.code l.code
     × Written l.code l.rules l.k
 
 abbrev pub decreases-loop-k : goal.decreases-loop-k

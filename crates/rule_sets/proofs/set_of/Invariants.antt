@@ -7,7 +7,8 @@ use Rattle.rule_sets.proofs.set_of.Given as goal
 
 abbrev pub invariant-loop-r : goal.invariant-loop-r
 invariant-loop-r l =
-    (l.r ≤ l.rules) × (l.rules ≤ 64) × (l.i < 16) × (l.set < 2 ^ (l.rules - l.r)) × From (λ r. agrees_at l.code r l.i l.x) l.rules l.r l.set
+    (l.r ≤ l.rules) × (l.rules ≤ 64) × (l.i < 16) × (l.set < 2 ^ (l.rules - l.r))
+    × From (λ r. agrees_at l.code r l.i l.x) l.rules l.r l.set
 
 abbrev pub decreases-loop-r : goal.decreases-loop-r
 decreases-loop-r l = l.r

@@ -10,8 +10,8 @@ abbrev pub invariant-loop-i : goal.invariant-loop-i
 invariant-loop-i l =
     (l.n ≡ length l.state) × (l.from ≤ l.i) × (l.i ≤ l.n) × (length l.candidate ≡ length l.initial.candidate)
     × ((k : ℕ) → k < l.from → get_or l.candidate k 0 ≡ get_or l.initial.candidate k 0)
-    × ((k : ℕ) → l.from ≤ k → k < l.i
-    → get_or l.candidate k 0 ≡ least_of (choices_at l.block l.left l.right l.state l.candidate k))
+    × ((k : ℕ) → l.from ≤ k → k < l.i → get_or l.candidate k 0
+    ≡ least_of (choices_at l.block l.left l.right l.state l.candidate k))
 
 abbrev pub decreases-loop-i : goal.decreases-loop-i
 decreases-loop-i l = l.n - l.i

@@ -15,7 +15,8 @@ holds b s i = ltb (get_or s i 0) (label_count b i)
 
 abbrev pub invariant-loop-i : goal.invariant-loop-i
 invariant-loop-i l =
-    (l.n ≡ positions l.block) × (length l.state ≡ positions l.block) × (l.i ≤ l.n) × ((k : ℕ) → k < l.i → holds l.block l.state k ≡ true)
+    (l.n ≡ positions l.block) × (length l.state ≡ positions l.block) × (l.i ≤ l.n)
+    × ((k : ℕ) → k < l.i → holds l.block l.state k ≡ true)
 
 abbrev pub decreases-loop-i : goal.decreases-loop-i
 decreases-loop-i l = l.n - l.i

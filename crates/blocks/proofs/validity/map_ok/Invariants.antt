@@ -14,7 +14,8 @@ holds b x = ltb (map_byte b x) (abstracts b)
 
 abbrev pub invariant-loop-x : goal.invariant-loop-x
 invariant-loop-x l =
-    (l.labels ≡ labels l.block) × (l.abstracts ≡ abstracts l.block) × (l.x ≤ l.labels) × ((k : ℕ) → k < l.x → holds l.block k ≡ true)
+    (l.labels ≡ labels l.block) × (l.abstracts ≡ abstracts l.block) × (l.x ≤ l.labels)
+    × ((k : ℕ) → k < l.x → holds l.block k ≡ true)
 
 abbrev pub decreases-loop-x : goal.decreases-loop-x
 decreases-loop-x l = l.labels - l.x

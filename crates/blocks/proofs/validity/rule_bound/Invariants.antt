@@ -17,7 +17,8 @@ holds b r i = bound_in (positions b) (left_of b r) (term_of (right_of b r i))
 abbrev pub invariant-loop-i : goal.invariant-loop-i
 invariant-loop-i l =
     (l.n ≡ positions l.block) × (l.left ≡ left_at l.block l.r) × (l.right ≡ right_at l.block l.r)
-    × (l.left + l.n ≤ length l.block) × (l.right + l.n ≤ length l.block) × (l.i ≤ l.n) × ((k : ℕ) → k < l.i → holds l.block l.r k ≡ true)
+    × (l.left + l.n ≤ length l.block) × (l.right + l.n ≤ length l.block) × (l.i ≤ l.n)
+    × ((k : ℕ) → k < l.i → holds l.block l.r k ≡ true)
 
 abbrev pub decreases-loop-i : goal.decreases-loop-i
 decreases-loop-i l = l.n - l.i

@@ -27,7 +27,8 @@ returns-2 : tie.Need-returns-2
 returns-2 c = as-case goal_numbers_of goal_test_of c.enum_told.given.1 refl
 
 returns-3 : tie.Need-returns-3
-returns-3 c = as-case goal_numbers_of goal_test_of c.before.before.test2.given.1 (as_number goal_numbers_of c.number_of_lem.ensures)
+returns-3 c = as-case goal_numbers_of goal_test_of c.before.before.test2.given.1
+    (as_number goal_numbers_of c.number_of_lem.ensures)
 
 pub met-spec : {M : Type 1} → statement M
 met-spec =

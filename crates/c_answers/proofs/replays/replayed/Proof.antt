@@ -27,7 +27,8 @@ returns-2 : tie.Need-returns-2
 returns-2 c = as-case replay_numbers_of replay_of c.before.replay2.given.1 refl
 
 returns-3 : tie.Need-returns-3
-returns-3 c = as-case replay_numbers_of replay_of c.before.before.replay3.given.1 (as_number replay_numbers_of c.number_of_lem.ensures)
+returns-3 c = as-case replay_numbers_of replay_of c.before.before.replay3.given.1
+    (as_number replay_numbers_of c.number_of_lem.ensures)
 
 pub replayed-spec : {M : Type 1} → statement M
 replayed-spec =

@@ -2,7 +2,8 @@
 use Prim.Native.Nat.{◌-◌}
 use native.Mathlib.Omega.{arith}
 use Rattle.candidates.proofs.reversed_rules.groups_of.Goals as goal
-use Rattle.candidates.proofs.reversed_rules.groups_of.Goals.{then-count-lt15+then-begins_group, then-count-lt15+else-begins_group, else-count-lt15}
+use Rattle.candidates.proofs.reversed_rules.groups_of.Goals.{then-count-lt15+then-begins_group}
+use Rattle.candidates.proofs.reversed_rules.groups_of.Goals.{then-count-lt15+else-begins_group, else-count-lt15}
 
 pub loop-i-preserved : goal.loop-i-preserved
 loop-i-preserved c =

@@ -7,7 +7,8 @@ use Rattle.candidates.proofs.reversed_rules.reverse_right.Given as goal
 
 abbrev pub invariant-loop-i : goal.invariant-loop-i
 invariant-loop-i l =
-    (l.n ≤ 16) × (l.i ≤ l.n) × (l.left + l.n ≤ length l.block) × (l.right + l.n ≤ length l.block) × (length l.sides ≡ 32)
+    (l.n ≤ 16) × (l.i ≤ l.n) × (l.left + l.n ≤ length l.block) × (l.right + l.n ≤ length l.block)
+    × (length l.sides ≡ 32)
 
 abbrev pub decreases-loop-i : goal.decreases-loop-i
 decreases-loop-i l = l.n - l.i

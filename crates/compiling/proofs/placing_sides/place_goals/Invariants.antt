@@ -10,7 +10,8 @@ use Rattle.compiling.proofs.placing_sides.place_goals.Given as goal
 
 abbrev pub invariant-loop-g : goal.invariant-loop-g
 invariant-loop-g l =
-    (l.n ≡ positions l.block) × (l.count ≡ goals l.block) × (l.g ≤ l.count) × Outside (6 * goal_place 0) (6 * goal_place 8) l.initial.code l.code
+    (l.n ≡ positions l.block) × (l.count ≡ goals l.block) × (l.g ≤ l.count)
+    × Outside (6 * goal_place 0) (6 * goal_place 8) l.initial.code l.code
     × ((k : ℕ) → k < l.g → Tested (positions l.block) (goal_of l.block k) l.code (goal_place k))
 
 abbrev pub decreases-loop-g : goal.decreases-loop-g

@@ -9,7 +9,8 @@ use Rattle.compiling.proofs.placing_sides.place_rules.Given as goal
 
 abbrev pub invariant-loop-r : goal.invariant-loop-r
 invariant-loop-r l =
-    (l.count ≡ rules l.block) × (l.r ≤ l.count) × (length l.code ≡ length l.initial.code) × ((k : ℕ) → k < l.r → RuleAt l.block l.code k)
+    (l.count ≡ rules l.block) × (l.r ≤ l.count) × (length l.code ≡ length l.initial.code)
+    × ((k : ℕ) → k < l.r → RuleAt l.block l.code k)
 
 abbrev pub decreases-loop-r : goal.decreases-loop-r
 decreases-loop-r l = l.count - l.r

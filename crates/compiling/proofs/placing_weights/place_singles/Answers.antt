@@ -44,7 +44,8 @@ counted :
 counted c =
     let b = c.args.block.now in
     let i = c.loop-i.i - 1 in
-    ap (λ (p : ℕ). abstract_count b i * p) (behind c) ∙ sym (place-more (abstract_count b) (positions b) i (omega arith))
+    ap (λ (p : ℕ). abstract_count b i * p) (behind c)
+    ∙ sym (place-more (abstract_count b) (positions b) i (omega arith))
 
 few :
     (c : After-place_row-arg-1)
@@ -100,7 +101,8 @@ counted-2 :
 counted-2 c =
     let b = c.args.block.now in
     let i = c.loop-i.i - 1 in
-    ap (λ (p : ℕ). abstract_count b i * p) (behind-2 c) ∙ sym (place-more (abstract_count b) (positions b) i (omega arith))
+    ap (λ (p : ℕ). abstract_count b i * p) (behind-2 c)
+    ∙ sym (place-more (abstract_count b) (positions b) i (omega arith))
 
 product :
     (c : After-abstract_count-p)

@@ -10,7 +10,8 @@ use Rattle.compiling.proofs.placing_weights.place_singles.Given as goal
 
 abbrev pub invariant-loop-i : goal.invariant-loop-i
 invariant-loop-i l =
-    (l.i ≤ positions l.block) × (l.p ≡ place_value (abstract_count l.block) l.i (positions l.block - l.i)) × (length l.singles ≡ 256)
+    (l.i ≤ positions l.block) × (l.p ≡ place_value (abstract_count l.block) l.i (positions l.block - l.i))
+    × (length l.singles ≡ 256)
     × ((j x : ℕ) → l.i ≤ j → j < positions l.block → x < label_count l.block j
     → get_or l.singles (16 * j + x) 0 ≡ weight_of l.block j x)
     × ((k : ℕ) → 16 * positions l.block ≤ k → get_or l.singles k 0 ≡ 0) × ((k : ℕ) → get_or l.singles k 0 ≤ 16384)

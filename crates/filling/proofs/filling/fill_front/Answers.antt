@@ -18,7 +18,8 @@ use Rattle.tables.specs.Abstraction.{graph_of}
 use Rattle.tables.proofs.OverRanks.{relabelled-block}
 use Rattle.filling.specs.FilledTables.{filled, Lowered}
 use Rattle.filling.proofs.filling.fill_front.Goals as goal
-use Rattle.filling.proofs.filling.fill_front.Goals.{After-fill_relabelled-arg-1, After-relabelled-3-1, After-slice_known-2-1}
+use Rattle.filling.proofs.filling.fill_front.Goals.{After-fill_relabelled-arg-1, After-relabelled-3-1}
+use Rattle.filling.proofs.filling.fill_front.Goals.{After-slice_known-2-1}
 
 pub relabel_block-requires : goal.relabel_block-requires
 relabel_block-requires c =

@@ -5,7 +5,8 @@ use lib.ListN.{length, length-set}
 use Rattle.edge_ranks.specs.Lists.{lists_length}
 use Rattle.filling.proofs.queue.take_out.Goals as goal
 use Rattle.filling.proofs.queue.take_out.Goals.{then-index-lt-MOST_STATES, else-index-lt-MOST_STATES}
-use Rattle.filling.proofs.queue.take_out.Goals.{After-way_told-then-index-lt-MOST_STATES-2-1, Else-index-lt-MOST_STATES-2}
+use Rattle.filling.proofs.queue.take_out.Goals.{After-way_told-then-index-lt-MOST_STATES-2-1}
+use Rattle.filling.proofs.queue.take_out.Goals.{Else-index-lt-MOST_STATES-2}
 
 kept : (c : After-way_told-then-index-lt-MOST_STATES-2-1) → length c.if-index-lt-MOST_STATES.links ≡ lists_length
 kept c =

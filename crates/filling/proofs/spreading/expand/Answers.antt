@@ -24,7 +24,11 @@ pub pull-requires : goal.pull-requires
 pull-requires c =
     let p = c.requires in
     let l = c.loop-rest in
-    record { ready = (p.ready.0, p.ready.1, l.invariant.1); rule_bound = (omega (arith, l.invariant.0, c.if-rules-r.false), p.v_bound.0, l.invariant.2) }
+    record {
+      ready = (p.ready.0, p.ready.1, l.invariant.1);
+      rule_bound =
+          (omega (arith, l.invariant.0, c.if-rules-r.false), p.v_bound.0, l.invariant.2);
+    }
 
 pub loop-rest-smaller : goal.loop-rest-smaller
 loop-rest-smaller c = c.without_lowest-rest.ensures.1

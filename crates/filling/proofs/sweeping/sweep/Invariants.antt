@@ -8,7 +8,8 @@ use Rattle.filling.proofs.sweeping.sweep.Given as goal
 
 abbrev pub invariant-loop-u : goal.invariant-loop-u
 invariant-loop-u l =
-    (l.u ≤ abstract_states l.block) × (abstract_states l.block ≤ 16384) × Sweeping (graph_of l.block) l.initial.table l.table l.fell l.u
+    (l.u ≤ abstract_states l.block) × (abstract_states l.block ≤ 16384)
+    × Sweeping (graph_of l.block) l.initial.table l.table l.fell l.u
 
 abbrev pub decreases-loop-u : goal.decreases-loop-u
 decreases-loop-u l = abstract_states l.block - l.u

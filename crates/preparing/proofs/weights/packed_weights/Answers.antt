@@ -24,7 +24,8 @@ loop-i-init c =
 pub entries_of-begin-requires : goal.entries_of-begin-requires
 entries_of-begin-requires c =
     let l = c.loop-i in
-    let low : l.i - 1 < further_maps c.args.block.now c.args.maps.now = omega (arith, l.invariant.0, c.loop-i-test.true) in
+    let low : l.i - 1 < further_maps c.args.block.now c.args.maps.now =
+    omega (arith, l.invariant.0, c.loop-i-test.true) in
     ((c.requires.valid 0 (omega arith)).sized, low, (c.requires.valid (suc (l.i - 1)) low).sized.headed.sizes.k_low)
 
 -- where the table of the next map begins

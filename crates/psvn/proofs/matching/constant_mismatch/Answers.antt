@@ -35,7 +35,8 @@ unfolding constant_mismatch
 returns-then-not-constant_allows c =
     let l = c.loop-i in
     let told = told c (find_at (λ k. not (test c k)) (count c) l.i (omega arith)
-    (ap not (sym c.constant_allows.ensures ∙ c.if-not-constant_allows.true)) (λ k m. ap not (l.invariant.2 k m))) in record { result_value = told.0; mismatch_means = told.1 }
+    (ap not (sym c.constant_allows.ensures ∙ c.if-not-constant_allows.true)) (λ k m. ap not (l.invariant.2 k m))) in
+    record { result_value = told.0; mismatch_means = told.1 }
 
 pub loop-i-preserved : goal.loop-i-preserved
 loop-i-preserved c = (
@@ -61,4 +62,6 @@ pub returns : goal.returns
 unfolding constant_mismatch
 returns c =
     let l = c.loop-i in
-    let told-2 = told-2 c (find-passed (λ k. not (test-2 c k)) (count-2 c) l.i (omega arith) (λ k m. ap not (l.invariant.2 k m))) in record { result_value = told-2.0; mismatch_means = told-2.1 }
+    let told-2 = told-2 c
+    (find-passed (λ k. not (test-2 c k)) (count-2 c) l.i (omega arith) (λ k m. ap not (l.invariant.2 k m))) in
+    record { result_value = told-2.0; mismatch_means = told-2.1 }

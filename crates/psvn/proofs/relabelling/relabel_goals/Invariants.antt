@@ -11,7 +11,8 @@ use Rattle.psvn.proofs.relabelling.relabel_goals.Given as goal
 
 abbrev pub invariant-loop-g : goal.invariant-loop-g
 invariant-loop-g l =
-    (l.goals ≡ goals l.block) × (l.g ≤ l.goals) × (length l.out ≡ length l.initial.out) × (l.at ≡ l.to + length (joined l.g (relabel_goal l.block)))
+    (l.goals ≡ goals l.block) × (l.g ≤ l.goals) × (length l.out ≡ length l.initial.out)
+    × (l.at ≡ l.to + length (joined l.g (relabel_goal l.block)))
     × (l.out ≡ sets l.initial.out l.to (joined l.g (relabel_goal l.block)))
 
 abbrev pub decreases-loop-g : goal.decreases-loop-g

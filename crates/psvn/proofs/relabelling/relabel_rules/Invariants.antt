@@ -11,7 +11,8 @@ use Rattle.psvn.proofs.relabelling.relabel_rules.Given as goal
 
 abbrev pub invariant-loop-r : goal.invariant-loop-r
 invariant-loop-r l =
-    (l.rules ≡ rules l.block) × (l.r ≤ l.rules) × (length l.out ≡ length l.initial.out) × (l.at ≡ l.to + length (joined l.r (relabel_rule l.block)))
+    (l.rules ≡ rules l.block) × (l.r ≤ l.rules) × (length l.out ≡ length l.initial.out)
+    × (l.at ≡ l.to + length (joined l.r (relabel_rule l.block)))
     × (l.out ≡ sets l.initial.out l.to (joined l.r (relabel_rule l.block)))
 
 abbrev pub decreases-loop-r : goal.decreases-loop-r

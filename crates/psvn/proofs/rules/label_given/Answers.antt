@@ -7,7 +7,8 @@ use Rattle.blocks.specs.Layout.{side_at}
 use Rattle.blocks.specs.declared.terms.Term.{Term}
 use Rattle.psvn.specs.Rules.{given}
 use Rattle.psvn.proofs.rules.label_given.Goals as goal
-use Rattle.psvn.proofs.rules.label_given.Goals.{After-label_bound, After-shared_slice_known-in-Dash-1, After-shared_slice_known-in-Refused-1, In-Label}
+use Rattle.psvn.proofs.rules.label_given.Goals.{After-label_bound, After-shared_slice_known-in-Dash-1}
+use Rattle.psvn.proofs.rules.label_given.Goals.{After-shared_slice_known-in-Refused-1, In-Label}
 
 -- what the definition gives for a term
 abbrev given-for : In-Label → Term → ℕ

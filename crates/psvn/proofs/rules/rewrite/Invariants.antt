@@ -17,7 +17,8 @@ made block left right state k = given (length state) (side_at block left) state 
 
 abbrev pub invariant-loop-i : goal.invariant-loop-i
 invariant-loop-i l =
-    (l.n ≡ length l.state) × (l.i ≤ l.n) × (l.out ≡ sets l.initial.out 0 (tabulate l.i (made l.block l.left l.right l.state)))
+    (l.n ≡ length l.state) × (l.i ≤ l.n)
+    × (l.out ≡ sets l.initial.out 0 (tabulate l.i (made l.block l.left l.right l.state)))
 
 abbrev pub decreases-loop-i : goal.decreases-loop-i
 decreases-loop-i l = l.n - l.i

@@ -15,7 +15,8 @@ use Rattle.psvn_calls.specs.Applying.{Applied, done, does_not_apply, apply_condi
 use Rattle.psvn_calls.proofs.Conditions.{ApplyAccepted, apply-accepted}
 use Rattle.psvn_calls.proofs.Promises.{application-kept}
 use Rattle.psvn_calls.proofs.applying.apply_rule.Goals as goal
-use Rattle.psvn_calls.proofs.applying.apply_rule.Goals.{After-slice_known-then-applies-1, After-step-arg-1, Else-applies, In-Refused, In_default}
+use Rattle.psvn_calls.proofs.applying.apply_rule.Goals.{After-slice_known-then-applies-1, After-step-arg-1}
+use Rattle.psvn_calls.proofs.applying.apply_rule.Goals.{Else-applies, In-Refused, In_default}
 
 -- the outcome by the verdict and by whether the rule applies
 abbrev settled : In-Refused → Answer (Unit {0}) → Bool → Outcome Applied
@@ -132,7 +133,8 @@ Promised-2 c answer out' =
     let a = c.args in
     ApplicationKept a.block.now a.rule a.state.now answer out'
 
-kept-2 : (c : After-slice_known-then-applies-1) (answer : Answer Applied) (out' : List ℕ) → Gives-2 c answer out' → Promised-2 c answer out'
+kept-2 : (c : After-slice_known-then-applies-1) (answer : Answer Applied) (out' : List ℕ) → Gives-2 c answer out'
+    → Promised-2 c answer out'
 kept-2 c answer out' e =
     let a = c.args in
     application-kept a.block.now a.state.now a.rule a.out.now e

@@ -15,7 +15,8 @@ use Rattle.psvn_calls.specs.Checking.{state_conditions}
 use Rattle.psvn_calls.specs.Applying.{apply_conditions}
 use Rattle.psvn_calls.proofs.Conditions.{state-accepted}
 use Rattle.psvn_calls.proofs.applying.check_application.Goals as goal
-use Rattle.psvn_calls.proofs.applying.check_application.Goals.{Else-room-positions, Else-rules-rule, In_default, Then-room-positions, Then-rules-rule}
+use Rattle.psvn_calls.proofs.applying.check_application.Goals.{Else-room-positions, Else-rules-rule, In_default}
+use Rattle.psvn_calls.proofs.applying.check_application.Goals.{Then-room-positions, Then-rules-rule}
 
 pub returns-in-Refused : goal.returns-in-Refused
 unfolding apply_conditions

@@ -19,7 +19,8 @@ use Rattle.psvn.proofs.Relabelled.{relabelled-length}
 use Rattle.psvn_calls.specs.Relabelling.{relabel_conditions, relabel_exercise, RelabellingKept}
 use Rattle.psvn_calls.proofs.Promises.{relabelling-kept}
 use Rattle.psvn_calls.proofs.relabelling.relabel_block.Goals as goal
-use Rattle.psvn_calls.proofs.relabelling.relabel_block.Goals.{After-relabel_block-arg-1, After-slice_known-2-1, In-Refused, In_default, Then-out-length}
+use Rattle.psvn_calls.proofs.relabelling.relabel_block.Goals.{After-relabel_block-arg-1, After-slice_known-2-1}
+use Rattle.psvn_calls.proofs.relabelling.relabel_block.Goals.{In-Refused, In_default, Then-out-length}
 
 -- the block and the room at the start
 abbrev block : In-Refused → List ℕ
@@ -146,7 +147,8 @@ settled-3 c verdict =
 abbrev Gives-3 : After-slice_known-2-1 → Answer ℕ → List ℕ → Type 0
 Gives-3 c answer out' = outcome answer out' ≡ relabel_exercise (block-5 c) c.args.out.now
 
-kept-3 : (c : After-slice_known-2-1) (answer : Answer ℕ) (out' : List ℕ) → Gives-3 c answer out' → RelabellingKept answer out'
+kept-3 : (c : After-slice_known-2-1) (answer : Answer ℕ) (out' : List ℕ) → Gives-3 c answer out'
+    → RelabellingKept answer out'
 kept-3 c answer out' e = relabelling-kept (block-5 c) c.args.out.now e
 
 -- the block is accepted

@@ -6,7 +6,8 @@ use Rattle.rank_changes.proofs.changing.copy_singles.Given as goal
 
 abbrev pub invariant-loop-k : goal.invariant-loop-k
 invariant-loop-k l =
-    (l.k ≤ 256) × Outside 0 256 l.initial.changes l.changes × ((j : ℕ) → j < l.k → get_or l.changes j 0 ≡ get_or l.singles j 0)
+    (l.k ≤ 256) × Outside 0 256 l.initial.changes l.changes
+    × ((j : ℕ) → j < l.k → get_or l.changes j 0 ≡ get_or l.singles j 0)
 
 abbrev pub decreases-loop-k : goal.decreases-loop-k
 decreases-loop-k l = 256 - l.k

@@ -17,7 +17,12 @@ add_terms-added-requires c =
     let left = c.left_at-left.ensures.0 in
     let right = c.right_at-right.ensures.0 in
     let l = left-inside b h.0.sized c.args.r h.1 in
-    let k = right-inside b h.0.sized c.args.r h.1 in record { n_in_bounds = (omega arith, omega arith, omega (arith, h.0.sized.headed.sizes.n_high), refl); bound = rw (n, left, right) (record { at = right_bound b h.0 c.args.r h.1 }) }
+    let k = right-inside b h.0.sized c.args.r h.1 in
+    record {
+      n_in_bounds = (omega arith, omega arith, omega (arith, h.0.sized.headed.sizes.n_high), refl);
+      bound =
+          rw (n, left, right) (record { at = right_bound b h.0 c.args.r h.1 });
+    }
 
 pub fold_terms-constant-requires : goal.fold_terms-constant-requires
 fold_terms-constant-requires c =

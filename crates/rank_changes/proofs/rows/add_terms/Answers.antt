@@ -16,7 +16,12 @@ loop-i-init c =
 pub add_term-constant-requires : goal.add_term-constant-requires
 add_term-constant-requires c =
     let h = c.requires in
-    record { n_in_bounds = (h.n_in_bounds.0, h.n_in_bounds.1, h.n_in_bounds.2, c.loop-i-test.true); bound = h.bound; balanced = c.loop-i.invariant.1 }
+    record {
+      n_in_bounds = (h.n_in_bounds.0, h.n_in_bounds.1, h.n_in_bounds.2, c.loop-i-test.true);
+      bound =
+          h.bound;
+      balanced = c.loop-i.invariant.1;
+    }
 
 pub loop-i-preserved : goal.loop-i-preserved
 loop-i-preserved c = (search rules, c.add_term-constant.ensures)

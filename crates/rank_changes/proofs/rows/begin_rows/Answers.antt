@@ -1,5 +1,6 @@
 -- `rank_changes::rows::begin_rows` meets its contract.
-use Rattle.std.proofs.Common.{ℕ, ◌+◌, ◌-◌, ◌%◌, get_or, ap, ◌∙◌, arith, length-set, get_or-set_other, get_or-set_same, rules, below_more}
+use Rattle.std.proofs.Common.{ℕ, ◌+◌, ◌-◌, ◌%◌, get_or, ap, ◌∙◌, arith, length-set, get_or-set_other, get_or-set_same}
+use Rattle.std.proofs.Common.{rules, below_more}
 use Rattle.words.specs.Changes.{word_span}
 use Rattle.rank_changes.proofs.rows.begin_rows.Goals as goal
 

@@ -86,7 +86,8 @@ returns c =
     let e = c.before.before in
     let d = front-from-copy e in
     let k = (start d).args.plan.steps in
-    let fronted-so : Written (front d k) (old d) 9 (fronted d) = record { told = refl; front = d.put-numbers.ensures } in
+    let fronted-so : Written (front d k) (old d) 9 (fronted d) =
+    record { told = refl; front = d.put-numbers.ensures } in
     let copied : Written (rules d) (mid_of 9 (behind d) (fronted d)) k e.copy.new.1.1.0 =
     record { told = sym (steps e); front = e.copy.ensures } in
     let new = put_mid 9 (behind d) (fronted d) e.copy.new.1.1.0 in

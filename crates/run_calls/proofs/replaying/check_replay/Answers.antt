@@ -18,7 +18,9 @@ use Rattle.psvn_calls.specs.Checking.{state_conditions}
 use Rattle.run_calls.specs.Replaying.{replay_conditions}
 use Rattle.psvn_calls.proofs.Conditions.{state-accepted}
 use Rattle.run_calls.proofs.replaying.check_replay.Goals as goal
-use Rattle.run_calls.proofs.replaying.check_replay.Goals.{Else-list-gt-LONGEST_LIST, Else-room-positions, In_default, Then-list-gt-LONGEST_LIST, Then-not-numbers_ok, Then-room-positions}
+use Rattle.run_calls.proofs.replaying.check_replay.Goals.{Else-list-gt-LONGEST_LIST, Else-room-positions, In_default}
+use Rattle.run_calls.proofs.replaying.check_replay.Goals.{Then-list-gt-LONGEST_LIST, Then-not-numbers_ok}
+use Rattle.run_calls.proofs.replaying.check_replay.Goals.{Then-room-positions}
 
 pub returns-in-Refused : goal.returns-in-Refused
 unfolding replay_conditions

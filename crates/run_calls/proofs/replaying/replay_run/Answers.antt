@@ -127,7 +127,8 @@ told-by c ending out p q =
 pub returns-in-Done : goal.returns-in-Done
 returns-in-Done c =
     let e = c.replay-replayed.ensures in
-    let told = told-by c _ _ (sym c.in-Done.is ∙ e.value) e.out_after in record { out_after = told.0; replay_kept = told.1 }
+    let told = told-by c _ _ (sym c.in-Done.is ∙ e.value) e.out_after in
+    record { out_after = told.0; replay_kept = told.1 }
 
 -- how the replay ends, and the state there at the front of the buffer
 abbrev ending_of-3 : In-Stuck → Replayed
@@ -182,4 +183,5 @@ told-by-2 c ending out p q =
 pub returns-in-Stuck : goal.returns-in-Stuck
 returns-in-Stuck c =
     let e = c.replay-replayed.ensures in
-    let told = told-by-2 c _ _ (sym c.in-Stuck.is ∙ e.value) e.out_after in record { out_after = told.0; replay_kept = told.1 }
+    let told = told-by-2 c _ _ (sym c.in-Stuck.is ∙ e.value) e.out_after in
+    record { out_after = told.0; replay_kept = told.1 }

@@ -50,4 +50,10 @@ returns c =
     let out = a.out.now in
     let whole = h.3 ∙ sym (replay-length b s list h.3) in
     let kept = ap (drop (length s)) (copied-2 c) ∙ drop-append_seam s _ ∙ ap (λ (k : ℕ). drop k out) whole in
-    let replayed = c.replay_in.ensures in record { value = replayed.value ∙ ap (λ (l : List ℕ). replay_ending b l list) (lent-2 c); out_after = ap₂ ◌++◌ (replayed.state_after ∙ ap (λ (l : List ℕ). replay_state b l list) (lent-2 c)) kept }
+    let replayed = c.replay_in.ensures in
+    record {
+      value = replayed.value
+          ∙ ap (λ (l : List ℕ). replay_ending b l list) (lent-2 c);
+      out_after =
+          ap₂ ◌++◌ (replayed.state_after ∙ ap (λ (l : List ℕ). replay_state b l list) (lent-2 c)) kept;
+    }

@@ -17,19 +17,23 @@ use Rattle.runs.specs.declared.replay.RunEnd.{RunEnd}
 use Rattle.runs.proofs.ReplayLaws.{end_after, replay_done, replay_stuck}
 use borrow.Author.Rules.{rules as std_rules}
 use Rattle.runs.proofs.replay.replay_in.Goals as goal
-use Rattle.runs.proofs.replay.replay_in.Goals.{After-advance-arg-1, After-cost, After-loop-i, After-met_goal-goal, After-slice_known-in-loop-i-1, After-wide-rule, Then-not-applies}
+use Rattle.runs.proofs.replay.replay_in.Goals.{After-advance-arg-1, After-cost, After-loop-i, After-met_goal-goal}
+use Rattle.runs.proofs.replay.replay_in.Goals.{After-slice_known-in-loop-i-1, After-wide-rule, Then-not-applies}
 
 -- one rule more
 taken : (b s list : List ℕ) (i : ℕ) (l : i < length list) → take (i + 1) list ≡ take i list ++ (get_or list i 0 ∷ [])
 taken b s list i l = ap (λ (k : ℕ). take k list) (add-one i) ∙ take-suc list i 0 l
 
-next-state : (b s list : List ℕ) (i : ℕ) (l : i < length list) → step b (get_or list i 0) (run b s (take i list)) ≡ run b s (take (i + 1) list)
+next-state : (b s list : List ℕ) (i : ℕ) (l : i < length list) → step b (get_or list i 0) (run b s (take i list))
+    ≡ run b s (take (i + 1) list)
 next-state b s list i l = sym (ap (run b s) (taken b s list i l) ∙ run_more b s (take i list) (get_or list i 0))
 
-next-cost : (b s list : List ℕ) (i : ℕ) (l : i < length list) → total_cost b (take i list) + cost_of b (get_or list i 0) ≡ total_cost b (take (i + 1) list)
+next-cost : (b s list : List ℕ) (i : ℕ) (l : i < length list)
+    → total_cost b (take i list) + cost_of b (get_or list i 0) ≡ total_cost b (take (i + 1) list)
 next-cost b s list i l = sym (ap (total_cost b) (taken b s list i l) ∙ cost-more b (take i list) (get_or list i 0))
 
-next-in-turn : (b s list : List ℕ) (i : ℕ) (l : i < length list) → apply_in_turn b s (take i list) ≡ true → applies b (get_or list i 0) (run b s (take i list)) ≡ true
+next-in-turn : (b s list : List ℕ) (i : ℕ) (l : i < length list) → apply_in_turn b s (take i list) ≡ true
+    → applies b (get_or list i 0) (run b s (take i list)) ≡ true
     → apply_in_turn b s (take (i + 1) list) ≡ true
 next-in-turn b s list i l p q =
     ap (apply_in_turn b s) (taken b s list i l) ∙ in-turn-more b s (take i list) (get_or list i 0) ∙ and_intro _ _ p q
@@ -198,4 +202,8 @@ returns c =
     let there = inv.3 ∙ ap (run b s) all in
     let goal = c.met_goal-goal.ensures ∙ ap (λ (u : List ℕ). goal_byte (met_goal b u)) there in
     let q = replay_done b s list (ap (apply_in_turn b s) (sym all) ∙ inv.4) in
-    record { value = ap Done (ends-here-2 c _ ∙ ap₂ (end_after b list) last goal) ∙ sym q.0; state_after = there ∙ sym q.1 }
+    record {
+      value = ap Done (ends-here-2 c _ ∙ ap₂ (end_after b list) last goal) ∙ sym q.0;
+      state_after = there
+          ∙ sym q.1;
+    }

@@ -42,7 +42,7 @@ tried :
     Tried a.code.now a.changes.now a.table.now l.run a.depth (lowest l.left) (looked-at c) b)
 tried c b e = rw (e, c.lowest_of.ensures.0) at c.try_rule.ensures
 
-some_left : (c : Then-try_rule) → 0 < c.loop-left.false
+some_left : (c : Then-try_rule) → 0 < c.loop-left.left
 some_left c = omega (arith, c.loop-left-test.true)
 
 pub returns-then-try_rule : goal.returns-then-try_rule
@@ -60,7 +60,7 @@ returns-then-try_rule c =
       );
     }
 
-some_left-2 : (c : Else-try_rule) → 0 < c.loop-left.false
+some_left-2 : (c : Else-try_rule) → 0 < c.loop-left.left
 some_left-2 c = omega (arith, c.loop-left-test.true)
 
 pub without_lowest-left-requires : goal.without_lowest-left-requires
@@ -80,7 +80,7 @@ tried-2 :
     Tried a.code.now a.changes.now a.table.now l.run a.depth (lowest l.left) (looked-at-2 c) b)
 tried-2 c b e = rw (e, c.lowest_of.ensures.0) at c.try_rule.ensures
 
-some_left-3 : (c : After-without_lowest-left) → 0 < c.loop-left.false
+some_left-3 : (c : After-without_lowest-left) → 0 < c.loop-left.left
 some_left-3 c = omega (arith, c.loop-left-test.true)
 
 pub loop-left-preserved : goal.loop-left-preserved

@@ -49,7 +49,7 @@ seen-2 c =
     on_path a.run.now a.depth (step_word a.code.now a.rule (state_at a.run.now a.depth))
 
 abbrev settled-2 : Else-not-on_path → Bool → Tally
-settled-2 c seen = cond seen-2 (tally-2 c) (overshot_by (tally-2 c) c.args.figure)
+settled-2 c seen = cond seen (tally-2 c) (overshot_by (tally-2 c) c.args.figure)
 
 -- the test is of the state that the rule makes
 tested-2 : (c : Else-not-on_path) → c.on_path.result ≡ seen-2 c

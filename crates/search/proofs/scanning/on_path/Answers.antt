@@ -22,7 +22,7 @@ is_word c i = eqb c.args.word (get_or c.args.run.now i 0)
 pub returns-then-word-run : goal.returns-then-word-run
 returns-then-word-run c =
     sym
-    (some-intro (is_word c) (suc c.args.depth) (c.loop-left.false - 1) (omega arith) (eq-eqb _ _ c.if-word-run.true))
+    (some-intro (is_word c) (suc c.args.depth) (c.loop-left.left - 1) (omega arith) (eq-eqb _ _ c.if-word-run.true))
 
 pub loop-left-preserved : goal.loop-left-preserved
 loop-left-preserved c = (search rules, from_less _ _ _ c.loop-left.invariant.1 (ne_eqb _ _ c.if-word-run.false))

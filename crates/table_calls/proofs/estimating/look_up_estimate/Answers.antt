@@ -19,7 +19,9 @@ use Rattle.table_calls.specs.Estimating.{look_up_conditions, look_up_estimate, E
 use Rattle.table_calls.proofs.Conditions.{look-up-decided}
 use Rattle.table_calls.proofs.Promises.{estimate-kept}
 use Rattle.table_calls.proofs.estimating.look_up_estimate.Goals as goal
-use Rattle.table_calls.proofs.estimating.look_up_estimate.Goals.{After-largest_entry, Else-not-state_ok, Else-table-all_entries, In-Refused, In_default, Then-not-state_ok, Then-table-all_entries}
+use Rattle.table_calls.proofs.estimating.look_up_estimate.Goals.{After-largest_entry, Else-not-state_ok}
+use Rattle.table_calls.proofs.estimating.look_up_estimate.Goals.{Else-table-all_entries, In-Refused, In_default}
+use Rattle.table_calls.proofs.estimating.look_up_estimate.Goals.{Then-not-state_ok, Then-table-all_entries}
 
 -- what is lent
 abbrev block : In-Refused → List ℕ
@@ -53,7 +55,8 @@ pub returns-in-Refused : goal.returns-in-Refused
 unfolding look_up_estimate look_up_conditions
 returns-in-Refused c =
     let against = sym c.check-checked.ensures ∙ ap verdict_of c.in-Refused.is in
-    let told = promised c (sym (ap (settled c) (verdict-before (exercise_conditions (block c) (maps c)) _ _ against))) in record { result_value = told.0; estimate_kept = told.1 }
+    let told = promised c (sym (ap (settled c) (verdict-before (exercise_conditions (block c) (maps c)) _ _ against)))
+    in record { result_value = told.0; estimate_kept = told.1 }
 
 -- what is lent
 abbrev block-2 : In_default → List ℕ
@@ -113,7 +116,8 @@ pub returns-then-not-state_ok : goal.returns-then-not-state_ok
 unfolding look_up_estimate
 returns-then-not-state_ok c =
     let is = sym c.state_ok.ensures ∙ c.if-not-state_ok.true in
-    let told = promised-2 c (sym (ap (settled-2 c) (decided c _ _ is refl))) in record { result_value = told.0; estimate_kept = told.1 }
+    let told = promised-2 c (sym (ap (settled-2 c) (decided c _ _ is refl))) in
+    record { result_value = told.0; estimate_kept = told.1 }
 
 -- what is lent
 abbrev block-4 : Else-not-state_ok → List ℕ
@@ -179,7 +183,8 @@ unfolding look_up_estimate
 returns-then-table-all_entries c =
     let counted = c.all_entries.ensures.0 in
     let short = lt-leb (all_entries (block-5 c) (maps-5 c)) (length (table-3 c)) (omega (arith, counted)) in
-    let told = promised-3 c (sym (ap (settled-3 c) (decided-2 c _ _ (is_state c) short))) in record { result_value = told.0; estimate_kept = told.1 }
+    let told = promised-3 c (sym (ap (settled-3 c) (decided-2 c _ _ (is_state c) short))) in
+    record { result_value = told.0; estimate_kept = told.1 }
 
 -- what is lent
 abbrev block-6 : Else-table-all_entries → List ℕ
@@ -254,4 +259,6 @@ unfolding look_up_estimate
 returns c =
     let counted = c.all_entries.ensures.0 in
     let long = le-leb (all_entries (block-7 c) (maps-7 c)) (length (table-4 c)) (omega (arith, counted)) in
-    let told = promised-4 c (ap told c.largest_entry.ensures ∙ sym (ap (settled-4 c) (decided-3 c _ _ (is_state-3 c) long))) in record { result_value = told.0; estimate_kept = told.1 }
+    let told = promised-4 c (ap told c.largest_entry.ensures
+    ∙ sym (ap (settled-4 c) (decided-3 c _ _ (is_state-3 c) long))) in
+    record { result_value = told.0; estimate_kept = told.1 }

@@ -15,7 +15,8 @@ use Rattle.maps.proofs.MapLaws.{exercise-accepted}
 use Rattle.table_calls.specs.WholeTables.{table_conditions}
 use Rattle.table_calls.proofs.Conditions.{table-decided}
 use Rattle.table_calls.proofs.whole_tables.check_table.Goals as goal
-use Rattle.table_calls.proofs.whole_tables.check_table.Goals.{Else-room-all_entries, In-Refused, In_default, Then-room-all_entries}
+use Rattle.table_calls.proofs.whole_tables.check_table.Goals.{Else-room-all_entries, In-Refused, In_default}
+use Rattle.table_calls.proofs.whole_tables.check_table.Goals.{Then-room-all_entries}
 
 -- the block and the maps at the start
 abbrev block : In-Refused → List ℕ

@@ -80,7 +80,8 @@ abbrev table-3 : After-slice_known-2-1 → List ℕ
 table-3 c = c.args.table.now
 
 abbrev settled-2 : After-slice_known-2-1 → Answer (Unit {0}) → Outcome (Unit {0})
-settled-2 c verdict = guarded verdict (table-3 c) (outcome (told tt) (at_front (all_filled (block-3 c) (maps-3 c)) (table-3 c)))
+settled-2 c verdict =
+    guarded verdict (table-3 c) (outcome (told tt) (at_front (all_filled (block-3 c) (maps-3 c)) (table-3 c)))
 
 -- an outcome that is that of the call keeps the promise, since the block that is lent has bytes
 abbrev Gives-2 : After-slice_known-2-1 → Answer (Unit {0}) → List ℕ → Type 0

@@ -95,7 +95,8 @@ pub returns-then-all_pass : goal.returns-then-all_pass
 unfolding test_table
 returns-then-all_pass c =
     let told = promised-2 c
-    (sym (ap₂ (answered {A = Bool}) (accepted-2 c) (sym c.all_pass.ensures ∙ c.if-all_pass.true))) in record { result_value = told.0; table_test_kept = told.1 }
+    (sym (ap₂ (answered {A = Bool}) (accepted-2 c) (sym c.all_pass.ensures ∙ c.if-all_pass.true))) in
+    record { result_value = told.0; table_test_kept = told.1 }
 
 -- the block, the maps and the table that are lent
 abbrev block-4 : Else-all_pass → List ℕ
@@ -127,4 +128,5 @@ pub returns : goal.returns
 unfolding test_table
 returns c =
     let told = promised-3 c
-    (sym (ap₂ (answered {A = Bool}) (accepted-3 c) (sym c.all_pass.ensures ∙ c.if-all_pass.false))) in record { result_value = told.0; table_test_kept = told.1 }
+    (sym (ap₂ (answered {A = Bool}) (accepted-3 c) (sym c.all_pass.ensures ∙ c.if-all_pass.false))) in
+    record { result_value = told.0; table_test_kept = told.1 }

@@ -17,4 +17,8 @@ entries_pass-requires c =
     let bound = c.rank_bound-bound.ensures in
     let first = c.in_range.ensures c.if-not-in_range.false in
     let second = c.in_range-2.ensures c.if-not-in_range-2.false in
-    record { count_bound = c.requires; in_table = (λ j l. omega (arith, rw (zero-add j) at (first j l), bound), λ j l. omega (arith, second j l, bound)) }
+    record {
+      count_bound = c.requires;
+      in_table =
+          (λ j l. omega (arith, rw (zero-add j) at (first j l), bound), λ j l. omega (arith, second j l, bound));
+    }

@@ -25,7 +25,8 @@ find_edges-count-requires c =
     }
 
 pub returns-then-count-eq0 : goal.returns-then-count-eq0
-returns-then-count-eq0 c = record { goal_passes = λ e. absurd (true-false e refl); lists_len = c.find_edges-count.ensures.upper_bound.1 }
+returns-then-count-eq0 c =
+    record { goal_passes = λ e. absurd (true-false e refl); lists_len = c.find_edges-count.ensures.upper_bound.1 }
 
 pub returns : goal.returns
 returns c =

@@ -17,7 +17,8 @@ loop-j-preserved c =
       omega arith,
       elim c.if-bound-lists.branch [
         | then-bound-lists w ↦ λ e. absurd (true-false e w.below-is)
-        | else-bound-lists w ↦ λ e. below_more _ _ (l.invariant.1 (sym w.below-is ∙ e)) (omega (arith, w.if-bound-lists.false))
+        | else-bound-lists w ↦ λ e. below_more _ _ (l.invariant.1 (sym w.below-is ∙ e))
+            (omega (arith, w.if-bound-lists.false))
       ],
     )
 

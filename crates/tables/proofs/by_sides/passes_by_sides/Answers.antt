@@ -16,7 +16,8 @@ goal_passes-requires c =
     (c.requires.0, c.requires.1, omega (arith, l.invariant.0, c.loop-g-test.true), l.invariant.2)
 
 pub returns-then-not-goal_passes : goal.returns-then-not-goal_passes
-returns-then-not-goal_passes c = record { table_value = λ e. absurd (true-false e refl); lists_len = c.goal_passes.ensures.lists_len }
+returns-then-not-goal_passes c =
+    record { table_value = λ e. absurd (true-false e refl); lists_len = c.goal_passes.ensures.lists_len }
 
 pub loop-g-preserved : goal.loop-g-preserved
 loop-g-preserved c =
@@ -44,7 +45,8 @@ rule_passes-requires c =
     (c.requires.0, c.requires.1, omega (arith, l.invariant.0, c.loop-r-test.true), l.invariant.2)
 
 pub returns-then-not-rule_passes : goal.returns-then-not-rule_passes
-returns-then-not-rule_passes c = record { table_value = λ e. absurd (true-false e refl); lists_len = c.rule_passes.ensures.lists_len }
+returns-then-not-rule_passes c =
+    record { table_value = λ e. absurd (true-false e refl); lists_len = c.rule_passes.ensures.lists_len }
 
 pub loop-r-preserved : goal.loop-r-preserved
 loop-r-preserved c =

@@ -10,7 +10,8 @@ use Rattle.distances.proofs.OneRule.{via-at, via-marked}
 use Rattle.tables.specs.Abstraction.{step_rank, graph_of}
 use Rattle.tables.proofs.RuleCosts.{no-cost, leads-to}
 use Rattle.tables.proofs.edges.via.Goals as goal
-use Rattle.tables.proofs.edges.via.Goals.{After-cost_word, After-rank_word-v, After-shared_slice_known-3-1-unread, Else-entry-lt-MARK}
+use Rattle.tables.proofs.edges.via.Goals.{After-cost_word, After-rank_word-v, After-shared_slice_known-3-1-unread}
+use Rattle.tables.proofs.edges.via.Goals.{Else-entry-lt-MARK}
 
 pub returns-then-not-applies_word : goal.returns-then-not-applies_word
 returns-then-not-applies_word c =

@@ -20,7 +20,8 @@ use Rattle.words.specs.Ranking.{word_of}
 use Rattle.tables.specs.Abstraction.{graph_of, Ready}
 use Rattle.tables.proofs.WordEdges.{word-goal, cheap}
 use Rattle.tables.proofs.lower_bound.passes_at.Goals as goal
-use Rattle.tables.proofs.lower_bound.passes_at.Goals.{After-wide_entry, Else-entry-lt-MARK, Then-least-ge-NO_COST, then-entry-gt0+else-meets_word, else-entry-gt0}
+use Rattle.tables.proofs.lower_bound.passes_at.Goals.{After-wide_entry, Else-entry-lt-MARK, Then-least-ge-NO_COST}
+use Rattle.tables.proofs.lower_bound.passes_at.Goals.{then-entry-gt0+else-meets_word, else-entry-gt0}
 
 -- the goal test, of the words that the code makes
 goal-there :
@@ -32,7 +33,8 @@ goal-there b code weights u word g m ready at goals-there met =
 pub returns-then-meets_word : goal.returns-then-meets_word
 returns-then-meets_word c =
     let a = c.args in
-    sym (test-goal (graph_of a.block.now) a.table.now a.u (goal-there a.block.now a.code.now a.weights.now a.u a.word c.goals.result c.meets_word.result c.requires.ready.0
+    sym (test-goal (graph_of a.block.now) a.table.now a.u
+    (goal-there a.block.now a.code.now a.weights.now a.u a.word c.goals.result c.meets_word.result c.requires.ready.0
     c.requires.u_bound.1 c.goals.ensures.0 c.meets_word.ensures ∙ c.if-meets_word.true)
     (λ z. omega (arith, z, c.if-entry-gt0.true)))
 
@@ -53,7 +55,8 @@ zero-there c e =
     let a = c.args in
     elim c.if-entry-gt0.branch [
       | then-entry-gt0+else-meets_word w ↦
-          absurd (true-false e (goal-there a.block.now a.code.now a.weights.now a.u a.word w.goals.result w.meets_word.result
+          absurd (true-false e (goal-there a.block.now a.code.now a.weights.now a.u a.word w.goals.result
+          w.meets_word.result
           c.requires.ready.0 c.requires.u_bound.1 w.goals.ensures.0 w.meets_word.ensures ∙ w.if-meets_word.false))
       | else-entry-gt0 w ↦ omega (arith, w.if-entry-gt0.false)
     ]
@@ -81,7 +84,8 @@ zero-there-2 c e =
     let a = c.args in
     elim c.if-entry-gt0.branch [
       | then-entry-gt0+else-meets_word w ↦
-          absurd (true-false e (goal-there a.block.now a.code.now a.weights.now a.u a.word w.goals.result w.meets_word.result
+          absurd (true-false e (goal-there a.block.now a.code.now a.weights.now a.u a.word w.goals.result
+          w.meets_word.result
           c.requires.ready.0 c.requires.u_bound.1 w.goals.ensures.0 w.meets_word.ensures ∙ w.if-meets_word.false))
       | else-entry-gt0 w ↦ omega (arith, w.if-entry-gt0.false)
     ]

@@ -10,7 +10,8 @@ use Rattle.tables.proofs.lower_bound.passes_everywhere.Given as goal
 
 abbrev pub invariant-loop-u : goal.invariant-loop-u
 invariant-loop-u l =
-    (l.states ≡ abstract_states l.block) × (l.u ≤ l.states) × ((w : ℕ) → w < l.u → passes_at (graph_of l.block) l.table w ≡ true)
+    (l.states ≡ abstract_states l.block) × (l.u ≤ l.states)
+    × ((w : ℕ) → w < l.u → passes_at (graph_of l.block) l.table w ≡ true)
 
 abbrev pub decreases-loop-u : goal.decreases-loop-u
 decreases-loop-u l = l.states - l.u

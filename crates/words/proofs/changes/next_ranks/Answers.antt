@@ -1,5 +1,6 @@
 -- `words::changes::next_ranks` meets its contract.
-use Rattle.std.proofs.Common.{◌≡◌, ℕ, ◌+◌, ◌-◌, ◌%◌, sym, ap, ◌∙◌, ap₂, add-zero, add_assoc, zero-add, add-one, arith, rules}
+use Rattle.std.proofs.Common.{◌≡◌, ℕ, ◌+◌, ◌-◌, ◌%◌, sym, ap, ◌∙◌, ap₂, add-zero, add_assoc, zero-add, add-one, arith}
+use Rattle.std.proofs.Common.{rules}
 use native.Mathlib.Nat.{mod-add-mod}
 use Rattle.words.specs.Changes.{word_span, change_place, part_count, part_place, part_adds, added_to, next_ranks}
 use Rattle.words.proofs.changes.next_ranks.Goals as goal

@@ -13,13 +13,17 @@ told :
     (code : List ℕ) (x w : ℕ) {answer : Option ℕ} → mismatch_word code x w ≡ answer
     → (answer ≡ mismatch_word code x w) × MismatchMeans 16 (constant_agrees_word code x w) answer
 unfolding mismatch_word
-told code x w e =
-    (sym e, subst (MismatchMeans 16 (constant_agrees_word code x w)) e (mismatch-means 16 (constant_agrees_word code x w)))
+told code x w e = (
+  sym e,
+  subst (MismatchMeans 16 (constant_agrees_word code x w)) e
+      (mismatch-means 16 (constant_agrees_word code x w)),
+)
 
 pub returns-then-differing-eq0 : goal.returns-then-differing-eq0
 returns-then-differing-eq0 c =
     let a = c.args in
-    let told = told a.code.now a.x a.word (mismatch-none a.code.now a.x a.word _ refl c.if-differing-eq0.true) in record { result_value = told.0; mismatch_means = told.1 }
+    let told = told a.code.now a.x a.word (mismatch-none a.code.now a.x a.word _ refl c.if-differing-eq0.true) in
+    record { result_value = told.0; mismatch_means = told.1 }
 
 pub returns : goal.returns
 returns c =

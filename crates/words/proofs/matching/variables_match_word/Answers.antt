@@ -1,11 +1,13 @@
 -- `words::matching::variables_match_word` meets its contract.
-use Rattle.std.proofs.Common.{◌≡◌, ℕ, suc, ◌-◌, ◌/◌, ◌%◌, Bool, true, ◌&&◌, eqb, sym, ap, ◌∙◌, ap₂, ⊎_elim, le_of_suc-le-suc, eq-or-lt_of_le, div-one, arith, rules}
+use Rattle.std.proofs.Common.{◌≡◌, ℕ, suc, ◌-◌, ◌/◌, ◌%◌, Bool, true, ◌&&◌, eqb, sym, ap, ◌∙◌, ap₂, ⊎_elim}
+use Rattle.std.proofs.Common.{le_of_suc-le-suc, eq-or-lt_of_le, div-one, arith, rules}
 use Rattle.basics.proofs.Bounded.{all-passed, all-false}
 use Rattle.words.specs.Packing.{digit}
 use Rattle.words.specs.Sides.{count_at, from_at, to_at, move_agrees, variables_word, matches_word}
 use Rattle.words.proofs.WordDigits.{digits-rest}
 use Rattle.words.proofs.matching.variables_match_word.Goals as goal
-use Rattle.words.proofs.matching.variables_match_word.Goals.{After-left-1, After-loop-left, Else-not-move_agrees, Then-not-move_agrees}
+use Rattle.words.proofs.matching.variables_match_word.Goals.{After-left-1, After-loop-left, Else-not-move_agrees}
+use Rattle.words.proofs.matching.variables_match_word.Goals.{Then-not-move_agrees}
 use Rattle.words.proofs.matching.variables_match_word.Invariants.{Agreed}
 
 -- the test of each move, and that it decides

@@ -1,5 +1,6 @@
 -- `words::packing::pack` meets its contract.
-use Rattle.std.proofs.Common.{◌≡◌, ℕ, suc, ◌+◌, ◌-◌, ◌*◌, ◌^◌, ◌<◌, length, get_or, drop, sym, ap, ◌∙◌, lt_of_lt_of_le, arith, length-drop, get_or-drop, drop-cons, rules}
+use Rattle.std.proofs.Common.{◌≡◌, ℕ, suc, ◌+◌, ◌-◌, ◌*◌, ◌^◌, ◌<◌, length, get_or, drop, sym, ap, ◌∙◌, lt_of_lt_of_le}
+use Rattle.std.proofs.Common.{arith, length-drop, get_or-drop, drop-cons, rules}
 use lib.Seq.{drop-length}
 use Rattle.words.specs.Packing as packing
 use Rattle.words.proofs.WordDigits.{pack-below, power-fits}

@@ -7,7 +7,8 @@ use Rattle.words.proofs.ranking.rank_word.Given as goal
 
 abbrev pub invariant-loop-j : goal.invariant-loop-j
 invariant-loop-j l =
-    (l.j ≤ (l.n + 1) / 2) × (l.rest ≡ l.word / 256 ^ l.j) × (l.rank ≡ rank_pairs l.weights l.j l.word) × (l.rank ≤ 65535 * l.j)
+    (l.j ≤ (l.n + 1) / 2) × (l.rest ≡ l.word / 256 ^ l.j) × (l.rank ≡ rank_pairs l.weights l.j l.word)
+    × (l.rank ≤ 65535 * l.j)
 
 abbrev pub decreases-loop-j : goal.decreases-loop-j
 decreases-loop-j l = (l.n + 1) / 2 - l.j

@@ -1,5 +1,6 @@
 -- `words::ranking::word_of` meets its contract.
-use Rattle.std.proofs.Common.{◌≡◌, ℕ, suc, ◌+◌, ◌-◌, ◌*◌, ◌/◌, ◌%◌, ◌^◌, ◌<◌, ◌≤◌, sym, ap, ◌∙◌, mod-lt, zero-lt-suc, pow-suc, zero-add, zero-mul, mul-one, arith, rules}
+use Rattle.std.proofs.Common.{◌≡◌, ℕ, suc, ◌+◌, ◌-◌, ◌*◌, ◌/◌, ◌%◌, ◌^◌, ◌<◌, ◌≤◌, sym, ap, ◌∙◌, mod-lt, zero-lt-suc}
+use Rattle.std.proofs.Common.{pow-suc, zero-add, zero-mul, mul-one, arith, rules}
 use native.Mathlib.Nat.{one-le-pow}
 use lib.Arith.{digits_lt}
 use Rattle.basics.specs.Digits.{digits}

@@ -8,7 +8,8 @@ use Rattle.words.proofs.sides.rewritten_word.Given as goal
 -- what is kept, the constants and the first j moves are joined, and the digits of the others are left
 abbrev pub Joined : List ℕ → ℕ → ℕ → ℕ → ℕ → ℕ → ℕ → Type 0
 Joined code x word made from to j =
-    (made ≡ join_moves (bit_or (bit_and word (keep_at code x)) (value_at code x)) word (from_at code x) (to_at code x) j)
+    (made ≡ join_moves (bit_or (bit_and word (keep_at code x)) (value_at code x)) word (from_at code x) (to_at code x)
+    j)
     × (from ≡ from_at code x / 16 ^ j) × (to ≡ to_at code x / 16 ^ j)
 
 abbrev pub invariant-loop-left : goal.invariant-loop-left
