@@ -1,7 +1,6 @@
 -- The cases of a position (`Case`, `case`), and what `choice` is in each: `choice-dash`, `choice-label`,
 -- `choice-shown`, `choice-again`, `choice-new`, `choice-other`. It reads of the state begun only what stands before the
--- position (`choice-local`). `Keeping` and `OneToOne` go by these cases, the code of choices by `choice-kept`,
--- `choice-term` and `variable-*`.
+-- position (`choice-local`). `Keeping` and `OneToOne` go by these cases.
 use mathlib.Core.Path.{◌≡◌, refl, sym, ap, ◌∙◌}
 use mathlib.Core.Bool.{Bool, true, false, cond}
 use mathlib.Core.List.{List}

@@ -1,19 +1,16 @@
--- One turn of the loops of `complete` and `pivot`, and what `raise` makes (`raise-made`).
--- The proofs of these three functions rest on it.
+-- One turn of the loops of `complete` and `pivot`. The proofs of these two functions rest on it.
 use mathlib.Core.Path.{◌≡◌, refl, sym, ap, ◌∙◌, subst}
 use mathlib.Core.Bool.{Bool, true, false, ◌&&◌}
 use mathlib.Core.List.{List}
 use Prim.Native.Nat.{ℕ, suc, ◌+◌, ◌-◌, ◌≤◌, ◌<◌}
 use native.Mathlib.Numerals.{add-one}
 use native.Mathlib.Omega.{arith}
-use lib.ListN.{length, get_or, set, take, drop, get_or-append}
-use lib.Seq.{get_or-set_same, get_or-set_other, get_or-take, length-take-le}
+use lib.ListN.{length, get_or, set}
+use lib.Seq.{get_or-set_same, get_or-set_other}
 use borrow.Author.Count.{below_more}
 use Rattle.basics.specs.Bounded.{last}
-use Rattle.basics.specs.Lists.{at_front}
-use Rattle.basics.proofs.Truth.{and_intro}
 use Rattle.basics.proofs.Bounded.{all-false, last-past}
-use Rattle.backward.specs.Choices.{least_of, raised_of, rises_of, keeps_of, kept_to, raisable_at, Completed, Raised}
+use Rattle.backward.specs.Choices.{least_of, rises_of, keeps_of, kept_to, raisable_at}
 use Rattle.backward.specs.declared.choices.Choice.{Choice}
 use Rattle.backward.proofs.Choosing.{Near}
 
@@ -58,10 +55,6 @@ module _ (count : ℕ → ℕ) (choices : List ℕ → ℕ → Choice) (e : List
       go true a = rw (a, r)
       go false a = rw a
 
-  pub keeps-more :
-      kept_to choices e i ≡ true → keeps_of (choices e i) (get_or e i 0) ≡ true → kept_to choices e (i + 1) ≡ true
-  keeps-more a k = rw (add-one i) (and_intro (kept_to choices e i) (keeps_of (choices e i) (get_or e i 0)) a k)
-
   -- behind a label that may not stand where it does, none can be raised
   pub stop-last :
       (n : ℕ) → i < n → keeps_of (choices e i) (get_or e i 0) ≡ false
@@ -72,22 +65,3 @@ module _ (count : ℕ → ℕ) (choices : List ℕ → ℕ → Choice) (e : List
       (last-past (raisable_at count choices e) (i + 1) (n - (i + 1)) (λ j a b.
       ap (λ (t : Bool). t && rises_of (count j) (choices e j) (get_or e j 0))
       (all-false (λ k. keeps_of (choices e k) (get_or e k 0)) j i (omega arith) k))))
-
--- the front of e written over d, the raised label set behind it, and the least labels on from there
-module _
-    (choices : List ℕ → ℕ → Choice) (n i : ℕ) (e d u : List ℕ) (x : ℕ) (le : i < length e)
-    (front : List ℕ) (made : front ≡ at_front (take i e) d) (lf : i < length front) where
-  pub raise-made :
-      x ≡ raised_of (choices e i) (get_or e i 0) → Completed choices n (i + 1) (set front i x) u
-      → Raised choices n i e u
-  raise-made r f =
-      record {
-        before = λ k l.
-            f.before k (omega arith) ∙ get_or-set_other front i k x 0 (λ z. omega arith)
-            ∙ ap (λ (t : List ℕ). get_or t k 0) made
-            ∙ get_or-append (take i e) (drop (length (take i e)) d) 0 k
-            (omega (arith, length-take-le i e (omega arith)))
-            ∙ get_or-take i e k 0 l;
-        here = f.before i (omega arith) ∙ get_or-set_same front i x 0 lf ∙ r;
-        after = λ k a l. f.after k (omega arith) l;
-      }

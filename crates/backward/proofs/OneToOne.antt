@@ -1,7 +1,7 @@
 -- A rule that is reversible by form takes no two states to one (`reversible-one`, `one-predecessor`); with two labels
 -- or more, any other rule does (`not-reversible`), so that the form tells exactly which rules are one to one
 -- (`reversible_exactly`). With one label there is one state only, and every rule is one to one (`one_label`). The
--- starred exercises on reversible rules rest on this; the code's test goes by `form-kept` and `form-term`.
+-- starred exercises on reversible rules rest on this.
 use mathlib.Core.Path.{◌≡◌, refl, sym, ap, ◌∙◌}
 use mathlib.Core.Logic.{◌↔◌}
 use mathlib.Core.Bool.{Bool, true, false, cond, ◌||◌}

@@ -1,4 +1,6 @@
 // A query line and its answer line, or the line of a refusal: records in digits.
+#![tactic(auto)]
+
 mod answering;
 mod refusing;
 

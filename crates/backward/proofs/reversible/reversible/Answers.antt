@@ -1,8 +1,7 @@
 -- `backward::reversible::reversible` meets its contract.
 use mathlib.Core.Path.{◌≡◌, sym, ap, ap₂, ◌∙◌}
-use mathlib.Core.Bool.{true}
 use mathlib.Core.List.{List}
-use Prim.Native.Nat.{ℕ, ◌-◌}
+use Prim.Native.Nat.{ℕ}
 use native.Mathlib.Omega.{arith}
 use borrow.Author.Count.{below_more}
 use borrow.Author.Rules.{rules}
@@ -21,9 +20,6 @@ unfolding reversible
 same-form b r n left right p q o =
     ap₂ (λ (n left : ℕ). all n (form_at n (side_at b left) (side_at b right))) p q
     ∙ ap (λ (right : ℕ). all (positions b) (form_at (positions b) (left_of b r) (side_at b right))) o
-
-pub loop-i-init : goal.loop-i-init
-loop-i-init c = (search rules, λ k l. absurd (omega arith))
 
 pub form_at-requires : goal.form_at-requires
 form_at-requires c =

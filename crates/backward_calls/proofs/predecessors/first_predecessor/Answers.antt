@@ -1,234 +1,50 @@
 -- `backward_calls::predecessors::first_predecessor` meets its contract.
--- Refused with the buffer as it was, or what stepping back from 'first' gives; the promise
--- follows from the outcome.
-use mathlib.Core.Path.{◌≡◌, sym, ap, ap₂, ◌∙◌}
-use mathlib.Core.Bool.{Bool}
-use mathlib.Core.List.{List}
-use Prim.Native.Nat.{ℕ}
-use lib.ListN.{length}
-use Rattle.refusals.specs.Answers.{Answer, told, verdict, Outcome, outcome, guarded}
+-- Refused with the buffer as it was, or what stepping back from 'first' gives; the promise follows from the outcome.
+use Rattle.std.proofs.Common.{sym, ap, ◌∙◌, length}
 use Rattle.refusals.specs.Refusals.{verdict_of}
-use Rattle.backward.specs.Predecessors.{from_first, NextState, is_found, written_out, Answered, step_back}
-use Rattle.psvn_calls.specs.Applying.{apply_conditions}
-use Rattle.backward_calls.specs.Predecessors.{step_back_conditions, step_back_from, PredecessorKept}
+use Rattle.backward.specs.Predecessors.{from_first}
 use Rattle.backward_calls.proofs.Conditions.{first-conditions, step-back-accepted}
-use Rattle.backward_calls.proofs.Promises.{predecessor-kept}
+use Rattle.backward_calls.proofs.Promises.{stepped-refused, stepped-told, predecessor-kept}
 use Rattle.backward_calls.proofs.predecessors.first_predecessor.Goals as goal
-use Rattle.backward_calls.proofs.predecessors.first_predecessor.Goals.{After-first_predecessor-arg-1}
-use Rattle.backward_calls.proofs.predecessors.first_predecessor.Goals.{Else-first_predecessor, In-Refused}
-use Rattle.backward_calls.proofs.predecessors.first_predecessor.Goals.{Then-first_predecessor}
-
-abbrev next : In-Refused → NextState
-next c = step_back c.args.block.now c.args.rule c.args.state.now from_first
-
-abbrev outcome-by : In-Refused → Answer (Unit {0}) → Outcome Bool
-outcome-by c verdict =
-    let out = c.args.out.now in
-    guarded verdict out (outcome (told (is_found (next c))) (written_out (next c) out))
-
--- what stands against the call, what stepping back gives, and the outcome by the verdict
-abbrev verdict-of : In-Refused → Answer (Unit {0})
-verdict-of c =
-    let a = c.args in
-    verdict (step_back_conditions a.block.now a.rule a.state.now from_first (length a.out.now))
-
-abbrev verdict-on-rule : In-Refused → Answer (Unit {0})
-verdict-on-rule c =
-    let a = c.args in
-    verdict (apply_conditions a.block.now a.rule a.state.now (length a.out.now))
-
--- the verdict is that on applying the rule
-as-applied : (c : In-Refused) → verdict-of c ≡ verdict-on-rule c
-as-applied c =
-    let a = c.args in
-    first-conditions a.block.now a.state.now a.rule (length a.out.now)
-
--- an outcome that is that of the call keeps the promise
-abbrev Gives : In-Refused → Answer Bool → List ℕ → Type 0
-Gives c answer out' =
-    let a = c.args in
-    outcome answer out' ≡ step_back_from a.block.now a.rule a.state.now from_first a.out.now
-
-abbrev Promised : In-Refused → Answer Bool → List ℕ → Type 0
-Promised c answer out' =
-    let a = c.args in
-    PredecessorKept a.block.now a.rule a.state.now from_first answer out'
-
-kept : (c : In-Refused) (answer : Answer Bool) (out' : List ℕ) → Gives c answer out' → Promised c answer out'
-kept c answer out' e =
-    let a = c.args in
-    predecessor-kept a.block.now a.rule a.state.now from_first a.out.now e
 
 pub returns-in-Refused : goal.returns-in-Refused
-unfolding step_back_from
 returns-in-Refused c =
-    let checked = c.check_application-checked.ensures in
-    let against = as-applied c ∙ sym checked ∙ ap verdict_of c.in-Refused.is in
-    let e = sym (ap (outcome-by c) against) in
-    record { out_after = e; predecessor_kept = kept c _ _ e }
-
--- what stands against the call, what stepping back gives, and the outcome by the verdict
-abbrev verdict-of-2 : After-first_predecessor-arg-1 → Answer (Unit {0})
-verdict-of-2 c =
     let a = c.args in
-    verdict (step_back_conditions a.block.now a.rule a.state.now from_first (length a.out.now))
-
-abbrev verdict-on-rule-2 : After-first_predecessor-arg-1 → Answer (Unit {0})
-verdict-on-rule-2 c =
-    let a = c.args in
-    verdict (apply_conditions a.block.now a.rule a.state.now (length a.out.now))
-
--- the verdict is that on applying the rule
-as-applied-2 : (c : After-first_predecessor-arg-1) → verdict-of-2 c ≡ verdict-on-rule-2 c
-as-applied-2 c =
-    let a = c.args in
+    let against =
     first-conditions a.block.now a.state.now a.rule (length a.out.now)
-
--- the call is accepted
-accepted : (c : After-first_predecessor-arg-1) → verdict-of-2 c ≡ told tt
-accepted c =
-    as-applied-2 c
-    ∙ sym c.check_application-checked.ensures
-    ∙ ap verdict_of c.in_default.is
+    ∙ sym c.check_application-checked.ensures ∙ ap verdict_of c.in-Refused.is in
+    let e = stepped-refused a.block.now a.rule a.state.now from_first a.out.now against in
+    record { out_after = e; predecessor_kept = predecessor-kept a.block.now a.rule a.state.now from_first a.out.now e }
 
 pub first_predecessor-requires : goal.first_predecessor-requires
 first_predecessor-requires c =
     let a = c.args in
-    let h =
-    step-back-accepted a.block.now a.state.now a.rule (length a.out.now) from_first
-    (accepted c) in
-    (h.valid, h.rule, h.state, h.room-left)
-
-abbrev next-2 : Then-first_predecessor → NextState
-next-2 c = step_back c.args.block.now c.args.rule c.args.state.now from_first
-
-abbrev outcome-by-2 : Then-first_predecessor → Answer (Unit {0}) → Outcome Bool
-outcome-by-2 c verdict =
-    let out = c.args.out.now in
-    guarded verdict out (outcome (told (is_found (next-2 c))) (written_out (next-2 c) out))
-
--- an outcome that is that of the call keeps the promise
-abbrev Gives-2 : Then-first_predecessor → Answer Bool → List ℕ → Type 0
-Gives-2 c answer out' =
-    let a = c.args in
-    outcome answer out' ≡ step_back_from a.block.now a.rule a.state.now from_first a.out.now
-
-abbrev Promised-2 : Then-first_predecessor → Answer Bool → List ℕ → Type 0
-Promised-2 c answer out' =
-    let a = c.args in
-    PredecessorKept a.block.now a.rule a.state.now from_first answer out'
-
-kept-2 : (c : Then-first_predecessor) (answer : Answer Bool) (out' : List ℕ) → Gives-2 c answer out'
-    → Promised-2 c answer out'
-kept-2 c answer out' e =
-    let a = c.args in
-    predecessor-kept a.block.now a.rule a.state.now from_first a.out.now e
-
--- what stands against the call, what stepping back gives, and the outcome by the verdict
-abbrev verdict-of-3 : Then-first_predecessor → Answer (Unit {0})
-verdict-of-3 c =
-    let a = c.args in
-    verdict (step_back_conditions a.block.now a.rule a.state.now from_first (length a.out.now))
-
-abbrev verdict-on-rule-3 : Then-first_predecessor → Answer (Unit {0})
-verdict-on-rule-3 c =
-    let a = c.args in
-    verdict (apply_conditions a.block.now a.rule a.state.now (length a.out.now))
-
--- the verdict is that on applying the rule
-as-applied-3 : (c : Then-first_predecessor) → verdict-of-3 c ≡ verdict-on-rule-3 c
-as-applied-3 c =
-    let a = c.args in
+    let accepted =
     first-conditions a.block.now a.state.now a.rule (length a.out.now)
-
--- the call is accepted
-accepted-2 : (c : Then-first_predecessor) → verdict-of-3 c ≡ told tt
-accepted-2 c =
-    as-applied-3 c
-    ∙ sym c.check_application-checked.ensures
-    ∙ ap verdict_of c.in_default.is
-
--- what is told and written then
-told-by :
-    (c : Then-first_predecessor) (answer : Bool) (out : List ℕ)
-    → Answered (next-2 c) answer c.args.out.now out
-    → Gives-2 c (told answer) out × Promised-2 c (told answer) out
-unfolding step_back_from
-told-by c answer out h =
-    let e =
-    ap₂ (λ (t : Bool) (l : List ℕ). outcome (told t) l) h.0 h.1
-    ∙ sym (ap (outcome-by-2 c) (accepted-2 c)) in
-    (e, kept-2 c _ _ e)
+    ∙ sym c.check_application-checked.ensures ∙ ap verdict_of c.in_default.is in
+    let h = step-back-accepted a.block.now a.state.now a.rule (length a.out.now) from_first accepted in
+    (h.valid, h.rule, h.state, h.room-left)
 
 pub returns-then-first_predecessor : goal.returns-then-first_predecessor
 returns-then-first_predecessor c =
-    let e = c.first_predecessor.ensures in
-    let told = told-by c _ _ (sym c.if-first_predecessor.true ∙ e.0, e.1) in
-    record { out_after = told.0; predecessor_kept = told.1 }
-
-abbrev next-3 : Else-first_predecessor → NextState
-next-3 c = step_back c.args.block.now c.args.rule c.args.state.now from_first
-
-abbrev outcome-by-3 : Else-first_predecessor → Answer (Unit {0}) → Outcome Bool
-outcome-by-3 c verdict =
-    let out = c.args.out.now in
-    guarded verdict out (outcome (told (is_found (next-3 c))) (written_out (next-3 c) out))
-
--- an outcome that is that of the call keeps the promise
-abbrev Gives-3 : Else-first_predecessor → Answer Bool → List ℕ → Type 0
-Gives-3 c answer out' =
     let a = c.args in
-    outcome answer out' ≡ step_back_from a.block.now a.rule a.state.now from_first a.out.now
-
-abbrev Promised-3 : Else-first_predecessor → Answer Bool → List ℕ → Type 0
-Promised-3 c answer out' =
-    let a = c.args in
-    PredecessorKept a.block.now a.rule a.state.now from_first answer out'
-
-kept-3 : (c : Else-first_predecessor) (answer : Answer Bool) (out' : List ℕ) → Gives-3 c answer out'
-    → Promised-3 c answer out'
-kept-3 c answer out' e =
-    let a = c.args in
-    predecessor-kept a.block.now a.rule a.state.now from_first a.out.now e
-
--- what stands against the call, what stepping back gives, and the outcome by the verdict
-abbrev verdict-of-4 : Else-first_predecessor → Answer (Unit {0})
-verdict-of-4 c =
-    let a = c.args in
-    verdict (step_back_conditions a.block.now a.rule a.state.now from_first (length a.out.now))
-
-abbrev verdict-on-rule-4 : Else-first_predecessor → Answer (Unit {0})
-verdict-on-rule-4 c =
-    let a = c.args in
-    verdict (apply_conditions a.block.now a.rule a.state.now (length a.out.now))
-
--- the verdict is that on applying the rule
-as-applied-4 : (c : Else-first_predecessor) → verdict-of-4 c ≡ verdict-on-rule-4 c
-as-applied-4 c =
-    let a = c.args in
+    let accepted =
     first-conditions a.block.now a.state.now a.rule (length a.out.now)
-
--- the call is accepted
-accepted-3 : (c : Else-first_predecessor) → verdict-of-4 c ≡ told tt
-accepted-3 c =
-    as-applied-4 c
-    ∙ sym c.check_application-checked.ensures
-    ∙ ap verdict_of c.in_default.is
-
--- what is told and written then
-told-by-2 :
-    (c : Else-first_predecessor) (answer : Bool) (out : List ℕ)
-    → Answered (next-3 c) answer c.args.out.now out
-    → Gives-3 c (told answer) out × Promised-3 c (told answer) out
-unfolding step_back_from
-told-by-2 c answer out h =
+    ∙ sym c.check_application-checked.ensures ∙ ap verdict_of c.in_default.is in
+    let h = c.first_predecessor.ensures in
     let e =
-    ap₂ (λ (t : Bool) (l : List ℕ). outcome (told t) l) h.0 h.1
-    ∙ sym (ap (outcome-by-3 c) (accepted-3 c)) in
-    (e, kept-3 c _ _ e)
+    stepped-told a.block.now a.rule a.state.now from_first a.out.now accepted
+    (sym c.if-first_predecessor.true ∙ h.0, h.1) in
+    record { out_after = e; predecessor_kept = predecessor-kept a.block.now a.rule a.state.now from_first a.out.now e }
 
 pub returns : goal.returns
 returns c =
-    let e = c.first_predecessor.ensures in
-    let told = told-by-2 c _ _ (sym c.if-first_predecessor.false ∙ e.0, e.1) in
-    record { out_after = told.0; predecessor_kept = told.1 }
+    let a = c.args in
+    let accepted =
+    first-conditions a.block.now a.state.now a.rule (length a.out.now)
+    ∙ sym c.check_application-checked.ensures ∙ ap verdict_of c.in_default.is in
+    let h = c.first_predecessor.ensures in
+    let e =
+    stepped-told a.block.now a.rule a.state.now from_first a.out.now accepted
+    (sym c.if-first_predecessor.false ∙ h.0, h.1) in
+    record { out_after = e; predecessor_kept = predecessor-kept a.block.now a.rule a.state.now from_first a.out.now e }
