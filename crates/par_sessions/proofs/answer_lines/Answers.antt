@@ -1,9 +1,10 @@
 -- `par_sessions::answer_lines` meets its contract.
 -- Each turn answers the query line at its place, and goes on behind it.
-use mathlib.Core.Path.{refl, sym, ap, ◌∙◌}
-use mathlib.Core.List.{[], ◌++◌}
-use Prim.Native.Nat.{ℕ}
+use mathlib.Core.Path.{◌≡◌, refl, sym, ap, ◌∙◌}
+use mathlib.Core.List.{List, [], ◌++◌}
+use Prim.Native.Nat.{ℕ, ◌+◌, ◌<◌}
 use native.Mathlib.Omega.{arith}
+use lib.ListN.{length}
 use Rattle.std.proofs.KnownBytes.{Appends-nil}
 use Rattle.frames.specs.Places.{line_from}
 use Rattle.frames.proofs.LineLaws.{line-some}
@@ -24,19 +25,21 @@ pub loop-at-smaller : goal.loop-at-smaller
 loop-at-smaller g c =
     omega (arith, c.answer_line-answered.ensures.onward, line-some c.args.input.now c.loop-at.at c.loop-at-test.true)
 
+-- the line that answers the query line at a place, and those behind it
+lines :
+    (b x : List ℕ) (at next : ℕ) → at < length x → next ≡ at + length (line_from x at)
+    → answers_from b x at ≡ answer_line b (line_from x at) ++ answers_from b x next
+lines b x at next l e =
+    answers_next b x at l ∙ ap (λ (k : ℕ). answer_line b (line_from x at) ++ answers_from b x k) (sym e)
+
 pub loop-at-preserved : goal.loop-at-preserved
 loop-at-preserved g c =
-    let b = c.args.block.now in
-    let x = c.args.input.now in
-    let at = c.loop-at.at in
-    let answered = c.answer_line-answered.ensures in
-    let line = answer_line b (line_from x at) in
-    let left =
-    answers_next b x at c.loop-at-test.true
-    ∙ ap (λ (k : ℕ). line ++ answers_from b x k) (sym answered.onward) in
+    let l = c.loop-at in
+    let answered = c.answer_line-answered in
     let part = c.print_part-line in
-    prints-more c.loop-at.outcome part.result.outcome c.and-outcome.result c.loop-at.invariant left refl
-    answered.written part.ensures.behind part.ensures.printed c.and-outcome.ensures
+    prints-more l.outcome part.result.outcome c.and-outcome.result l.invariant
+    (lines c.args.block.now c.args.input.now l.at answered.result.next c.loop-at-test.true answered.ensures.onward)
+    refl answered.ensures.written part.ensures.behind part.ensures.printed c.and-outcome.ensures
 
 pub returns-clause-written : goal.returns-clause-written
 returns-clause-written g c =
