@@ -14,7 +14,7 @@ fn main() {
     // The linker runs in another directory, so a relative path would not do.
     let found = archive.canonicalize().unwrap_or_else(|error| {
         panic!(
-            "{}: {error}; make it with `rt staticlib mikjuqan`, or name its directory in MIKJUQAN_LIB_DIR",
+            "{}: {error}; make it with `tools/build` of the repository, or name its directory in MIKJUQAN_LIB_DIR",
             archive.display()
         )
     });

@@ -1,5 +1,6 @@
 /* Searches from many starts of one exercise in one call, and prints what is told of each.
  *
+ *   tools/build
  *   cc -I include samples/many_starts.c target/staticlib/libmikjuqan.a
  *
  * Three slots hold the labels 0 (empty), 1 and 2. A label moves to an empty neighbour at cost 1, and from one end to

@@ -1,5 +1,6 @@
 /* Fills tables and searches with one map and with two, and prints what each search takes.
  *
+ *   tools/build
  *   cc -I include samples/two_maps.c target/staticlib/libmikjuqan.a
  *
  * Seven pancakes lie in a pile, and rule k turns over the first k + 2 of them, at cost 1. The exercise's own map tells

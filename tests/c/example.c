@@ -1,7 +1,7 @@
 /* Every call of the library on one exercise, as a program that uses it would make them, those that take further maps
  * with and without them, those that tell a goal on a second exercise, and every buffer of every call once as NULL.
  *
- * Build it in the repository's directory, as C or as C++:
+ * Build it in the repository's directory, once tools/build has made the library, as C or as C++:
  *
  *   gcc -std=c11 tests/c/example.c tests/c/texts.c target/staticlib/libmikjuqan.a
  *   g++ -std=c++17 tests/c/example.c tests/c/texts.c target/staticlib/libmikjuqan.a

@@ -12,7 +12,7 @@ use std::time::{Duration, Instant};
 /// The program: `MIKJUQAN_PAR`, or `target/bin/par` of the repository.
 pub fn path() -> PathBuf {
     let path = env::var_os("MIKJUQAN_PAR").map_or_else(|| repository().join("target/bin/par"), PathBuf::from);
-    assert!(path.exists(), "{}: there is no such program; make it with `rt check par`", path.display());
+    assert!(path.exists(), "{}: there is no such program; make it with `tools/build`", path.display());
     path
 }
 

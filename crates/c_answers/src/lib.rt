@@ -2,6 +2,8 @@
 // of `engine` what turns it into numbers. The members stand in the order of include/mikjuqan.h; `refusal` is 0, or the
 // refusal's number, and all else is then 0, but FF for a goal. `GoalNumbers`, `ReplayNumbers` and `SearchNumbers` are
 // C's mikjuqan_goal, mikjuqan_replay and mikjuqan_search.
+#![tactic(auto)]
+
 mod decisions;
 mod entries;
 mod goals;

@@ -1,5 +1,7 @@
 // The public calls, all of them. Each asks nothing of its caller: it refuses first, with the number and in the order of
 // document 01, and then calls the layer below. A call is proved in the crate of its subject, and handed on here.
+#![tactic(auto)]
+
 pub use backward_calls::{
     Predecessor, Reversibility, first_predecessor, next_predecessor, test_reversible,
 };

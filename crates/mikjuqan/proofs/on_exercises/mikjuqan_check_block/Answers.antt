@@ -1,0 +1,11 @@
+-- `mikjuqan::on_exercises::mikjuqan_check_block` meets its contract.
+-- The answer is that of the call of `engine`, and so is the promise.
+use mathlib.Core.Path.{ap, ◌∙◌}
+use Rattle.c_answers.specs.Numbers.{refusal_of, done_told}
+use Rattle.c_answers.proofs.ReadBack.{verdict-told}
+use Rattle.mikjuqan.proofs.Carried.{tells}
+use Rattle.mikjuqan.proofs.on_exercises.mikjuqan_check_block.Goals as goal
+
+pub returns : goal.returns
+returns c =
+    let call = c.check_block-verdict in record { value = c.checked.ensures ∙ ap refusal_of call.ensures.result_value; check_kept = rw (tells done_told c.checked.ensures (verdict-told call.result)) call.ensures.check_kept }

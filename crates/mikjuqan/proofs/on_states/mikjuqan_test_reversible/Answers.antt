@@ -1,0 +1,11 @@
+-- `mikjuqan::on_states::mikjuqan_test_reversible` meets its contract.
+-- The answer is that of the call of `engine`, and so is the promise.
+use mathlib.Core.Path.{ap, ◌∙◌}
+use Rattle.c_answers.specs.Numbers.{decision_of, decision_told}
+use Rattle.c_answers.proofs.ReadBack.{reversibility-told}
+use Rattle.mikjuqan.proofs.Carried.{tells}
+use Rattle.mikjuqan.proofs.on_states.mikjuqan_test_reversible.Goals as goal
+
+pub returns : goal.returns
+returns c =
+    let call = c.test_reversible-reversibility in record { value = c.reversible.ensures ∙ ap decision_of call.ensures.result_value; reversibility_kept = rw (tells decision_told c.reversible.ensures (reversibility-told call.result)) call.ensures.reversibility_kept }
