@@ -77,8 +77,9 @@ module _ (cost : ℕ) (low : cost ≤ 8589934592) where
   pub larger-figure : (x y : ℕ) → max (entry_figure cost x) (entry_figure cost y) ≡ entry_figure cost (max x y)
   larger-figure x y =
       ⊎_elim
-      (λ l. let m : max x y
-      ≡ y = omega arith in omega (arith, figure-rises x y (omega arith), ap (entry_figure cost) m))
+      (λ l.
+      let m : max x y ≡ y = omega arith in
+      omega (arith, figure-rises x y (omega arith), ap (entry_figure cost) m))
       (λ l. let m : max x y ≡ x = omega arith in omega (arith, figure-rises y x l, ap (entry_figure cost) m))
       (below? x y)
 

@@ -132,7 +132,7 @@ module _ (Y : System) (h : Y.State → Estimate) (T : ℕ) where
   extend-rises next rise seen s g (suc k) i u o =
       used-then _ _ u
       (used-take-up (offer Y h T seen s g i) i _ u o (λ t. rise (t ∷ seen) t (g + Y.cost i) u o))
-      (λ w q. extend-rises next rise _ s g k (suc i) w q)
+      (λ w q. extend-rises next rise seen s g k (suc i) w q)
 
   pub visit-rises :
       (d : ℕ) (seen : List Y.State) (s : Y.State) (g u : ℕ) (o : Estimate)
@@ -160,8 +160,8 @@ module _ (Y : System) (h : Y.State → Estimate) (T : ℕ) where
   extend-held v next other held rise seen s g (suc k) i u o l =
       held_then v _ _ _ _
       (held-take-up v (offer Y h T seen s g i) i _ _ u o l (λ t. held (t ∷ seen) t (g + Y.cost i) u o l))
-      (λ w q m. extend-held v next other held rise _ s g k (suc i) w q m)
-      (λ w q. extend-rises other rise _ s g k (suc i) w q)
+      (λ w q m. extend-held v next other held rise seen s g k (suc i) w q m)
+      (λ w q. extend-rises other rise seen s g k (suc i) w q)
 
   pub visit-held :
       (v d : ℕ) (seen : List Y.State) (s : Y.State) (g u : ℕ) (o : Estimate) → u ≤ v

@@ -37,8 +37,8 @@ module _ (Y : System) (h : Y.State → Estimate) (D : ℕ) (s : Y.State) (T : �
       go (inr (p, f, l, w, e)) = omega (arith, at-injective n f e, edge-above Y h T (s ∷ []) s 0 p f w)
 
 module _
-    (Y : System) (h : Y.State → Estimate) {Legal : Y.State
-    → Type 0} (L : Lawful Y Legal) (P : Passing Y Legal h) (D : ℕ)
+    (Y : System) (h : Y.State → Estimate) {Legal : Y.State → Type 0}
+    (L : Lawful Y Legal) (P : Passing Y Legal h) (D : ℕ)
     (s : Y.State) (good : Legal s) where
   module _ (T : ℕ) where
     -- an open list that reaches a goal: visited, or an edge at no more than its cost

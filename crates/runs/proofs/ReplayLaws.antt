@@ -138,8 +138,9 @@ module _ (b s rs : List ℕ) where
     where
       go : (t : Bool) → ltb (applied_count b s rs) (length rs) ≡ t → DoneAt b s rs d (replay_state b s rs)
       go true e = absurd (let z : ◌≡◌ {A = ℕ} 0 1 = cc (e, h) in omega arith)
-      go false e = let q : done_end
-          ≡ d = cc (e, h) in subst (λ (e : RunEnd). DoneAt b s rs e (replay_state b s rs)) q (finished v e)
+      go false e =
+          let q : done_end ≡ d = cc (e, h) in
+          subst (λ (e : RunEnd). DoneAt b s rs e (replay_state b s rs)) q (finished v e)
 
   pub stuck_at : (d : RunEnd) → replay_ending b s rs ≡ Stuck d → StuckAt b s rs d (replay_state b s rs)
   unfolding replay_ending

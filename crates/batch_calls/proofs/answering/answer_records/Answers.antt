@@ -16,7 +16,8 @@ use Rattle.records.specs.Records.{query_length, record_room, answer_record}
 use Rattle.batch_calls.specs.Batches.{query_at, whole_record, answer_at}
 use Rattle.batch_calls.proofs.AnswerRecords.{answer-length, query-inside, query-whole}
 use Rattle.batch_calls.proofs.answering.answer_records.Goals as goal
-use Rattle.batch_calls.proofs.answering.answer_records.Goals.{After-answer_record-arg-1, After-query-1, After-slice_known-in-loop-i-1, In-loop-i}
+use Rattle.batch_calls.proofs.answering.answer_records.Goals.{After-answer_record-arg-1, After-query-1}
+use Rattle.batch_calls.proofs.answering.answer_records.Goals.{After-slice_known-in-loop-i-1, In-loop-i}
 
 pub loop-i-init : goal.loop-i-init
 loop-i-init c = (search rules, refl, λ h rates. refl)
@@ -89,7 +90,8 @@ width-2 c = c.query_length-width.result
 
 -- the part that is handed on is query record i
 abbrev handed : (c : After-answer_record-arg-1) → List ℕ
-handed c = take ((i-3 c) * (width-2 c) + (width-2 c) - (i-3 c) * (width-2 c)) (drop ((i-3 c) * (width-2 c)) (queries-2 c))
+handed c = take ((i-3 c) * (width-2 c) + (width-2 c) - (i-3 c) * (width-2 c))
+    (drop ((i-3 c) * (width-2 c)) (queries-2 c))
 
 width-told-2 : (c : After-answer_record-arg-1) → (width-2 c) ≡ query_length (block-2 c)
 width-told-2 c = c.query_length-width.ensures.0
@@ -99,7 +101,8 @@ begins-2 c = ap (λ (k : ℕ). (i-3 c) * k) (width-told-2 c)
 
 asked : (c : After-answer_record-arg-1) → (handed c) ≡ query_at (block-2 c) (queries-2 c) (i-3 c)
 asked c =
-    let e : (i-3 c) * (width-2 c) + (width-2 c) - (i-3 c) * (width-2 c) ≡ query_length (block-2 c) = omega (arith, (width-told-2 c)) in
+    let e : (i-3 c) * (width-2 c) + (width-2 c) - (i-3 c) * (width-2 c)
+    ≡ query_length (block-2 c) = omega (arith, (width-told-2 c)) in
     ap₂ (λ (k m : ℕ). take k (drop m (queries-2 c))) e (begins-2 c)
 
 asked-whole : (c : After-answer_record-arg-1) → length (handed c) ≡ query_length (block-2 c)
@@ -116,9 +119,11 @@ roomy-2 c = omega (arith, c.loop-i.invariant.1, c.requires.2)
 abbrev behind : (c : After-answer_record-arg-1) → ℕ
 behind c = length (answers-2 c) - (i-3 c) * record_room
 
-behind-length : (c : After-answer_record-arg-1) → length (mid_of ((i-3 c) * record_room) (behind c) (answers-2 c)) ≡ (behind c)
+behind-length : (c : After-answer_record-arg-1) → length (mid_of ((i-3 c) * record_room) (behind c) (answers-2 c))
+    ≡ (behind c)
 behind-length c =
-    length-take-le (behind c) (drop ((i-3 c) * record_room) (answers-2 c)) (omega (arith, length-drop ((i-3 c) * record_room) (answers-2 c)))
+    length-take-le (behind c) (drop ((i-3 c) * record_room) (answers-2 c))
+    (omega (arith, length-drop ((i-3 c) * record_room) (answers-2 c)))
 
 pub answer_record-requires : goal.answer_record-requires
 answer_record-requires c =
@@ -160,11 +165,13 @@ begins-3 c = ap (λ (k : ℕ). (i-4 c) * k) (width-told-3 c)
 
 -- the part that is handed on is query record i
 abbrev handed-2 : (c : After-slice_known-in-loop-i-1) → List ℕ
-handed-2 c = take ((i-4 c) * (width-3 c) + (width-3 c) - (i-4 c) * (width-3 c)) (drop ((i-4 c) * (width-3 c)) (queries-3 c))
+handed-2 c = take ((i-4 c) * (width-3 c) + (width-3 c) - (i-4 c) * (width-3 c))
+    (drop ((i-4 c) * (width-3 c)) (queries-3 c))
 
 asked-2 : (c : After-slice_known-in-loop-i-1) → (handed-2 c) ≡ query_at (block-3 c) (queries-3 c) (i-4 c)
 asked-2 c =
-    let e : (i-4 c) * (width-3 c) + (width-3 c) - (i-4 c) * (width-3 c) ≡ query_length (block-3 c) = omega (arith, (width-told-3 c)) in
+    let e : (i-4 c) * (width-3 c) + (width-3 c) - (i-4 c) * (width-3 c)
+    ≡ query_length (block-3 c) = omega (arith, (width-told-3 c)) in
     ap₂ (λ (k m : ℕ). take k (drop m (queries-3 c))) e (begins-3 c)
 
 more : (c : After-slice_known-in-loop-i-1) → (let a = c.args in

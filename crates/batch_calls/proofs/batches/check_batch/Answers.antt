@@ -8,7 +8,8 @@ use Rattle.maps.specs.Maps.{exercise_conditions, Mapped}
 use Rattle.maps.proofs.MapLaws.{exercise-accepted}
 use Rattle.batch_calls.proofs.Conditions.{exercise-refused, records-refused, tables-decide}
 use Rattle.batch_calls.proofs.batches.check_batch.Goals as goal
-use Rattle.batch_calls.proofs.batches.check_batch.Goals.{After-check_tables, Else-not-records_ok, In_default, Then-not-records_ok}
+use Rattle.batch_calls.proofs.batches.check_batch.Goals.{After-check_tables, Else-not-records_ok, In_default}
+use Rattle.batch_calls.proofs.batches.check_batch.Goals.{Then-not-records_ok}
 
 pub returns-in-Refused : goal.returns-in-Refused
 returns-in-Refused c =

@@ -23,7 +23,8 @@ use Rattle.batch_calls.proofs.Conditions.{BatchAccepted, batch-accepted}
 use Rattle.batch_calls.proofs.SingleCalls.{batch-passing}
 use Rattle.batch_calls.proofs.Promises.{accepted-kept}
 use Rattle.batch_calls.proofs.batches.find_plans.Goals as goal
-use Rattle.batch_calls.proofs.batches.find_plans.Goals.{After-answer_records-arg-1, After-entries-1, After-make_ready, After-slice_known-2-1, In-Refused}
+use Rattle.batch_calls.proofs.batches.find_plans.Goals.{After-answer_records-arg-1, After-entries-1, After-make_ready}
+use Rattle.batch_calls.proofs.batches.find_plans.Goals.{After-slice_known-2-1, In-Refused}
 
 -- the estimate by the tables that are lent
 abbrev rate : In-Refused → List ℕ → Estimate
@@ -212,4 +213,10 @@ Promised c n out =
 pub returns : goal.returns
 unfolding find_plans
 returns c =
-    let n = ap (λ (k : ℕ). k * record_room) c.record_count-count.ensures in record { answers_after = ap₂ (λ (k : ℕ) (l : List ℕ). outcome (told k) l) n (written c) ∙ sym (ap (settled-2 c) (accepted-4 c)); batch_kept = subst (λ (k : ℕ). Promised c k (left c)) (sym n) (subst (Promised c _) (sym (written c)) (kept c)) }
+    let n = ap (λ (k : ℕ). k * record_room) c.record_count-count.ensures in
+    record {
+      answers_after = ap₂ (λ (k : ℕ) (l : List ℕ). outcome (told k) l) n (written c)
+          ∙ sym (ap (settled-2 c) (accepted-4 c));
+      batch_kept =
+          subst (λ (k : ℕ). Promised c k (left c)) (sym n) (subst (Promised c _) (sym (written c)) (kept c));
+    }

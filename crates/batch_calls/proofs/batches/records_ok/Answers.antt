@@ -10,7 +10,8 @@ use Rattle.records.specs.Records.{query_length}
 use Rattle.batch_calls.specs.Batches.{record_count}
 use Rattle.batch_calls.proofs.Conditions.{records-so}
 use Rattle.batch_calls.proofs.batches.records_ok.Goals as goal
-use Rattle.batch_calls.proofs.batches.records_ok.Goals.{Else-count-query_length, Then-count-gt-MOST_RECORDS, Then-count-lt1, Then-count-query_length}
+use Rattle.batch_calls.proofs.batches.records_ok.Goals.{Else-count-query_length, Then-count-gt-MOST_RECORDS}
+use Rattle.batch_calls.proofs.batches.records_ok.Goals.{Then-count-lt1, Then-count-query_length}
 
 -- how many records there are
 counted :

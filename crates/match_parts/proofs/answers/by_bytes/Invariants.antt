@@ -8,7 +8,8 @@ use Rattle.match_parts.proofs.answers.by_bytes.Given as goal
 
 abbrev pub invariant-loop-k : goal.invariant-loop-k
 invariant-loop-k l =
-    (l.count ≡ rules l.block + goals l.block) × (rules l.block ≤ 64) × (goals l.block ≤ 8) × (l.k ≤ l.count) × (length l.line ≡ 144)
+    (l.count ≡ rules l.block + goals l.block) × (rules l.block ≤ 64) × (goals l.block ≤ 8) × (l.k ≤ l.count)
+    × (length l.line ≡ 144)
 
 abbrev pub decreases-loop-k : goal.decreases-loop-k
 decreases-loop-k l = l.count - l.k

@@ -8,4 +8,10 @@ use Rattle.mikjuqan.proofs.on_exercises.mikjuqan_check_block.Goals as goal
 
 pub returns : goal.returns
 returns c =
-    let call = c.check_block-verdict in record { value = c.checked.ensures ∙ ap refusal_of call.ensures.result_value; check_kept = rw (tells done_told c.checked.ensures (verdict-told call.result)) call.ensures.check_kept }
+    let call = c.check_block-verdict in
+    record {
+      value = c.checked.ensures
+          ∙ ap refusal_of call.ensures.result_value;
+      check_kept =
+          rw (tells done_told c.checked.ensures (verdict-told call.result)) call.ensures.check_kept;
+    }

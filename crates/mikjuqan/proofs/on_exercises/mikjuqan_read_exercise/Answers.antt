@@ -7,4 +7,9 @@ use Rattle.mikjuqan.proofs.on_exercises.mikjuqan_read_exercise.Goals as goal
 
 pub returns : goal.returns
 returns c =
-    let call = c.read_exercise-reading in record { fact = carried length_of call.ensures.out_after c.read.ensures; reading_kept = rw (tells length_told c.read.ensures (reading-told call.result)) call.ensures.reading_kept }
+    let call = c.read_exercise-reading in
+    record {
+      fact = carried length_of call.ensures.out_after c.read.ensures;
+      reading_kept =
+          rw (tells length_told c.read.ensures (reading-told call.result)) call.ensures.reading_kept;
+    }

@@ -7,4 +7,9 @@ use Rattle.mikjuqan.proofs.on_exercises.mikjuqan_relabel_block.Goals as goal
 
 pub returns : goal.returns
 returns c =
-    let call = c.relabel_block-relabelling in record { fact = carried length_of call.ensures.out_after c.relabelled.ensures; relabelling_kept = rw (tells length_told c.relabelled.ensures (relabelling-told call.result)) call.ensures.relabelling_kept }
+    let call = c.relabel_block-relabelling in
+    record {
+      fact = carried length_of call.ensures.out_after c.relabelled.ensures;
+      relabelling_kept =
+          rw (tells length_told c.relabelled.ensures (relabelling-told call.result)) call.ensures.relabelling_kept;
+    }

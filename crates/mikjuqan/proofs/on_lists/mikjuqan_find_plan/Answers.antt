@@ -7,4 +7,9 @@ use Rattle.mikjuqan.proofs.on_lists.mikjuqan_find_plan.Goals as goal
 
 pub returns : goal.returns
 returns c =
-    let call = c.find_plan-search in record { fact = carried search_numbers_of call.ensures.plan_after c.searched.ensures; plan_kept = rw (tells search_told c.searched.ensures (search_told_lem call.result)) call.ensures.plan_kept }
+    let call = c.find_plan-search in
+    record {
+      fact = carried search_numbers_of call.ensures.plan_after c.searched.ensures;
+      plan_kept =
+          rw (tells search_told c.searched.ensures (search_told_lem call.result)) call.ensures.plan_kept;
+    }

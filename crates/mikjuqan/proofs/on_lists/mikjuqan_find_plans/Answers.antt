@@ -7,4 +7,9 @@ use Rattle.mikjuqan.proofs.on_lists.mikjuqan_find_plans.Goals as goal
 
 pub returns : goal.returns
 returns c =
-    let call = c.find_plans-batch in record { fact = carried length_of call.ensures.answers_after c.answered.ensures; batch_kept = rw (tells length_told c.answered.ensures (batch-told call.result)) call.ensures.batch_kept }
+    let call = c.find_plans-batch in
+    record {
+      fact = carried length_of call.ensures.answers_after c.answered.ensures;
+      batch_kept =
+          rw (tells length_told c.answered.ensures (batch-told call.result)) call.ensures.batch_kept;
+    }

@@ -7,4 +7,9 @@ use Rattle.mikjuqan.proofs.on_lists.mikjuqan_replay_run.Goals as goal
 
 pub returns : goal.returns
 returns c =
-    let call = c.replay_run-replay in record { fact = carried replay_numbers_of call.ensures.out_after c.replayed.ensures; replay_kept = rw (tells replay_told c.replayed.ensures (replay_told_lem call.result)) call.ensures.replay_kept }
+    let call = c.replay_run-replay in
+    record {
+      fact = carried replay_numbers_of call.ensures.out_after c.replayed.ensures;
+      replay_kept =
+          rw (tells replay_told c.replayed.ensures (replay_told_lem call.result)) call.ensures.replay_kept;
+    }

@@ -7,4 +7,9 @@ use Rattle.mikjuqan.proofs.on_states.mikjuqan_apply_rule.Goals as goal
 
 pub returns : goal.returns
 returns c =
-    let call = c.apply_rule-application in record { fact = carried applied_of call.ensures.out_after c.applied.ensures; application_kept = rw (tells applied_told c.applied.ensures (application-told call.result)) call.ensures.application_kept }
+    let call = c.apply_rule-application in
+    record {
+      fact = carried applied_of call.ensures.out_after c.applied.ensures;
+      application_kept =
+          rw (tells applied_told c.applied.ensures (application-told call.result)) call.ensures.application_kept;
+    }

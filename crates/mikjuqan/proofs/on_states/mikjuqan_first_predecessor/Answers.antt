@@ -7,4 +7,9 @@ use Rattle.mikjuqan.proofs.on_states.mikjuqan_first_predecessor.Goals as goal
 
 pub returns : goal.returns
 returns c =
-    let call = c.first_predecessor-predecessor in record { fact = carried decision_of call.ensures.out_after c.stepped_back.ensures; predecessor_kept = rw (tells decision_told c.stepped_back.ensures (predecessor-told call.result)) call.ensures.predecessor_kept }
+    let call = c.first_predecessor-predecessor in
+    record {
+      fact = carried decision_of call.ensures.out_after c.stepped_back.ensures;
+      predecessor_kept =
+          rw (tells decision_told c.stepped_back.ensures (predecessor-told call.result)) call.ensures.predecessor_kept;
+    }

@@ -8,4 +8,11 @@ use Rattle.mikjuqan.proofs.on_states.mikjuqan_test_reversible.Goals as goal
 
 pub returns : goal.returns
 returns c =
-    let call = c.test_reversible-reversibility in record { value = c.reversible.ensures ∙ ap decision_of call.ensures.result_value; reversibility_kept = rw (tells decision_told c.reversible.ensures (reversibility-told call.result)) call.ensures.reversibility_kept }
+    let call = c.test_reversible-reversibility in
+    record {
+      value = c.reversible.ensures
+          ∙ ap decision_of call.ensures.result_value;
+      reversibility_kept =
+          rw (tells decision_told c.reversible.ensures (reversibility-told call.result))
+          call.ensures.reversibility_kept;
+    }

@@ -7,4 +7,9 @@ use Rattle.mikjuqan.proofs.on_tables.mikjuqan_fill_table.Goals as goal
 
 pub returns : goal.returns
 returns c =
-    let call = c.fill_table-filling in record { fact = carried refusal_of call.ensures.table_after c.filled.ensures; filling_kept = rw (tells done_told c.filled.ensures (filling-told call.result)) call.ensures.filling_kept }
+    let call = c.fill_table-filling in
+    record {
+      fact = carried refusal_of call.ensures.table_after c.filled.ensures;
+      filling_kept =
+          rw (tells done_told c.filled.ensures (filling-told call.result)) call.ensures.filling_kept;
+    }

@@ -8,4 +8,10 @@ use Rattle.mikjuqan.proofs.on_tables.mikjuqan_look_up_estimate.Goals as goal
 
 pub returns : goal.returns
 returns c =
-    let call = c.look_up_estimate-estimate in record { value = c.looked_up.ensures ∙ ap entry_of call.ensures.result_value; estimate_kept = rw (tells entry_told c.looked_up.ensures (look-up-told call.result)) call.ensures.estimate_kept }
+    let call = c.look_up_estimate-estimate in
+    record {
+      value = c.looked_up.ensures
+          ∙ ap entry_of call.ensures.result_value;
+      estimate_kept =
+          rw (tells entry_told c.looked_up.ensures (look-up-told call.result)) call.ensures.estimate_kept;
+    }

@@ -8,4 +8,10 @@ use Rattle.mikjuqan.proofs.on_tables.mikjuqan_test_table.Goals as goal
 
 pub returns : goal.returns
 returns c =
-    let call = c.test_table-test in record { value = c.passes.ensures ∙ ap decision_of call.ensures.result_value; table_test_kept = rw (tells decision_told c.passes.ensures (table-test-told call.result)) call.ensures.table_test_kept }
+    let call = c.test_table-test in
+    record {
+      value = c.passes.ensures
+          ∙ ap decision_of call.ensures.result_value;
+      table_test_kept =
+          rw (tells decision_told c.passes.ensures (table-test-told call.result)) call.ensures.table_test_kept;
+    }

@@ -18,7 +18,8 @@ use Rattle.frames.proofs.LinePlaces.{length_to}
 use Rattle.frames.proofs.ReadingLaws.{head-accepted}
 use Rattle.par_openings.proofs.OpeningLaws.{head-unread, head-refused, head-reads, end-failed, end_read}
 use Rattle.par_openings.proofs.opening.exercise_end.Goals as goal
-use Rattle.par_openings.proofs.opening.exercise_end.Goals.{After-head-2-1, After-lines_end, In-Refused, Then-not-heading}
+use Rattle.par_openings.proofs.opening.exercise_end.Goals.{After-head-2-1, After-lines_end, In-Refused}
+use Rattle.par_openings.proofs.opening.exercise_end.Goals.{Then-not-heading}
 
 abbrev input : Then-not-heading → List ℕ
 input c = c.args.input.now

@@ -8,7 +8,8 @@ use Rattle.par_openings.proofs.opening.lines_end.Given as goal
 
 abbrev pub invariant-loop-i : goal.invariant-loop-i
 invariant-loop-i l =
-    (l.i ≤ l.count) × (l.at + length_to (l.count - l.i) (drop l.at l.input) ≡ l.from + length_to l.count (drop l.from l.input))
+    (l.i ≤ l.count) × (l.at + length_to (l.count - l.i) (drop l.at l.input)
+    ≡ l.from + length_to l.count (drop l.from l.input))
 
 abbrev pub decreases-loop-i : goal.decreases-loop-i
 decreases-loop-i l = l.count - l.i

@@ -22,7 +22,9 @@ use Rattle.par_openings.specs.Openings.{OpenOutcome, open_outcome, opened_for, o
 use Rattle.par_openings.proofs.OpeningLaws.{head-handed, exercise-text, end-inside}
 use Rattle.par_openings.proofs.OpeningLaws.{too-long-refused, reader-decides}
 use Rattle.par_openings.proofs.opening.open_within.Goals as goal
-use Rattle.par_openings.proofs.opening.open_within.Goals.{After-exercise_end-queries_at, After-fill-arg-1, After-read_text-arg-1, After-slice_known-in-Done-1, In-Done, In-Refused, Then-input-gt-LONGEST_INPUT}
+use Rattle.par_openings.proofs.opening.open_within.Goals.{After-exercise_end-queries_at, After-fill-arg-1}
+use Rattle.par_openings.proofs.opening.open_within.Goals.{After-read_text-arg-1, After-slice_known-in-Done-1, In-Done}
+use Rattle.par_openings.proofs.opening.open_within.Goals.{In-Refused, Then-input-gt-LONGEST_INPUT}
 
 -- an open exercise, part by part
 told-so :
@@ -115,8 +117,10 @@ read c = c.read_text-reading.ensures ∙ ap₂ (left-of c) (handed-2 c) c.requir
 read_as : (c : In-Done) → (a : Answer ℕ) → reading_of c.read_text-reading.result ≡ a → outcome a (left c) ≡ (due c)
 read_as c a e = ap (λ (t : Answer ℕ). outcome t (left c)) (sym e) ∙ (read c)
 
-done : (c : In-Done) → (n : ℕ) (e : reading_of c.read_text-reading.result ≡ told n) → (said c ≡ told tt) × (n ≡ length (block c)) × ((left c) ≡ at_front (block c) (out c))
-done c n e = guarded-told (out c) (at_front (block c) (out c)) (left c) (length (block c)) n (said c) ((read_as c) (told n) e)
+done : (c : In-Done) → (n : ℕ) (e : reading_of c.read_text-reading.result ≡ told n) → (said c ≡ told tt)
+    × (n ≡ length (block c)) × ((left c) ≡ at_front (block c) (out c))
+done c n e = guarded-told (out c) (at_front (block c) (out c)) (left c) (length (block c)) n (said c)
+    ((read_as c) (told n) e)
 
 fits : (c : In-Done) → (n : ℕ) (e : reading_of c.read_text-reading.result ≡ told n) → n ≤ length (left c)
 fits c n e = omega (arith, ((done c) n e).1, ap length ((done c) n e).2, front_fits (block c) (out c))
@@ -171,14 +175,18 @@ read-2 : (c : After-fill-arg-1) → outcome (reading_of c.read_text-reading.resu
 unfolding read_exercise
 read-2 c = c.read_text-reading.ensures ∙ ap₂ (left-of-2 c) (handed-3 c) c.requires.0
 
-read_as-2 : (c : After-fill-arg-1) → (a : Answer ℕ) → reading_of c.read_text-reading.result ≡ a → outcome a (left-2 c) ≡ (due-2 c)
+read_as-2 : (c : After-fill-arg-1) → (a : Answer ℕ) → reading_of c.read_text-reading.result ≡ a → outcome a (left-2 c)
+    ≡ (due-2 c)
 read_as-2 c a e = ap (λ (t : Answer ℕ). outcome t (left-2 c)) (sym e) ∙ (read-2 c)
 
-done-2 : (c : After-fill-arg-1) → (n : ℕ) (e : reading_of c.read_text-reading.result ≡ told n) → (said-2 c ≡ told tt) × (n ≡ length (block-2 c)) × ((left-2 c) ≡ at_front (block-2 c) (out-2 c))
-done-2 c n e = guarded-told (out-2 c) (at_front (block-2 c) (out-2 c)) (left-2 c) (length (block-2 c)) n (said-2 c) ((read_as-2 c) (told n) e)
+done-2 : (c : After-fill-arg-1) → (n : ℕ) (e : reading_of c.read_text-reading.result ≡ told n) → (said-2 c ≡ told tt)
+    × (n ≡ length (block-2 c)) × ((left-2 c) ≡ at_front (block-2 c) (out-2 c))
+done-2 c n e = guarded-told (out-2 c) (at_front (block-2 c) (out-2 c)) (left-2 c) (length (block-2 c)) n (said-2 c)
+    ((read_as-2 c) (told n) e)
 
 -- the part that is filled from is the block
-part-2 : (c : After-fill-arg-1) → (n : ℕ) (e : reading_of c.read_text-reading.result ≡ told n) → take n (left-2 c) ≡ (block-2 c)
+part-2 : (c : After-fill-arg-1) → (n : ℕ) (e : reading_of c.read_text-reading.result ≡ told n) → take n (left-2 c)
+    ≡ (block-2 c)
 part-2 c n e = ap (take n) ((done-2 c) n e).2 ∙ front-taken (block-2 c) (out-2 c) n ((done-2 c) n e).1
 
 valid : (c : After-fill-arg-1) → (n : ℕ) (e : reading_of c.read_text-reading.result ≡ told n) → Valid (block-2 c)
@@ -237,12 +245,15 @@ read-3 : (c : In-Refused) → outcome (reading_of c.read_text-reading.result) (l
 unfolding read_exercise
 read-3 c = c.read_text-reading.ensures ∙ ap₂ (left-of-3 c) (handed-4 c) c.requires.0
 
-read_as-3 : (c : In-Refused) → (a : Answer ℕ) → reading_of c.read_text-reading.result ≡ a → outcome a (left-3 c) ≡ (due-3 c)
+read_as-3 : (c : In-Refused) → (a : Answer ℕ) → reading_of c.read_text-reading.result ≡ a → outcome a (left-3 c)
+    ≡ (due-3 c)
 read_as-3 c a e = ap (λ (t : Answer ℕ). outcome t (left-3 c)) (sym e) ∙ (read-3 c)
 
-not-read : (c : In-Refused) → (k : ℕ) → reading_of c.read_text-reading.result ≡ refused k → (said-3 c ≡ refused k) × ((left-3 c) ≡ (out-3 c))
+not-read : (c : In-Refused) → (k : ℕ) → reading_of c.read_text-reading.result ≡ refused k → (said-3 c ≡ refused k)
+    × ((left-3 c) ≡ (out-3 c))
 not-read c k e =
-    guarded-refused (out-3 c) (at_front (block-3 c) (out-3 c)) (left-3 c) (length (block-3 c)) k (said-3 c) ((read_as-3 c) (refused k) e)
+    guarded-refused (out-3 c) (at_front (block-3 c) (out-3 c)) (left-3 c) (length (block-3 c)) k (said-3 c)
+    ((read_as-3 c) (refused k) e)
 
 pub returns-in-Refused : goal.returns-in-Refused
 unfolding open_exercise
@@ -298,14 +309,18 @@ read-4 : (c : After-slice_known-in-Done-1) → outcome (reading_of c.read_text-r
 unfolding read_exercise
 read-4 c = c.read_text-reading.ensures ∙ ap₂ (left-of-4 c) (handed-5 c) c.requires.0
 
-read_as-4 : (c : After-slice_known-in-Done-1) → (a : Answer ℕ) → reading_of c.read_text-reading.result ≡ a → outcome a (left-4 c) ≡ (due-4 c)
+read_as-4 : (c : After-slice_known-in-Done-1) → (a : Answer ℕ) → reading_of c.read_text-reading.result ≡ a
+    → outcome a (left-4 c) ≡ (due-4 c)
 read_as-4 c a e = ap (λ (t : Answer ℕ). outcome t (left-4 c)) (sym e) ∙ (read-4 c)
 
-done-3 : (c : After-slice_known-in-Done-1) → (n : ℕ) (e : reading_of c.read_text-reading.result ≡ told n) → (said-4 c ≡ told tt) × (n ≡ length (block-4 c)) × ((left-4 c) ≡ at_front (block-4 c) (out-4 c))
-done-3 c n e = guarded-told (out-4 c) (at_front (block-4 c) (out-4 c)) (left-4 c) (length (block-4 c)) n (said-4 c) ((read_as-4 c) (told n) e)
+done-3 : (c : After-slice_known-in-Done-1) → (n : ℕ) (e : reading_of c.read_text-reading.result ≡ told n)
+    → (said-4 c ≡ told tt) × (n ≡ length (block-4 c)) × ((left-4 c) ≡ at_front (block-4 c) (out-4 c))
+done-3 c n e = guarded-told (out-4 c) (at_front (block-4 c) (out-4 c)) (left-4 c) (length (block-4 c)) n (said-4 c)
+    ((read_as-4 c) (told n) e)
 
 -- the part that is filled from is the block
-part-3 : (c : After-slice_known-in-Done-1) → (n : ℕ) (e : reading_of c.read_text-reading.result ≡ told n) → take n (left-4 c) ≡ (block-4 c)
+part-3 : (c : After-slice_known-in-Done-1) → (n : ℕ) (e : reading_of c.read_text-reading.result ≡ told n)
+    → take n (left-4 c) ≡ (block-4 c)
 part-3 c n e = ap (take n) ((done-3 c) n e).2 ∙ front-taken (block-4 c) (out-4 c) n ((done-3 c) n e).1
 
 pub returns-in-Done : goal.returns-in-Done

@@ -22,7 +22,11 @@ use Rattle.par_queries.specs.declared.answering.Answered.{Answered}
 use Rattle.par_queries.proofs.PrintedLines.{line-length, line_of_lem}
 use Rattle.par_queries.proofs.QueryLineLaws.{line-decided, line_refused, line-accepted}
 use Rattle.par_queries.proofs.answering.answer_line.Goals as goal
-use Rattle.par_queries.proofs.answering.answer_line.Goals.{After-answer-1, After-answer-2-1, After-answer-3-1, After-encode_line-arg-1, After-query-1, After-query-2-1, After-query-3-1, After-slice_known-2-1, After-slice_known-then-found-query_length-1, After-slice_known-then-not-found-1, Else-found-query_length}
+use Rattle.par_queries.proofs.answering.answer_line.Goals.{After-answer-1, After-answer-2-1, After-answer-3-1}
+use Rattle.par_queries.proofs.answering.answer_line.Goals.{After-encode_line-arg-1, After-query-1, After-query-2-1}
+use Rattle.par_queries.proofs.answering.answer_line.Goals.{After-query-3-1, After-slice_known-2-1}
+use Rattle.par_queries.proofs.answering.answer_line.Goals.{After-slice_known-then-found-query_length-1}
+use Rattle.par_queries.proofs.answering.answer_line.Goals.{After-slice_known-then-not-found-1, Else-found-query_length}
 
 abbrev block : After-slice_known-then-not-found-1 → List ℕ
 block c = c.args.block.now
@@ -33,7 +37,8 @@ line c = line_from c.args.input.now c.args.at
 
 -- what the call gives, where this line is written
 gives :
-    (c : After-slice_known-then-not-found-1) (shown : List ℕ) (n next : ℕ) (new : List ℕ) → answer_line (block c) (line c) ≡ shown
+    (c : After-slice_known-then-not-found-1) (shown : List ℕ) (n next : ℕ) (new : List ℕ)
+    → answer_line (block c) (line c) ≡ shown
     → next ≡ c.args.at + length (line c) → Written shown c.args.line.now n new
     → (let r : Answered = record { bytes = n; next = next } in
     AnsweredAt (block c) c.args.input.now c.args.at c.args.line.now r new)
@@ -61,17 +66,20 @@ line-2 c = line_from c.args.input.now c.args.at
 
 -- what the call gives, where this line is written
 gives-2 :
-    (c : After-slice_known-then-found-query_length-1) (shown : List ℕ) (n next : ℕ) (new : List ℕ) → answer_line (block-2 c) (line-2 c) ≡ shown
+    (c : After-slice_known-then-found-query_length-1) (shown : List ℕ) (n next : ℕ) (new : List ℕ)
+    → answer_line (block-2 c) (line-2 c) ≡ shown
     → next ≡ c.args.at + length (line-2 c) → Written shown c.args.line.now n new
     → (let r : Answered = record { bytes = n; next = next } in
     AnsweredAt (block-2 c) c.args.input.now c.args.at c.args.line.now r new)
 gives-2 c shown n next new e o w =
     record { written = subst (λ (l : List ℕ). Written l c.args.line.now n new) (sym e) w; onward = o }
 
-counted : (c : After-slice_known-then-found-query_length-1) → c.read_line-found.result.bytes ≡ length (line_bytes (line-2 c))
+counted : (c : After-slice_known-then-found-query_length-1) → c.read_line-found.result.bytes
+    ≡ length (line_bytes (line-2 c))
 counted c = ap (λ (l : Line). l.bytes) c.read_line-found.ensures
 
-onward-2 : (c : After-slice_known-then-found-query_length-1) → c.read_line-found.result.next ≡ c.args.at + length (line-2 c)
+onward-2 : (c : After-slice_known-then-found-query_length-1) → c.read_line-found.result.next
+    ≡ c.args.at + length (line-2 c)
 onward-2 c = ap (λ (l : Line). l.next) c.read_line-found.ensures
 
 right-2 : (c : After-slice_known-then-found-query_length-1) → c.read_line-found.result.ok ≡ line_ok (line-2 c)
@@ -151,7 +159,8 @@ abbrev at-2 : (c : After-query-1) → ℕ
 at-2 c = c.args.at
 
 -- the part that is decoded is the line
-part : (c : After-query-1) → line_bytes (take (c.read_line-found.result.next - (at-2 c)) (drop (at-2 c) (text-2 c))) ≡ line_bytes (line-4 c)
+part : (c : After-query-1) → line_bytes (take (c.read_line-found.result.next - (at-2 c)) (drop (at-2 c) (text-2 c)))
+    ≡ line_bytes (line-4 c)
 part c =
     let e : c.read_line-found.result.next - (at-2 c) ≡ length (line-4 c) = omega (arith, onward-4 c) in
     ap line_bytes (ap (λ (k : ℕ). take k (drop (at-2 c) (text-2 c))) e ∙ line-part (text-2 c) (at-2 c))
@@ -186,7 +195,8 @@ abbrev at-3 : (c : After-query-2-1) → ℕ
 at-3 c = c.args.at
 
 -- the part that is decoded is the line
-part-2 : (c : After-query-2-1) → line_bytes (take (c.read_line-found.result.next - (at-3 c)) (drop (at-3 c) (text-3 c))) ≡ line_bytes (line-5 c)
+part-2 : (c : After-query-2-1)
+    → line_bytes (take (c.read_line-found.result.next - (at-3 c)) (drop (at-3 c) (text-3 c))) ≡ line_bytes (line-5 c)
 part-2 c =
     let e : c.read_line-found.result.next - (at-3 c) ≡ length (line-5 c) = omega (arith, onward-5 c) in
     ap line_bytes (ap (λ (k : ℕ). take k (drop (at-3 c) (text-3 c))) e ∙ line-part (text-3 c) (at-3 c))
@@ -215,7 +225,8 @@ abbrev at-4 : (c : After-query-3-1) → ℕ
 at-4 c = c.args.at
 
 -- the part that is decoded is the line
-part-3 : (c : After-query-3-1) → line_bytes (take (c.read_line-found.result.next - (at-4 c)) (drop (at-4 c) (text-4 c))) ≡ line_bytes (line-6 c)
+part-3 : (c : After-query-3-1)
+    → line_bytes (take (c.read_line-found.result.next - (at-4 c)) (drop (at-4 c) (text-4 c))) ≡ line_bytes (line-6 c)
 part-3 c =
     let e : c.read_line-found.result.next - (at-4 c) ≡ length (line-6 c) = omega (arith, onward-6 c) in
     ap line_bytes (ap (λ (k : ℕ). take k (drop (at-4 c) (text-4 c))) e ∙ line-part (text-4 c) (at-4 c))
@@ -276,7 +287,8 @@ abbrev at-5 : (c : After-answer-1) → ℕ
 at-5 c = c.args.at
 
 -- the part that is decoded is the line
-part-4 : (c : After-answer-1) → line_bytes (take (c.read_line-found.result.next - (at-5 c)) (drop (at-5 c) (text-5 c))) ≡ line_bytes (line-7 c)
+part-4 : (c : After-answer-1)
+    → line_bytes (take (c.read_line-found.result.next - (at-5 c)) (drop (at-5 c) (text-5 c))) ≡ line_bytes (line-7 c)
 part-4 c =
     let e : c.read_line-found.result.next - (at-5 c) ≡ length (line-7 c) = omega (arith, onward-7 c) in
     ap line_bytes (ap (λ (k : ℕ). take k (drop (at-5 c) (text-5 c))) e ∙ line-part (text-5 c) (at-5 c))
@@ -304,7 +316,8 @@ block-7 c = c.args.block.now
 -- the record stands at the front of what was lent
 written : (c : After-answer-2-1) → (
     let line-bytes = take c.decode_line-asked.result c.decode_line-asked.new.out in
-    Written (answer_record (block-7 c) (filled_estimate (block-7 c)) line-bytes) (replicate 75 0) c.answer_query-count.result
+    Written (answer_record (block-7 c) (filled_estimate (block-7 c)) line-bytes) (replicate 75 0)
+    c.answer_query-count.result
     c.answer_query-count.new.out)
 written c = c.answer_query-count.ensures (filled_estimate (block-7 c)) c.requires.1
 
@@ -323,7 +336,8 @@ block-8 c = c.args.block.now
 -- the record stands at the front of what was lent
 written-2 : (c : After-answer-3-1) → (
     let line-bytes = take c.decode_line-asked.result c.decode_line-asked.new.out in
-    Written (answer_record (block-8 c) (filled_estimate (block-8 c)) line-bytes) (replicate 75 0) c.answer_query-count.result
+    Written (answer_record (block-8 c) (filled_estimate (block-8 c)) line-bytes) (replicate 75 0)
+    c.answer_query-count.result
     c.answer_query-count.new.out)
 written-2 c = c.answer_query-count.ensures (filled_estimate (block-8 c)) c.requires.1
 
@@ -343,7 +357,8 @@ block-9 c = c.args.block.now
 -- the record stands at the front of what was lent
 written-3 : (c : After-encode_line-arg-1) → (
     let line-bytes = take c.decode_line-asked.result c.decode_line-asked.new.out in
-    Written (answer_record (block-9 c) (filled_estimate (block-9 c)) line-bytes) (replicate 75 0) c.answer_query-count.result
+    Written (answer_record (block-9 c) (filled_estimate (block-9 c)) line-bytes) (replicate 75 0)
+    c.answer_query-count.result
     c.answer_query-count.new.out)
 written-3 c = c.answer_query-count.ensures (filled_estimate (block-9 c)) c.requires.1
 
@@ -367,7 +382,8 @@ line-8 c = line_from c.args.input.now c.args.at
 
 -- what the call gives, where this line is written
 gives-3 :
-    (c : After-slice_known-2-1) (shown : List ℕ) (n next : ℕ) (new : List ℕ) → answer_line (block-10 c) (line-8 c) ≡ shown
+    (c : After-slice_known-2-1) (shown : List ℕ) (n next : ℕ) (new : List ℕ) → answer_line (block-10 c) (line-8 c)
+    ≡ shown
     → next ≡ c.args.at + length (line-8 c) → Written shown c.args.line.now n new
     → (let r : Answered = record { bytes = n; next = next } in
     AnsweredAt (block-10 c) c.args.input.now c.args.at c.args.line.now r new)
@@ -409,7 +425,8 @@ abbrev at-6 : (c : After-slice_known-2-1) → ℕ
 at-6 c = c.args.at
 
 -- the part that is decoded is the line
-part-5 : (c : After-slice_known-2-1) → line_bytes (take (c.read_line-found.result.next - (at-6 c)) (drop (at-6 c) (text-6 c))) ≡ line_bytes (line-8 c)
+part-5 : (c : After-slice_known-2-1)
+    → line_bytes (take (c.read_line-found.result.next - (at-6 c)) (drop (at-6 c) (text-6 c))) ≡ line_bytes (line-8 c)
 part-5 c =
     let e : c.read_line-found.result.next - (at-6 c) ≡ length (line-8 c) = omega (arith, onward-8 c) in
     ap line_bytes (ap (λ (k : ℕ). take k (drop (at-6 c) (text-6 c))) e ∙ line-part (text-6 c) (at-6 c))
@@ -436,7 +453,8 @@ told-bytes-3 c = take c.answer_query-count.result c.answer_query-count.new.out
 -- the record stands at the front of what was lent
 written-4 : (c : After-slice_known-2-1) → (
     let line-bytes = take c.decode_line-asked.result c.decode_line-asked.new.out in
-    Written (answer_record (block-10 c) (filled_estimate (block-10 c)) line-bytes) (replicate 75 0) c.answer_query-count.result
+    Written (answer_record (block-10 c) (filled_estimate (block-10 c)) line-bytes) (replicate 75 0)
+    c.answer_query-count.result
     c.answer_query-count.new.out)
 written-4 c = c.answer_query-count.ensures (filled_estimate (block-10 c)) c.requires.1
 

@@ -20,7 +20,9 @@ use Rattle.records.specs.Records.{start_of, limits_of, record_conditions, search
 use Rattle.records.specs.Records.{answer_bytes, goal_asked, record_of, answer_record, Written}
 use Rattle.records.proofs.RecordLaws.{found-more}
 use Rattle.records.proofs.answering.answer_query.Goals as goal
-use Rattle.records.proofs.answering.answer_query.Goals.{After-limits_of-limits, After-rules-1, After-slice_known-2-1, After-slice_known-in-Refused-1, After-write_answer-arg-1, In_default}
+use Rattle.records.proofs.answering.answer_query.Goals.{After-limits_of-limits, After-rules-1, After-slice_known-2-1}
+use Rattle.records.proofs.answering.answer_query.Goals.{After-slice_known-in-Refused-1, After-write_answer-arg-1}
+use Rattle.records.proofs.answering.answer_query.Goals.{In_default}
 
 abbrev query : After-limits_of-limits → List ℕ
 query c = c.args.query.now
@@ -62,7 +64,8 @@ begins c = ap (λ (k : ℕ). take k (query-2 c)) c.positions-n.ensures.0
 limited : (c : After-slice_known-in-Refused-1) → c.limits_of-limits.result ≡ limits_of (block c) (query-2 c)
 limited c = c.limits_of-limits.ensures
 
-judged : (c : After-slice_known-in-Refused-1) → verdict (record_conditions (block c) (query-2 c)) ≡ verdict_of c.check_query-asked.result
+judged : (c : After-slice_known-in-Refused-1) → verdict (record_conditions (block c) (query-2 c))
+    ≡ verdict_of c.check_query-asked.result
 judged c =
     sym (c.check_query-asked.ensures
     ∙ ap₂ (λ (s : List ℕ) (l : Limits). verdict (query_conditions (block c) s l)) (begins c) (limited c))
@@ -99,7 +102,8 @@ begins-2 c = ap (λ (k : ℕ). take k (query-4 c)) c.positions-n.ensures.0
 limited-2 : (c : After-rules-1) → c.limits_of-limits.result ≡ limits_of (block-2 c) (query-4 c)
 limited-2 c = c.limits_of-limits.ensures
 
-judged-2 : (c : After-rules-1) → verdict (record_conditions (block-2 c) (query-4 c)) ≡ verdict_of c.check_query-asked.result
+judged-2 : (c : After-rules-1) → verdict (record_conditions (block-2 c) (query-4 c))
+    ≡ verdict_of c.check_query-asked.result
 judged-2 c =
     sym (c.check_query-asked.ensures
     ∙ ap₂ (λ (s : List ℕ) (l : Limits). verdict (query_conditions (block-2 c) s l)) (begins-2 c) (limited-2 c))
@@ -133,7 +137,8 @@ begins-3 :
     → (take c.positions-n.result (query-5 c) ≡ start_of (block-3 c) (query-5 c))
 begins-3 c = ap (λ (k : ℕ). take k (query-5 c)) c.positions-n.ensures.0
 
-judged-3 : (c : After-write_answer-arg-1) → verdict (record_conditions (block-3 c) (query-5 c)) ≡ verdict_of c.check_query-asked.result
+judged-3 : (c : After-write_answer-arg-1) → verdict (record_conditions (block-3 c) (query-5 c))
+    ≡ verdict_of c.check_query-asked.result
 judged-3 c =
     sym (c.check_query-asked.ensures
     ∙ ap₂ (λ (s : List ℕ) (l : Limits). verdict (query_conditions (block-3 c) s l)) (begins-3 c) (limited-3 c))
@@ -184,7 +189,8 @@ begins-4 c = ap (λ (k : ℕ). take k (query-6 c)) c.positions-n.ensures.0
 limited-4 : (c : After-slice_known-2-1) → c.limits_of-limits.result ≡ limits_of (block-4 c) (query-6 c)
 limited-4 c = c.limits_of-limits.ensures
 
-judged-4 : (c : After-slice_known-2-1) → verdict (record_conditions (block-4 c) (query-6 c)) ≡ verdict_of c.check_query-asked.result
+judged-4 : (c : After-slice_known-2-1) → verdict (record_conditions (block-4 c) (query-6 c))
+    ≡ verdict_of c.check_query-asked.result
 judged-4 c =
     sym (c.check_query-asked.ensures
     ∙ ap₂ (λ (s : List ℕ) (l : Limits). verdict (query_conditions (block-4 c) s l)) (begins-4 c) (limited-4 c))
@@ -196,14 +202,16 @@ accepted-3 c = judged-4 c ∙ ap verdict_of c.in_default.is
 abbrev RatesBy : (c : After-slice_known-2-1) → (List ℕ → Estimate) → Type 0
 RatesBy c h = Rates (block-4 c) c.args.changes.now c.args.entries.now h
 
-searched : (c : After-slice_known-2-1) → (h : List ℕ → Estimate) (rates : (RatesBy c) h) → answer_of c.find_plan-ending.new.plan c.find_plan-ending.result
+searched : (c : After-slice_known-2-1) → (h : List ℕ → Estimate) (rates : (RatesBy c) h)
+    → answer_of c.find_plan-ending.new.plan c.find_plan-ending.result
     ≡ search_asked (block-4 c) h (query-6 c)
 unfolding search_asked
 searched c h rates =
     (c.find_plan-ending.ensures.by_index h rates).told ∙ ap₂ (search_from (block-4 c) h) (begins-4 c) (limited-4 c)
 
 -- and its goal is the one that is told
-goal-told : (c : After-slice_known-2-1) → (h : List ℕ → Estimate) (rates : (RatesBy c) h) → ending_goal c.find_plan-ending.result
+goal-told : (c : After-slice_known-2-1) → (h : List ℕ → Estimate) (rates : (RatesBy c) h)
+    → ending_goal c.find_plan-ending.result
     ≡ goal_asked (block-4 c) (query-6 c) (search_asked (block-4 c) h (query-6 c))
 unfolding search_asked
 goal-told c h rates =

@@ -10,7 +10,8 @@ use Rattle.search.specs.Parts.{FoundWithin, answer_of, ending_goal}
 use Rattle.search.specs.declared.running.Ending.{Ending}
 use Rattle.records.specs.Records.{answer_bytes, Written}
 use Rattle.records.proofs.answering.write_answer.Goals as goal
-use Rattle.records.proofs.answering.write_answer.Goals.{After-slice_known-in-Found-1, After-slice_known-in-NoPlan-1, After-slice_known-in-Spent-1}
+use Rattle.records.proofs.answering.write_answer.Goals.{After-slice_known-in-Found-1, After-slice_known-in-NoPlan-1}
+use Rattle.records.proofs.answering.write_answer.Goals.{After-slice_known-in-Spent-1}
 
 pub put_found-requires : goal.put_found-requires
 put_found-requires c =

@@ -8,7 +8,8 @@ use Rattle.maps.specs.Maps.{exercise_conditions, Mapped}
 use Rattle.maps.proofs.MapLaws.{exercise-accepted}
 use Rattle.search_calls.proofs.Conditions.{exercise-refused, query-refused, lent-decides}
 use Rattle.search_calls.proofs.searching.check_search.Goals as goal
-use Rattle.search_calls.proofs.searching.check_search.Goals.{After-check_lent, In-Refused-asked, In_default, In_default-asked}
+use Rattle.search_calls.proofs.searching.check_search.Goals.{After-check_lent, In-Refused-asked, In_default}
+use Rattle.search_calls.proofs.searching.check_search.Goals.{In_default-asked}
 
 pub returns-in-Refused : goal.returns-in-Refused
 returns-in-Refused c =

@@ -23,7 +23,8 @@ use Rattle.search_calls.specs.declared.searching.Search.{Search}
 use Rattle.search_calls.proofs.Conditions.{SearchAccepted, search-accepted}
 use Rattle.search_calls.proofs.SearchAnswers.{given_as, answered-by, kept_by}
 use Rattle.search_calls.proofs.searching.find_plan.Goals as goal
-use Rattle.search_calls.proofs.searching.find_plan.Goals.{After-entries-1, After-find_plan-arg-1, In-Found, In-NoPlan, In-Refused, In-Spent}
+use Rattle.search_calls.proofs.searching.find_plan.Goals.{After-entries-1, After-find_plan-arg-1, In-Found, In-NoPlan}
+use Rattle.search_calls.proofs.searching.find_plan.Goals.{In-Refused, In-Spent}
 
 -- the estimate by the tables that are lent
 abbrev rate : In-Refused → List ℕ → Estimate
@@ -254,7 +255,8 @@ written-2 c = c.find_plan-ending.new.plan
 gives-2 :
     (c : In-NoPlan) (r : Ending) → c.find_plan-ending.result ≡ r
     → (
-    (outcome (search_of (given_as r)) (written-2 c) ≡ settled-3 c (told_of-4 c)) × Promised-2 c (given_as r) (written-2 c))
+    (outcome (search_of (given_as r)) (written-2 c) ≡ settled-3 c (told_of-4 c))
+    × Promised-2 c (given_as r) (written-2 c))
 gives-2 c r e =
     let a = c.args in
     let k = subst (Ended-2 c (written-2 c)) e (c.find_plan-ending.ensures.by_index (rate-3 c) (rated-2 c)) in
@@ -338,7 +340,8 @@ written-3 c = c.find_plan-ending.new.plan
 gives-3 :
     (c : In-Spent) (r : Ending) → c.find_plan-ending.result ≡ r
     → (
-    (outcome (search_of (given_as r)) (written-3 c) ≡ settled-4 c (told_of-5 c)) × Promised-3 c (given_as r) (written-3 c))
+    (outcome (search_of (given_as r)) (written-3 c) ≡ settled-4 c (told_of-5 c))
+    × Promised-3 c (given_as r) (written-3 c))
 gives-3 c r e =
     let a = c.args in
     let k = subst (Ended-3 c (written-3 c)) e (c.find_plan-ending.ensures.by_index (rate-4 c) (rated-3 c)) in
