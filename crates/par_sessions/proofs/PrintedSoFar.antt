@@ -18,7 +18,7 @@ use Rattle.std.specs.Result.{result_and}
 use Rattle.std.specs.Io.KnownBytes.{Appends}
 use Rattle.basics.specs.Lists.{at_front}
 use Rattle.records.specs.Records.{Written}
-use Rattle.records.proofs.RecordLaws.{written_behind, written-fits, written-length, written-taken}
+use Rattle.records.proofs.RecordLaws.{written_behind, written-fits, written-taken}
 
 -- of all lines, those that are printed stand at the front of the buffer, up to the place `to`, and `left` are to follow
 pub record Standing (all left old out : List ℕ) (to : ℕ) : Type 0 where
@@ -29,10 +29,6 @@ pub record Standing (all left old out : List ℕ) (to : ℕ) : Type 0 where
 module _ {all left old out : List ℕ} {to : ℕ} (s : Standing all left old out to) where
   pub printed-to : to + length left ≡ length all
   printed-to = omega (arith, s.written.told, ap length s.parts, length-append s.printed left)
-
-  -- the buffer keeps its length
-  pub length-kept : length all ≤ length old → length out ≡ length old
-  length-kept l = written-length s.written (omega (arith, printed-to))
 
 module _ (all line left old out : List ℕ) (to : ℕ) (s : Standing all (line ++ left) old out to) where
   pub one_more :
