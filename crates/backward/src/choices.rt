@@ -33,12 +33,10 @@ pub fn first_shown(block: &[u8], left: usize, right: usize, n: usize, v: u8) -> 
     requires { (left + n ≤ length block.now) × (right + n ≤ length block.now) }
     ensures { result ≡ first n (shows (side_at block.now left) (side_at block.now right) v) }
 {
-    let mut j = 0;
-    while j < n {
+    for j in 0..n {
         if shows(block, left, right, v, j) {
             return j;
         }
-        j += 1;
     }
     n
 }

@@ -28,11 +28,9 @@ fn complete(
         (length state.now) from candidate.old candidate.new }
 {
     let n = state.len();
-    let mut i = from;
-    while i < n {
+    for i in from..n {
         let choice = choice_at(block, left, right, state, candidate, i);
         candidate[i] = least(choice);
-        i += 1;
     }
 }
 
@@ -47,8 +45,7 @@ fn pivot(block: &[u8], left: usize, right: usize, state: &[u8], earlier: &[u8]) 
 {
     let n = state.len();
     let mut best = 0;
-    let mut i = 0;
-    while i < n {
+    for i in 0..n {
         let choice = choice_at(block, left, right, state, earlier, i);
         let label = earlier[i];
         if rises(layout::label_count(block, i), choice, label) {
@@ -57,7 +54,6 @@ fn pivot(block: &[u8], left: usize, right: usize, state: &[u8], earlier: &[u8]) 
         if !keeps(choice, label) {
             return best;
         }
-        i += 1;
     }
     best
 }

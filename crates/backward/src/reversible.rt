@@ -33,12 +33,10 @@ pub fn reversible(block: &[u8], r: usize) -> bool
     let n = layout::positions(block);
     let left = layout::left_at(block, r);
     let right = layout::right_at(block, r);
-    let mut i: usize = 0;
-    while i < n {
+    for i in 0..n {
         if !form_at(block, left, right, n, i) {
             return false;
         }
-        i += 1;
     }
     true
 }

@@ -31,13 +31,11 @@ pub fn power_within(k: usize, n: usize, most: usize) -> usize
     ensures { result ≡ min (k ^ n) (most + 1) }
 {
     let mut power: usize = 1;
-    let mut i: usize = 0;
-    while i < n {
+    for i in 0..n {
         power = power * k;
         if most < power {
             return most + 1;
         }
-        i += 1;
     }
     power
 }
@@ -47,10 +45,8 @@ pub fn copy(from: &[u8], n: usize, to: &mut [u8])
     requires { (n ≤ length from.now) × (n ≤ length to.old) }
     ensures { to.new ≡ at_front (take n from.now) to.old }
 {
-    let mut i = 0;
-    while i < n {
+    for i in 0..n {
         to[i] = from[i];
-        i += 1;
     }
 }
 
@@ -59,12 +55,10 @@ pub fn first_of(bytes: &[u8], at: usize, n: usize, v: u8) -> usize
     requires { at + n ≤ length bytes.now }
     ensures { result ≡ first n (λ j. eqb (get_or bytes.now (at + j) 0) v) }
 {
-    let mut j = 0;
-    while j < n {
+    for j in 0..n {
         if bytes[at + j] == v {
             return j;
         }
-        j += 1;
     }
     n
 }

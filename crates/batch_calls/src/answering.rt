@@ -17,10 +17,8 @@ fn clear(bytes: &mut [u8], n: usize)
     requires { n ≤ length bytes.old }
     ensures { bytes.new ≡ at_front (replicate n 0) bytes.old }
 {
-    let mut i: usize = 0;
-    while i < n {
+    for i in 0..n {
         bytes[i] = 0;
-        i += 1;
     }
 }
 
@@ -63,8 +61,7 @@ pub fn answer_records(
         answers.old }
 {
     let width = query_length(block);
-    let mut i: usize = 0;
-    while i < count {
+    for i in 0..count {
         let at = i * width;
         let query = &queries[at..at + width];
         answer_record(
@@ -75,6 +72,5 @@ pub fn answer_records(
             query,
             &mut answers[i * RECORD_ROOM..],
         );
-        i += 1;
     }
 }

@@ -212,10 +212,8 @@ pub fn relabel_head(block: &[u8], out: &mut [u8]) -> usize
     out[2] = k;
     out[3] = block[3];
     out[4] = block[4];
-    let mut x: u8 = 0;
-    while x < k {
+    for x in 0..k {
         out[HEAD_LENGTH + wide(x)] = x;
-        x += 1;
     }
     HEAD_LENGTH + wide(k)
 }

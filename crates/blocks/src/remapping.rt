@@ -18,9 +18,7 @@ pub fn remap(block: &[u8], map: &[u8], out: &mut BlockBuffer)
     let labels = layout::labels(block);
     copy(block, block.len(), out);
     out[2] = map[0];
-    let mut x: usize = 0;
-    while x < labels {
+    for x in 0..labels {
         out[HEAD_LENGTH + x] = map[x + 1];
-        x += 1;
     }
 }

@@ -15,12 +15,10 @@ pub fn state_ok(block: &[u8], state: &[u8]) -> bool
     if state.len() != n {
         return false;
     }
-    let mut i: usize = 0;
-    while i < n {
+    for i in 0..n {
         if layout::label_count(block, i) <= wide(state[i]) {
             return false;
         }
-        i += 1;
     }
     true
 }

@@ -72,12 +72,10 @@ fn map_ok(block: &[u8]) -> bool
 {
     let labels = layout::labels(block);
     let abstracts = layout::abstracts(block);
-    let mut x: usize = 0;
-    while x < labels {
+    for x in 0..labels {
         if abstracts <= basics::wide(layout::map_byte(block, x)) {
             return false;
         }
-        x += 1;
     }
     true
 }
@@ -88,12 +86,10 @@ fn side_ok(block: &[u8], at: usize) -> bool
     ensures { result ≡ side_ok block.now (side_at block.now at) }
 {
     let n = layout::positions(block);
-    let mut i: usize = 0;
-    while i < n {
+    for i in 0..n {
         if !term_ok(block[at + i], layout::label_count(block, i)) {
             return false;
         }
-        i += 1;
     }
     true
 }
@@ -104,13 +100,11 @@ fn rule_terms_ok(block: &[u8]) -> bool
     ensures { result ≡ rule_terms_ok block.now }
 {
     let rules = layout::rules(block);
-    let mut r: usize = 0;
-    while r < rules {
+    for r in 0..rules {
         let left = side_ok(block, layout::left_at(block, r));
         if !and(left, side_ok(block, layout::right_at(block, r))) {
             return false;
         }
-        r += 1;
     }
     true
 }
@@ -121,12 +115,10 @@ fn goal_terms_ok(block: &[u8]) -> bool
     ensures { result ≡ goal_terms_ok block.now }
 {
     let goals = layout::goals(block);
-    let mut g: usize = 0;
-    while g < goals {
+    for g in 0..goals {
         if !side_ok(block, layout::goal_at(block, g)) {
             return false;
         }
-        g += 1;
     }
     true
 }
@@ -162,12 +154,10 @@ fn rule_bound(block: &[u8], r: usize) -> bool
     let n = layout::positions(block);
     let left = layout::left_at(block, r);
     let right = layout::right_at(block, r);
-    let mut i: usize = 0;
-    while i < n {
+    for i in 0..n {
         if !term_bound(block, left, n, block[right + i]) {
             return false;
         }
-        i += 1;
     }
     true
 }
@@ -178,12 +168,10 @@ fn bound_ok(block: &[u8]) -> bool
     ensures { result ≡ bound_ok block.now }
 {
     let rules = layout::rules(block);
-    let mut r: usize = 0;
-    while r < rules {
+    for r in 0..rules {
         if !rule_bound(block, r) {
             return false;
         }
-        r += 1;
     }
     true
 }

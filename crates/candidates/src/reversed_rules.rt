@@ -26,18 +26,14 @@ const ONES: u64 = 1229782938247303441;
 
 // The reversed left side's terms: the right side's, and the left side's where the label is kept.
 fn reverse_left(block: &[u8], left: usize, right: usize, n: usize, sides: &mut Sides)
-    requires { (n ≤ 16) × (left + n ≤ length block.now) × (right + n ≤ length block.now) ×
-        (length sides.old ≡ 32) }
-    ensures { length sides.new ≡ 32 }
+    requires { (n ≤ 16) × (left + n ≤ length block.now) × (right + n ≤ length block.now) }
 {
-    let mut i: usize = 0;
-    while i < n {
+    for i in 0..n {
         let mut byte = block[right + i];
         if is_dash(byte) {
             byte = block[left + i];
         }
         sides[i] = byte;
-        i += 1;
     }
 }
 
@@ -69,15 +65,11 @@ fn reversed_term(sides: &Sides, n: usize, left: u8, right: u8) -> u8
 
 // The reversed right side's terms.
 fn reverse_right(block: &[u8], left: usize, right: usize, n: usize, sides: &mut Sides)
-    requires { (n ≤ 16) × (left + n ≤ length block.now) × (right + n ≤ length block.now) ×
-        (length sides.old ≡ 32) }
-    ensures { length sides.new ≡ 32 }
+    requires { (n ≤ 16) × (left + n ≤ length block.now) × (right + n ≤ length block.now) }
 {
-    let mut i: usize = 0;
-    while i < n {
+    for i in 0..n {
         let byte = reversed_term(sides, n, block[left + i], block[right + i]);
         sides[RIGHT + i] = byte;
-        i += 1;
     }
 }
 
@@ -86,12 +78,10 @@ fn mask_of(block: &[u8], left: usize, n: usize, v: u8) -> u64
     requires { (n ≤ 16) × (left + n ≤ length block.now) }
 {
     let mut mask: u64 = 0;
-    let mut j: usize = 0;
-    while j < n {
+    for j in 0..n {
         if block[left + j] == v {
             mask = mask | (15 << (4 * j));
         }
-        j += 1;
     }
     mask
 }
@@ -139,23 +129,20 @@ fn groups_of(block: &[u8], left: usize, right: usize, n: usize, sides: &Sides) -
 {
     let mut groups: u64 = 0;
     let mut count: u64 = 0;
-    let mut i: usize = 0;
-    while i < n {
+    for i in 0..n {
         if count < 15 {
             if begins_group(block, left, right, n, sides, i) {
                 count += 1;
                 groups = groups | (group_of(block, left, n, i) & (count * ONES));
             }
         }
-        i += 1;
     }
     groups
 }
 
 // Compiles rule r backwards. A rule read backwards costs nothing: where its cost would stand its groups do.
 fn reverse_rule(block: &[u8], r: usize, code: &mut Code)
-    requires { Sized block.now × (r < rules block.now) × (length code.old ≡ code_length) }
-    ensures { length code.new ≡ code_length }
+    requires { Sized block.now × (r < rules block.now) }
 {
     let n = layout::positions(block);
     let left = layout::left_at(block, r);
@@ -169,14 +156,11 @@ fn reverse_rule(block: &[u8], r: usize, code: &mut Code)
 
 // Compiles all rules backwards.
 pub fn reverse_rules(block: &[u8], code: &mut Code)
-    requires { Sized block.now × (length code.old ≡ code_length) }
-    ensures { length code.new ≡ code_length }
+    requires { Sized block.now }
 {
     let rules = layout::rules(block);
-    let mut r: usize = 0;
-    while r < rules {
+    for r in 0..rules {
         reverse_rule(block, r, code);
-        r += 1;
     }
 }
 
@@ -203,8 +187,7 @@ pub fn next_candidate(code: &Code, k: u64, r: usize, word: u64) -> u64
 {
     let groups = code[COSTS + r];
     let mut next = word;
-    let mut g: u64 = 1;
-    while g < 16 {
+    for g in 1..16 {
         let ones = members(groups, g);
         if ones == 0 {
             return next;
@@ -215,7 +198,6 @@ pub fn next_candidate(code: &Code, k: u64, r: usize, word: u64) -> u64
         if label < k {
             return next | repeated(label, ones);
         }
-        g += 1;
     }
     next
 }

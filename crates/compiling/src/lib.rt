@@ -17,9 +17,8 @@ use words::code::Code;
 
 // Compiles the rules and goals of an accepted block.
 pub fn compile(block: &[u8], code: &mut Code)
-    requires { Valid block.now × (length code.old ≡ code_length) }
-    ensures { Compiled block.now code.new ×
-        (length code.new ≡ code_length) }
+    requires { Valid block.now }
+    ensures { Compiled block.now code.new }
 {
     place_rules(block, code);
     place_goals(block, code);

@@ -90,18 +90,15 @@ fn make_side(bytes: &[u8], left: usize, side: usize, n: usize) -> Side
         from: 0,
         to: 0,
     };
-    let mut i: usize = 0;
-    while i < n {
+    for i in 0..n {
         made = with_term(bytes, left, side, n, made, i);
-        i += 1;
     }
     made
 }
 
 // Compiles the side that begins at `side`, under the left side that begins at `left`, to place x.
 fn place_side(bytes: &[u8], left: usize, side: usize, n: usize, code: &mut Code, x: usize)
-    requires { (left + n ≤ length bytes.now) × (side + n ≤ length bytes.now) × (n ≤ 16) × (x < 136) ×
-        (length code.old ≡ code_length) }
+    requires { (left + n ≤ length bytes.now) × (side + n ≤ length bytes.now) × (n ≤ 16) × (x < 136) }
     ensures { SidePlaced n (side_at bytes.now left) (side_at bytes.now side) x
         code.old code.new }
 {
@@ -117,8 +114,7 @@ fn place_side(bytes: &[u8], left: usize, side: usize, n: usize, code: &mut Code,
 
 // Compiles the two sides of rule r, which begin at `left` and at `right`.
 pub fn place_sides(bytes: &[u8], left: usize, right: usize, n: usize, code: &mut Code, r: usize)
-    requires { (left + n ≤ length bytes.now) × (right + n ≤ length bytes.now) × (n ≤ 16) × (r < 64) ×
-        (length code.old ≡ code_length) }
+    requires { (left + n ≤ length bytes.now) × (right + n ≤ length bytes.now) × (n ≤ 16) × (r < 64) }
     ensures { SidesPlaced n (side_at bytes.now left) (side_at bytes.now right) r
         code.old code.new }
 {
@@ -128,7 +124,7 @@ pub fn place_sides(bytes: &[u8], left: usize, right: usize, n: usize, code: &mut
 
 // Compiles rule r: its sides, and its cost.
 fn place_rule(block: &[u8], r: usize, code: &mut Code)
-    requires { Sized block.now × (r < rules block.now) × (length code.old ≡ code_length) }
+    requires { Sized block.now × (r < rules block.now) }
     ensures { RulePlaced block.now r code.old code.new }
 {
     let n = layout::positions(block);
@@ -140,35 +136,31 @@ fn place_rule(block: &[u8], r: usize, code: &mut Code)
 
 // Compiles the rules.
 pub fn place_rules(block: &[u8], code: &mut Code)
-    requires { Sized block.now × (length code.old ≡ code_length) }
+    requires { Sized block.now }
     ensures { RulesPlaced block.now code.old code.new }
 {
     let count = layout::rules(block);
-    let mut r: usize = 0;
-    while r < count {
+    for r in 0..count {
         place_rule(block, r, code);
-        r += 1;
     }
 }
 
 // Compiles the goals: each is a left side of its own.
 pub fn place_goals(block: &[u8], code: &mut Code)
-    requires { Sized block.now × (length code.old ≡ code_length) }
+    requires { Sized block.now }
     ensures { GoalsPlaced block.now code.old code.new }
 {
     let n = layout::positions(block);
     let count = layout::goals(block);
-    let mut g: usize = 0;
-    while g < count {
+    for g in 0..count {
         let at = layout::goal_at(block, g);
         place_side(block, at, at, n, code, FIRST_GOAL + g);
-        g += 1;
     }
 }
 
 // Writes how many positions, rules and goals there are.
 pub fn place_counts(block: &[u8], code: &mut Code)
-    requires { (head_length ≤ length block.now) × (length code.old ≡ code_length) }
+    requires { head_length ≤ length block.now }
     ensures { CountsPlaced block.now code.old code.new }
 {
     code[POSITIONS] = layout::positions(block) as u64;

@@ -18,24 +18,21 @@ pub type Singles = [u16; SINGLES];
 
 // Writes the weights of the labels at position i, where an abstract label counts p.
 fn place_row(block: &[u8], i: usize, p: usize, singles: &mut Singles)
-    requires { Valid block.now × (i < positions block.now) × (abstract_count block.now i * p ≤ 16384) ×
-        (length singles.old ≡ 256) }
+    requires { Valid block.now × (i < positions block.now) × (abstract_count block.now i * p ≤ 16384) }
     ensures { RowPlaced block.now i p singles.old singles.new }
 {
     let count = layout::label_count(block, i);
-    let mut x: usize = 0;
-    while x < count {
+    for x in 0..count {
         let label = ConcreteLabel(x as u8);
         let y = wide(byte_of(layout::abstract_label(block, i, label)));
         singles[16 * i + x] = (y * p) as u16;
-        x += 1;
     }
 }
 
 // Writes the weights of single labels, from the last position on: a label counts as often as there are lists of
 // abstract labels for the positions behind it. What a rule adds to a rank is made of these too.
 pub fn place_singles(block: &[u8], singles: &mut Singles)
-    requires { Valid block.now × (length singles.old ≡ 256) × ((k : ℕ) → get_or singles.old k 0 ≡ 0) }
+    requires { Valid block.now × ((k : ℕ) → get_or singles.old k 0 ≡ 0) }
     ensures { SinglesPlaced block.now singles.new }
 {
     let mut p: usize = 1;
@@ -50,22 +47,19 @@ pub fn place_singles(block: &[u8], singles: &mut Singles)
 // Writes the weights of the pairs that n labels make: those at positions 2 * j and 2 * j + 1 stand in byte j of a word,
 // the first as its low digit.
 fn place_pairs(singles: &Singles, n: usize, weights: &mut Weights)
-    requires { (n ≤ 16) × ((k : ℕ) → get_or singles.now k 0 ≤ 16384) ×
-        (length weights.old ≡ 2048) }
+    requires { (n ≤ 16) × ((k : ℕ) → get_or singles.now k 0 ≤ 16384) }
     ensures { PairsPlaced n singles.now weights.new }
 {
     let end = 256 * ((n + 1) / 2);
-    let mut k: usize = 0;
-    while k < end {
+    for k in 0..end {
         let row = 32 * (k / 256);
         weights[k] = singles[row + k % 16] + singles[row + 16 + k / 16 % 16];
-        k += 1;
     }
 }
 
 // Writes the weights. Those of single labels are not kept: a rank is summed by pairs, in half the steps.
 pub fn place_weights(block: &[u8], weights: &mut Weights)
-    requires { Valid block.now × (length weights.old ≡ 2048) }
+    requires { Valid block.now }
     ensures { Weighted block.now weights.new }
 {
     let mut singles = [0u16; SINGLES];

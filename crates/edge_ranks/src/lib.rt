@@ -47,14 +47,12 @@ fn difference(rank: u16, base: u16) -> u16
 
 // Writes the first `count` ranks of the list that begins at `list` again from `at` on, each with so much more.
 fn extend(lists: &mut Lists, list: usize, count: usize, at: usize, by: u16)
-    requires { (length lists.old ≡ lists_length) × (count ≤ at) × (list + at + count ≤ lists_length) ×
+    requires { (count ≤ at) × (list + at + count ≤ lists_length) ×
         (by < 16384) }
     ensures { Extended list count at by lists.old lists.new }
 {
-    let mut j: usize = 0;
-    while j < count {
+    for j in 0..count {
         lists[list + at + j] = (lists[list + j] % 16384 + by) % 16384;
-        j += 1;
     }
 }
 
@@ -80,12 +78,10 @@ fn is_idle(code: &Code, x: usize, labels: usize, p: usize, base: u64) -> bool
     ensures { result ≡ true → (l : ℕ) → 1 ≤ l → l < labels →
         rewritten_word code.now x (l * 16 ^ p) ≡ rewritten_word code.now x 0 }
 {
-    let mut label: usize = 1;
-    while label < labels {
+    for label in 1..labels {
         if rewritten_word(code, x, single(label, p)) != base {
             return false;
         }
-        label += 1;
     }
     true
 }
@@ -104,19 +100,17 @@ fn add_labels(
 ) -> usize
     requires code_bound { (position_count code.now ≤ 16) × (x < 136) × (y < 136) × (labels ≤ 16) × (p < 16) ×
         (count ≤ 16384) }
-    requires lists_len { (length lists.old ≡ lists_length) × (source_at lists.old 0 < 16384) ×
+    requires lists_len { (source_at lists.old 0 < 16384) ×
         (target_at lists.old 0 < 16384) }
     ensures labels_added { LabelsAdded (first_rank code.now weights.now x) labels p count result
         (source_at lists.old) (source_at lists.new) }
     ensures labels_added_2 { LabelsAdded (second_rank code.now weights.now x y) labels p count result
         (target_at lists.old) (target_at lists.new) }
-    ensures lists_len_2 { length lists.new ≡ lists_length }
 {
     let source = lists[0];
     let target = lists[TARGETS];
     let mut at = count;
-    let mut label: usize = 1;
-    while label < labels {
+    for label in 1..labels {
         if ROOM - at < count {
             return 0;
         }
@@ -126,7 +120,6 @@ fn add_labels(
         extend(lists, 0, count, at, difference(first, source));
         extend(lists, TARGETS, count, at, difference(second, target));
         at += count;
-        label += 1;
     }
     at
 }
@@ -141,14 +134,13 @@ pub fn find_edges(
     labels: usize,
     lists: &mut Lists,
 ) -> usize
-    requires code_bound { (position_count code.now ≤ 16) × (x < 136) × (y < 136) × (labels ≤ 16) ×
-        (length lists.old ≡ lists_length) }
+    requires code_bound { (position_count code.now ≤ 16) × (x < 136) × (y < 136) × (labels ≤ 16) }
     requires additive { Additive (position_count code.now) labels (first_rank code.now weights.now x) }
     requires additive_2 { Additive (position_count code.now) labels (second_rank code.now weights.now x y) }
     ensures listed { 0 < result → Listed (first_rank code.now weights.now x)
         (second_rank code.now weights.now x y) (position_count code.now) labels 0
         (source_at lists.new) (target_at lists.new) result }
-    ensures upper_bound { (result ≤ 16384) × (length lists.new ≡ lists_length) }
+    ensures upper_bound { result ≤ 16384 }
 {
     let base = rewritten_word(code, x, 0);
     lists[0] = rank_by(code, weights, x, 0);

@@ -38,18 +38,16 @@ fn cleared_entry(block: &[u8], code: &Code, word: u64) -> u32
 
 // Writes the word of each rank, and the entries before any rule is used.
 fn clear(block: &[u8], code: &Code, weights: &Weights, ranked: &mut RankWords, table: &mut [u32])
-    requires { Ready block.now code.now weights.now × (length ranked.old ≡ 16384) ×
+    requires { Ready block.now code.now weights.now ×
         (length table.old ≡ abstract_states block.now) }
     ensures { Ranked block.now ranked.new ×
         Good (graph_of block.now) table.new }
 {
     let mut word: u64 = 0;
-    let mut u: usize = 0;
-    while u < table.len() {
+    for u in 0..table.len() {
         word = word_at(block, word, u);
         ranked[u] = word;
         table[u] = cleared_entry(block, code, word);
-        u += 1;
     }
 }
 

@@ -65,8 +65,7 @@ pub fn list_with_state(links: &Lists, k: usize) -> usize
 
 // Puts the state u at the front of list k.
 pub fn put_in(links: &mut Lists, k: usize, u: usize)
-    requires { (k < 256) × (u < 16384) × (length links.old ≡ lists_length) }
-    ensures { length links.new ≡ lists_length }
+    requires { (k < 256) × (u < 16384) }
 {
     let head = links[FIRST + k];
     let after = index(head);
@@ -80,8 +79,7 @@ pub fn put_in(links: &mut Lists, k: usize, u: usize)
 
 // Takes the state u out of list k.
 pub fn take_out(links: &mut Lists, k: usize, u: usize)
-    requires { (k < 256) × (u < 16384) × (length links.old ≡ lists_length) }
-    ensures { length links.new ≡ lists_length }
+    requires { (k < 256) × (u < 16384) }
 {
     let before = links[PREVIOUS + u];
     let after = links[NEXT + u];
@@ -97,14 +95,11 @@ pub fn take_out(links: &mut Lists, k: usize, u: usize)
 
 // Puts in the states whose entry is 0.
 pub fn put_goals(links: &mut Lists, table: &[u32])
-    requires { (length table.now ≤ 16384) × (length links.old ≡ lists_length) }
-    ensures { length links.new ≡ lists_length }
+    requires { length table.now ≤ 16384 }
 {
-    let mut u: usize = 0;
-    while u < table.len() {
+    for u in 0..table.len() {
         if table[u] == 0 {
             put_in(links, 0, u);
         }
-        u += 1;
     }
 }

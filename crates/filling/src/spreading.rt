@@ -35,10 +35,9 @@ struct Edge {
 // u is queued anew.
 fn lower(block: &[u8], table: &mut [u32], links: &mut Lists, u: usize, edge: Edge, cost: u32)
     requires lowering { Lowering (graph_of block.now) table.old u edge.rule edge.to ×
-        (cost ≡ cost_of block.now edge.rule) × (cost ≤ 255) × (length links.old ≡ lists_length) }
+        (cost ≡ cost_of block.now edge.rule) × (cost ≤ 255) }
     requires cost_bound { get_or table.old edge.to 0 + cost < get_or table.old u 0 }
-    ensures { Good (graph_of block.now) table.new ×
-        (length links.new ≡ lists_length) }
+    ensures { Good (graph_of block.now) table.new }
 {
     let v = edge.to;
     let old = table[u];
@@ -64,10 +63,8 @@ fn try_candidate(
 ) -> bool
     requires ready { Ready block.now code.now weights.now × Ranked block.now ranked.now ×
         Good (graph_of block.now) table.old }
-    requires rule_bound { (edge.rule < rules block.now) × (edge.to < abstract_states block.now) ×
-        (length links.old ≡ lists_length) }
-    ensures { Good (graph_of block.now) table.new ×
-        (length links.new ≡ lists_length) }
+    requires rule_bound { (edge.rule < rules block.now) × (edge.to < abstract_states block.now) }
+    ensures { Good (graph_of block.now) table.new }
 {
     let r = edge.rule;
     let v = edge.to;
@@ -105,10 +102,8 @@ fn pull(
 )
     requires ready { Ready block.now code.now weights.now × Ranked block.now ranked.now ×
         Good (graph_of block.now) table.old }
-    requires rule_bound { (edge.rule < rules block.now) × (edge.to < abstract_states block.now) ×
-        (length links.old ≡ lists_length) }
-    ensures { Good (graph_of block.now) table.new ×
-        (length links.new ≡ lists_length) }
+    requires rule_bound { (edge.rule < rules block.now) × (edge.to < abstract_states block.now) }
+    ensures { Good (graph_of block.now) table.new }
 {
     let r = edge.rule;
     let v = edge.to;
@@ -144,9 +139,8 @@ fn expand(
 )
     requires ready { Ready block.now code.now weights.now × Ranked block.now ranked.now ×
         Good (graph_of block.now) table.old }
-    requires v_bound { (v < abstract_states block.now) × (length links.old ≡ lists_length) }
-    ensures { Good (graph_of block.now) table.new ×
-        (length links.new ≡ lists_length) }
+    requires v_bound { v < abstract_states block.now }
+    ensures { Good (graph_of block.now) table.new }
 {
     let rules = layout::rules(block);
     let mut rest = agreeing_with(back, layout::positions(block), ranked[v]);
@@ -173,9 +167,7 @@ fn run_queue(
 )
     requires ready { Ready block.now code.now weights.now × Ranked block.now ranked.now ×
         Good (graph_of block.now) table.old }
-    requires links_len { length links.old ≡ lists_length }
-    ensures { Good (graph_of block.now) table.new ×
-        (length links.new ≡ lists_length) }
+    ensures { Good (graph_of block.now) table.new }
 {
     let mut list: usize = 0;
     let mut left = MOST_TURNS;
@@ -202,9 +194,7 @@ pub fn spread(
 )
     requires ready { Ready block.now code.now weights.now × Ranked block.now ranked.now ×
         Good (graph_of block.now) table.old }
-    requires links_len { length links.old ≡ lists_length }
-    ensures { Good (graph_of block.now) table.new ×
-        (length links.new ≡ lists_length) }
+    ensures { Good (graph_of block.now) table.new }
 {
     let mut back = [0u64; CODE];
     reverse_rules(block, &mut back);

@@ -27,14 +27,12 @@ fn sweep(
     ensures { Swept (graph_of block.now) table.old table.new result }
 {
     let mut fell = false;
-    let mut u: usize = 0;
-    while u < table.len() {
+    for u in 0..table.len() {
         let least = best(block, code, weights, table, u, ranked[u]);
         if least < wide_entry(table[u]) {
             table[u] = least as u32;
             fell = true;
         }
-        u += 1;
     }
     fell
 }
@@ -50,7 +48,6 @@ pub fn settle(
 )
     requires ready { Ready block.now code.now weights.now × Ranked block.now ranked.now ×
         Good (graph_of block.now) table.old }
-    requires lists_len { length lists.old ≡ lists_length }
     ensures { Good (graph_of block.now) table.new ×
         LeastTable (graph_of block.now) table.new }
 {

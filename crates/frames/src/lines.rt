@@ -94,13 +94,11 @@ pub fn encode_line(bytes: &[u8], out: &mut [u8]) -> usize
         × (out.new ≡ at_front (line_of bytes.now) out.old) }
 {
     let mut at: usize = 0;
-    let mut i: usize = 0;
-    while i < bytes.len() {
+    for i in 0..bytes.len() {
         let byte = bytes[i];
         out[at] = digit_of(byte / 16);
         out[at + 1] = digit_of(byte % 16);
         at += 2;
-        i += 1;
     }
     out[at] = LINE_FEED;
     at + 1

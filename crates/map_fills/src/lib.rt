@@ -33,10 +33,8 @@ pub fn fill_all(block: &[u8], maps: &[u8], table: &mut [u32])
     let count = maps::further_maps(block, maps);
     fill(block, table);
     let mut at = layout::abstract_states(block);
-    let mut i: usize = 0;
-    while i < count {
+    for i in 0..count {
         fill_further(block, maps, i, &mut table[at..]);
         at += maps::entries_of(block, maps, i);
-        i += 1;
     }
 }

@@ -47,11 +47,9 @@ pub fn largest_entry(block: &[u8], maps: &[u8], state: &[u8], table: &[u32]) -> 
     let count = maps::further_maps(block, maps);
     let mut largest = estimate(block, state, table);
     let mut at = layout::abstract_states(block);
-    let mut i: usize = 0;
-    while i < count {
+    for i in 0..count {
         largest = larger(largest, further_entry(block, maps, i, state, &table[at..]));
         at += maps::entries_of(block, maps, i);
-        i += 1;
     }
     largest
 }
@@ -79,13 +77,11 @@ pub fn all_pass(block: &[u8], maps: &[u8], table: &[u32]) -> bool
     }
     let count = maps::further_maps(block, maps);
     let mut at = layout::abstract_states(block);
-    let mut i: usize = 0;
-    while i < count {
+    for i in 0..count {
         if !further_passes(block, maps, i, &table[at..]) {
             return false;
         }
         at += maps::entries_of(block, maps, i);
-        i += 1;
     }
     true
 }

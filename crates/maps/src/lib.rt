@@ -93,10 +93,8 @@ pub fn all_entries(block: &[u8], maps: &[u8]) -> usize
 {
     let count = further_maps(block, maps);
     let mut sum = layout::abstract_states(block);
-    let mut i: usize = 0;
-    while i < count {
+    for i in 0..count {
         sum = sum + entries_of(block, maps, i);
-        i += 1;
     }
     sum
 }
@@ -120,12 +118,10 @@ fn further_ok(block: &[u8], maps: &[u8], i: usize) -> bool
     if !lies_within(1, abstracts, labels) {
         return false;
     }
-    let mut x: usize = 0;
-    while x < labels {
+    for x in 0..labels {
         if abstracts <= further_byte(block, maps, i, x) {
             return false;
         }
-        x += 1;
     }
     true
 }
@@ -137,8 +133,7 @@ fn maps_ok(block: &[u8], maps: &[u8]) -> bool
 {
     let count = further_maps(block, maps);
     let mut entries = layout::abstract_states(block);
-    let mut i: usize = 0;
-    while i < count {
+    for i in 0..count {
         if !further_ok(block, maps, i) {
             return false;
         }
@@ -146,7 +141,6 @@ fn maps_ok(block: &[u8], maps: &[u8]) -> bool
         if MOST_STATES < entries {
             return false;
         }
-        i += 1;
     }
     true
 }

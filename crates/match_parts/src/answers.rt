@@ -54,16 +54,13 @@ fn side_at(block: &[u8], k: usize) -> usize
 
 // The matches of a state on bytes.
 fn by_bytes(block: &[u8], state: &[u8], line: &mut [u8; LINE])
-    requires { Sized block.now × (length state.now ≡ positions block.now) × (length line.old ≡ 144) }
-    ensures { length line.new ≡ 144 }
+    requires { Sized block.now × (length state.now ≡ positions block.now) }
 {
     let count = layout::rules(block) + layout::goals(block);
-    let mut k: usize = 0;
-    while k < count {
+    for k in 0..count {
         let at = side_at(block, k);
         line[2 * k] = position_of(constant_mismatch(block, at, state));
         line[2 * k + 1] = sign_of(side_matches(block, at, state));
-        k += 1;
     }
 }
 
@@ -80,15 +77,12 @@ fn place_of(rules: usize, k: usize) -> usize
 
 // The matches of a word.
 fn by_words(code: &Code, rules: usize, count: usize, word: u64, line: &mut [u8; LINE])
-    requires { (rules ≤ 64) × (count ≤ rules + 8) × (length line.old ≡ 144) }
-    ensures { length line.new ≡ 144 }
+    requires { (rules ≤ 64) × (count ≤ rules + 8) }
 {
-    let mut k: usize = 0;
-    while k < count {
+    for k in 0..count {
         let x = place_of(rules, k);
         line[2 * k] = position_of(mismatch_word(code, x, word));
         line[2 * k + 1] = sign_of(matches_word(code, x, word));
-        k += 1;
     }
 }
 
@@ -131,10 +125,8 @@ pub fn print_states(rt: &impl Print, block: &[u8]) -> io::Result<()>
     let mut code = [0u64; CODE];
     compile(block, &mut code);
     let goals = layout::goals(block);
-    let mut g: usize = 0;
-    while g < goals {
+    for g in 0..goals {
         print_goal(rt, block, &code, g)?;
-        g += 1;
     }
     Ok(())
 }

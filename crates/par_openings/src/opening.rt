@@ -28,10 +28,8 @@ fn lines_end(input: &[u8], from: usize, count: usize) -> usize
     ensures { result ≡ from + length (flatten (take count (lines_of (drop from input.now)))) }
 {
     let mut at = from;
-    let mut i: usize = 0;
-    while i < count {
+    for i in 0..count {
         at = line_end(input, at);
-        i += 1;
     }
     at
 }

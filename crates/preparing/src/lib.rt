@@ -21,8 +21,7 @@ use weights::packed_weights;
 
 // Prepares an accepted block with accepted maps.
 pub fn prepare(block: &[u8], maps: &[u8], code: &mut Code, changes: &mut Changes)
-    requires { Mapped block.now maps.now × (length code.old ≡ code_length) ×
-        (length changes.old ≡ changes_length) }
+    requires { Mapped block.now maps.now }
     ensures prepared { Prepared block.now code.new changes.new }
     ensures packed { Packed block.now maps.now changes.new }
 {

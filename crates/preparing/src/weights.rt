@@ -22,20 +22,18 @@ fn begins_at(k: usize, begin: usize) -> usize
 
 // Puts the weights of one more map in front: those that are packed move up, and of three at most none is lost.
 fn add_map(own: &compiling::Singles, begin: usize, singles: &mut Singles)
-    requires { ((k : ℕ) → get_or own.now k 0 ≤ 16384) × (begin ≤ 16384) × (length singles.old ≡ 256) }
+    requires { ((k : ℕ) → get_or own.now k 0 ≤ 16384) × (begin ≤ 16384) }
     ensures { MapAdded own.now begin singles.old singles.new }
 {
-    let mut k: usize = 0;
-    while k < SINGLES {
+    for k in 0..SINGLES {
         let weight = wide_weight(own[k]) + begins_at(k, begin);
         singles[k] = weight as u64 + 65536 * (singles[k] % 281474976710656);
-        k += 1;
     }
 }
 
 // Puts the weights of the labels under the map of a block in front, whose table begins at `begin`.
 fn place_map(block: &[u8], begin: usize, singles: &mut Singles)
-    requires { Valid block.now × (begin ≤ 16384) × (length singles.old ≡ 256) }
+    requires { Valid block.now × (begin ≤ 16384) }
     ensures { MapPlaced block.now begin singles.old singles.new }
 {
     let mut own = [0u16; compiling::SINGLES];
@@ -45,8 +43,7 @@ fn place_map(block: &[u8], begin: usize, singles: &mut Singles)
 
 // The same under further map i.
 fn place_further(block: &[u8], maps: &[u8], i: usize, begin: usize, singles: &mut Singles)
-    requires { Mapped block.now maps.now × (i < further_maps block.now maps.now) × (begin ≤ 16384) ×
-        (length singles.old ≡ 256) }
+    requires { Mapped block.now maps.now × (i < further_maps block.now maps.now) × (begin ≤ 16384) }
     ensures { MapPlaced (exercise_at block.now maps.now (suc i)) begin
         singles.old singles.new }
 {

@@ -39,12 +39,10 @@ pub fn constant_mismatch(block: &[u8], at: usize, state: &[u8]) -> Mismatch
         (constant_agrees (side_at block.now at) state.now) (mismatch_of result) }
 {
     let n = state.len();
-    let mut i = 0;
-    while i < n {
+    for i in 0..n {
         if !constant_allows(block[at + i], state[i]) {
             return Mismatch::At(i);
         }
-        i += 1;
     }
     Mismatch::Nowhere
 }
@@ -88,12 +86,10 @@ fn variables_match(block: &[u8], at: usize, state: &[u8]) -> bool
     ensures { result ≡ matches (length state.now) (side_at block.now at) state.now }
 {
     let n = state.len();
-    let mut i = 0;
-    while i < n {
+    for i in 0..n {
         if !variable_agrees(block, at, state, i) {
             return false;
         }
-        i += 1;
     }
     true
 }

@@ -36,10 +36,8 @@ fn relabel_side(block: &[u8], from: usize, out: &mut [u8], to: usize) -> usize
         (relabel_side block.now (side_at block.now from))) }
 {
     let n = layout::positions(block);
-    let mut i: usize = 0;
-    while i < n {
+    for i in 0..n {
         out[to + i] = relabel_term(block, i, block[from + i]);
-        i += 1;
     }
     to + n
 }
@@ -64,10 +62,8 @@ fn relabel_rules(block: &[u8], out: &mut [u8], to: usize) -> usize
 {
     let rules = layout::rules(block);
     let mut at = to;
-    let mut r: usize = 0;
-    while r < rules {
+    for r in 0..rules {
         at = relabel_rule(block, r, out, at);
-        r += 1;
     }
     at
 }
@@ -79,10 +75,8 @@ fn relabel_goals(block: &[u8], out: &mut [u8], to: usize)
 {
     let goals = layout::goals(block);
     let mut at = to;
-    let mut g: usize = 0;
-    while g < goals {
+    for g in 0..goals {
         at = relabel_side(block, layout::goal_at(block, g), out, at);
-        g += 1;
     }
 }
 

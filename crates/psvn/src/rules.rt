@@ -40,12 +40,10 @@ fn rewrite(block: &[u8], left: usize, right: usize, state: &[u8], out: &mut [u8]
         (side_at block.now right) state.now) out.old }
 {
     let n = state.len();
-    let mut i = 0;
-    while i < n {
+    for i in 0..n {
         let byte = block[right + i];
         let given = label_given(block, left, state, i, byte);
         out[i] = given.0;
-        i += 1;
     }
 }
 
@@ -58,14 +56,12 @@ fn makes(block: &[u8], left: usize, right: usize, old: &[u8], new: &[u8]) -> boo
         old.now) new.now }
 {
     let n = old.len();
-    let mut i = 0;
-    while i < n {
+    for i in 0..n {
         let written = block[right + i];
         let given = label_given(block, left, old, i, written);
         if given.0 != new[i] {
             return false;
         }
-        i += 1;
     }
     true
 }
@@ -116,12 +112,10 @@ pub fn met_goal(block: &[u8], state: &[u8]) -> u8
     ensures { result ≡ goal_byte (met_goal block.now state.now) }
 {
     let goals = layout::goals(block);
-    let mut g: usize = 0;
-    while g < goals {
+    for g in 0..goals {
         if goal_met(block, g, state) {
             return g as u8;
         }
-        g += 1;
     }
     NO_GOAL
 }

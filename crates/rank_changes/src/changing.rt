@@ -13,19 +13,16 @@ use words::changes::{CHANGE, Changes, FIRST_CHANGE};
 
 // Copies the weights of single labels to the front.
 pub fn copy_singles(singles: &Singles, changes: &mut Changes)
-    requires { length changes.old ≡ changes_length }
     ensures { SinglesCopied singles.now changes.old changes.new }
 {
-    let mut k: usize = 0;
-    while k < SINGLES {
+    for k in 0..SINGLES {
         changes[k] = singles[k];
-        k += 1;
     }
 }
 
 // Writes the change of rule r.
 fn place_change(block: &[u8], singles: &Singles, changes: &mut Changes, r: usize)
-    requires { Valid block.now × (r < rules block.now) × (length changes.old ≡ changes_length) }
+    requires { Valid block.now × (r < rules block.now) }
     ensures { ChangePlaced block.now singles.now r changes.old
         changes.new }
 {
@@ -43,14 +40,12 @@ fn place_change(block: &[u8], singles: &Singles, changes: &mut Changes, r: usize
 
 // Writes the changes of all rules.
 pub fn place_rule_changes(block: &[u8], singles: &Singles, changes: &mut Changes)
-    requires { Valid block.now × (length changes.old ≡ changes_length) }
+    requires { Valid block.now }
     ensures { ChangesPlaced block.now singles.now changes.old
         changes.new }
 {
     let count = layout::rules(block);
-    let mut r: usize = 0;
-    while r < count {
+    for r in 0..count {
         place_change(block, singles, changes, r);
-        r += 1;
     }
 }

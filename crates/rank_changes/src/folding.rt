@@ -11,19 +11,17 @@ use std::num::wrapping_add_u64;
 
 // Makes the row of position p add nothing.
 fn clear_row(rows: &mut Rows, p: usize)
-    requires { (p < 16) × (length rows.old ≡ 256) }
+    requires { p < 16 }
     ensures { RowCleared p rows.old rows.new }
 {
-    let mut x: usize = 0;
-    while x < 16 {
+    for x in 0..16 {
         rows[16 * p + x] = 0;
-        x += 1;
     }
 }
 
 // Folds the row of position i, if its left term is a constant, into the rule's constant.
 fn fold_term(bytes: &[u8], left: usize, n: usize, rows: &mut Rows, constant: u64, i: usize) -> u64
-    requires { (left + n ≤ length bytes.now) × (n ≤ 16) × (i < n) × (length rows.old ≡ 256) }
+    requires { (left + n ≤ length bytes.now) × (n ≤ 16) × (i < n) }
     ensures { Folded n (side_at bytes.now left) rows.old constant rows.new result }
 {
     let term = decode(bytes[left + i]);
@@ -41,14 +39,12 @@ fn fold_term(bytes: &[u8], left: usize, n: usize, rows: &mut Rows, constant: u64
 
 // Folds the rows of all positions whose left terms are constants.
 pub fn fold_terms(bytes: &[u8], left: usize, n: usize, rows: &mut Rows, constant: u64) -> u64
-    requires { (left + n ≤ length bytes.now) × (n ≤ 16) × (length rows.old ≡ 256) }
+    requires { (left + n ≤ length bytes.now) × (n ≤ 16) }
     ensures { Folded n (side_at bytes.now left) rows.old constant rows.new result }
 {
     let mut folded = constant;
-    let mut i: usize = 0;
-    while i < n {
+    for i in 0..n {
         folded = fold_term(bytes, left, n, rows, folded, i);
-        i += 1;
     }
     folded
 }

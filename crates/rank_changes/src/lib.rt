@@ -19,10 +19,9 @@ pub use rows::{SINGLES, Singles};
 // Writes the weights of single labels to the front and, behind the number of maps, which stays, what each rule adds to
 // ranks.
 pub fn place_changes(block: &[u8], singles: &Singles, changes: &mut Changes)
-    requires { Valid block.now × (length changes.old ≡ changes_length) }
+    requires { Valid block.now }
     ensures changed { Changed block.now changes.new }
     ensures by_index { ((k : ℕ) → k < 256 → slice_index changes.new k ≡ slice_index singles.now k) ×
-        (length changes.new ≡ changes_length) ×
         (slice_index changes.new 256 ≡ slice_index changes.old 256) }
 {
     copy_singles(singles, changes);

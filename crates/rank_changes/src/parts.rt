@@ -13,12 +13,10 @@ fn is_plain(rows: &Rows, p: usize) -> bool
     requires { p < 16 }
     ensures { result ≡ plain_row rows.now p }
 {
-    let mut x: usize = 0;
-    while x < 16 {
+    for x in 0..16 {
         if rows[16 * p + x] != 0 {
             return false;
         }
-        x += 1;
     }
     true
 }
@@ -29,25 +27,21 @@ pub fn first_part(rows: &Rows, n: usize) -> usize
     requires { (0 < n) × (n ≤ 16) }
     ensures { result < n }
 {
-    let mut p: usize = 0;
-    while p < n {
+    for p in 0..n {
         if !is_plain(rows, p) {
             return p;
         }
-        p += 1;
     }
     0
 }
 
 // Adds a rule's constant to what each label at position p adds: a state has one label there, and so it is added once.
 pub fn add_constant(rows: &mut Rows, p: usize, constant: u64)
-    requires { (p < 16) × (length rows.old ≡ 256) }
+    requires { p < 16 }
     ensures { RowAdded (λ _. constant) p 16 rows.old rows.new }
 {
-    let mut x: usize = 0;
-    while x < 16 {
+    for x in 0..16 {
         rows[16 * p + x] = wrapping_add_u64(rows[16 * p + x], constant);
-        x += 1;
     }
 }
 
@@ -64,32 +58,28 @@ fn is_part(rows: &Rows, lead: usize, p: usize) -> bool
 
 // Writes the row of position p as a part.
 fn place_part(rows: &Rows, p: usize, changes: &mut Changes, at: usize)
-    requires { (p < 16) × (at + 17 ≤ changes_length) × (length changes.old ≡ changes_length) }
+    requires { (p < 16) × (at + 17 ≤ changes_length) }
     ensures { PartPlaced rows.now p at changes.old changes.new }
 {
     changes[at] = 4 * p as u64;
-    let mut x: usize = 0;
-    while x < 16 {
+    for x in 0..16 {
         changes[at + 1 + x] = rows[16 * p + x];
-        x += 1;
     }
 }
 
 // Writes the rows of n positions that add something, and that of the first part, as the parts of rule r, and tells
 // how many these are.
 pub fn place_parts(rows: &Rows, n: usize, lead: usize, changes: &mut Changes, r: usize) -> usize
-    requires { (n ≤ 16) × (r < 64) × (length changes.old ≡ changes_length) }
+    requires { (n ≤ 16) × (r < 64) }
     ensures { PartsPlaced rows.now lead r n result changes.old changes.new }
 {
     let at = FIRST_CHANGE + CHANGE * r + 1;
     let mut count: usize = 0;
-    let mut p: usize = 0;
-    while p < n {
+    for p in 0..n {
         if is_part(rows, lead, p) {
             place_part(rows, p, changes, at + PART * count);
             count += 1;
         }
-        p += 1;
     }
     count
 }

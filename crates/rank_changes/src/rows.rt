@@ -20,25 +20,20 @@ pub type Rows = [u64; ROWS];
 
 // The rows of a rule that takes every label away.
 fn begin_rows(singles: &Singles, rows: &mut Rows)
-    requires { length rows.old ≡ 256 }
     ensures { RowsBegun singles.now rows.new }
 {
-    let mut k: usize = 0;
-    while k < ROWS {
+    for k in 0..ROWS {
         rows[k] = wrapping_sub_u64(0, singles[k]);
-        k += 1;
     }
 }
 
 // Adds the weights of the labels at position i to the row of position p, whose label position i takes.
 fn add_row(singles: &Singles, i: usize, rows: &mut Rows, p: usize)
-    requires { (i < 16) × (p < 16) × (length rows.old ≡ 256) }
+    requires { (i < 16) × (p < 16) }
     ensures { RowAdded (entry singles.now i) p 16 rows.old rows.new }
 {
-    let mut x: usize = 0;
-    while x < 16 {
+    for x in 0..16 {
         rows[16 * p + x] = wrapping_add_u64(rows[16 * p + x], singles[16 * i + x]);
-        x += 1;
     }
 }
 
@@ -88,18 +83,15 @@ pub fn add_terms(
     singles: &Singles,
     rows: &mut Rows,
 ) -> u64
-    requires n_in_bounds { (left + n ≤ length bytes.now) × (right + n ≤ length bytes.now) × (n ≤ 16) ×
-        (length rows.old ≡ 256) }
+    requires n_in_bounds { (left + n ≤ length bytes.now) × (right + n ≤ length bytes.now) × (n ≤ 16) }
     requires bound { Bound n (side_at bytes.now left) (side_at bytes.now right) }
     ensures { Balanced n (side_at bytes.now left) (side_at bytes.now right)
         singles.now rows.new result n }
 {
     begin_rows(singles, rows);
     let mut constant: u64 = 0;
-    let mut i: usize = 0;
-    while i < n {
+    for i in 0..n {
         constant = add_term(bytes, left, right, n, singles, rows, constant, i);
-        i += 1;
     }
     constant
 }

@@ -39,12 +39,10 @@ pub fn numbers_ok(block: &[u8], list: &[u8]) -> bool
     ensures { result ≡ numbers_ok block.now list.now }
 {
     let rules = layout::rules(block);
-    let mut i: usize = 0;
-    while i < list.len() {
+    for i in 0..list.len() {
         if rules <= wide(list[i]) {
             return false;
         }
-        i += 1;
     }
     true
 }

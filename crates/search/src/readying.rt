@@ -13,13 +13,11 @@ use words::code::Code;
 
 // Copies the first entries of a table.
 fn read_entries(table: &[u32], count: usize, entries: &mut Entries)
-    requires { (count ≤ length table.now) × (count ≤ 16384) × (length entries.old ≡ 16384) }
+    requires { (count ≤ length table.now) × (count ≤ 16384) }
     ensures { (k : ℕ) → k < count → get_or entries.new k 0 ≡ get_or table.now k 0 }
 {
-    let mut k: usize = 0;
-    while k < count {
+    for k in 0..count {
         entries[k] = table[k];
-        k += 1;
     }
 }
 
@@ -33,9 +31,7 @@ pub fn make_ready(
     changes: &mut Changes,
     entries: &mut Entries,
 )
-    requires { Mapped block.now maps.now × (all_entries block.now maps.now ≤ length table.now) ×
-        (length code.old ≡ code_length) × (length changes.old ≡ changes_length) ×
-        (length entries.old ≡ 16384) }
+    requires { Mapped block.now maps.now × (all_entries block.now maps.now ≤ length table.now) }
     ensures { Ready block.now maps.now table.now code.new
         changes.new entries.new }
 {

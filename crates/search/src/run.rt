@@ -46,7 +46,6 @@ pub fn tally_of(run: &Run) -> Tally
 
 // Carries a tally.
 pub fn carry(run: &mut Run, tally: Tally)
-    requires { length run.old ≡ run_length }
     ensures { Carried tally run.old run.new }
 {
     run[VISITS] = tally.visits as u64;
@@ -56,7 +55,7 @@ pub fn carry(run: &mut Run, tally: Tally)
 // Puts the list with one rule more behind the list at depth: its rule, its last state with the ranks of that, and its
 // cost.
 pub fn put(run: &mut Run, depth: usize, rule: usize, word: u64, ranks: u64, cost: u64)
-    requires { (length run.old ≡ run_length) × (depth < 64) × (rule < 64) }
+    requires { (depth < 64) × (rule < 64) }
     ensures { Put depth rule word ranks cost run.old run.new }
 {
     run[RULES + depth] = rule as u64;

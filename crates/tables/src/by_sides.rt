@@ -56,12 +56,10 @@ fn in_range(lists: &Lists, list: usize, count: usize, bound: u16) -> bool
         get_or lists.now (list + j) 0 < bound }
 {
     let mut below = true;
-    let mut j: usize = 0;
-    while j < count {
+    for j in 0..count {
         if bound <= lists[list + j] {
             below = false;
         }
-        j += 1;
     }
     below
 }
@@ -74,14 +72,12 @@ fn entries_pass(table: &[u32], lists: &Lists, count: usize, cost: u64) -> bool
     ensures { result ≡ true → EdgesPass table.now (source_at lists.now)
         (target_at lists.now) count cost }
 {
-    let mut j: usize = 0;
-    while j < count {
+    for j in 0..count {
         let u = index(lists[j]);
         let v = index(lists[TARGETS + j]);
         if !entry_passes(table[u], table[v], cost) {
             return false;
         }
-        j += 1;
     }
     true
 }
@@ -107,8 +103,7 @@ fn zeros(table: &[u32], lists: &Lists, count: usize) -> bool
     requires { count ≤ 16384 }
     ensures { result ≡ true → Zeros table.now (source_at lists.now) count }
 {
-    let mut j: usize = 0;
-    while j < count {
+    for j in 0..count {
         let u = index(lists[j]);
         if table.len() <= u {
             return false;
@@ -116,7 +111,6 @@ fn zeros(table: &[u32], lists: &Lists, count: usize) -> bool
         if table[u] > 0 {
             return false;
         }
-        j += 1;
     }
     true
 }
@@ -131,9 +125,8 @@ fn rule_passes(
     r: usize,
 ) -> bool
     requires { Ready block.now code.now weights.now × (abstract_states block.now ≤ length table.now) ×
-        (r < rules block.now) × (length lists.old ≡ lists_length) }
+        (r < rules block.now) }
     ensures rule_passes { result ≡ true → RulePasses (graph_of block.now) table.now r }
-    ensures lists_len { length lists.new ≡ lists_length }
 {
     let count = find_edges(
         code,
@@ -159,9 +152,8 @@ fn goal_passes(
     g: usize,
 ) -> bool
     requires { Ready block.now code.now weights.now × (abstract_states block.now ≤ length table.now) ×
-        (g < goals block.now) × (length lists.old ≡ lists_length) }
+        (g < goals block.now) }
     ensures goal_passes { result ≡ true → GoalPasses block.now table.now g }
-    ensures lists_len { length lists.new ≡ lists_length }
 {
     let count = find_edges(
         code,
@@ -185,26 +177,20 @@ pub fn passes_by_sides(
     table: &[u32],
     lists: &mut Lists,
 ) -> bool
-    requires { Ready block.now code.now weights.now × (abstract_states block.now ≤ length table.now) ×
-        (length lists.old ≡ lists_length) }
+    requires { Ready block.now code.now weights.now × (abstract_states block.now ≤ length table.now) }
     ensures table_value { result ≡ true → test.passes (graph_of block.now) table.now ≡ true }
-    ensures lists_len { length lists.new ≡ lists_length }
 {
     let goals = layout::goals(block);
-    let mut g: usize = 0;
-    while g < goals {
+    for g in 0..goals {
         if !goal_passes(block, code, weights, table, lists, g) {
             return false;
         }
-        g += 1;
     }
     let rules = layout::rules(block);
-    let mut r: usize = 0;
-    while r < rules {
+    for r in 0..rules {
         if !rule_passes(block, code, weights, table, lists, r) {
             return false;
         }
-        r += 1;
     }
     true
 }

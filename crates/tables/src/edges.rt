@@ -61,13 +61,11 @@ pub fn best(block: &[u8], code: &Code, weights: &Weights, table: &[u32], u: usiz
 {
     let rules = layout::rules(block);
     let mut least = NO_COST;
-    let mut r: usize = 0;
-    while r < rules {
+    for r in 0..rules {
         let cost = via(block, code, weights, table, u, word, r);
         if cost < least {
             least = cost;
         }
-        r += 1;
     }
     least
 }

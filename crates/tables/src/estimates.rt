@@ -19,11 +19,9 @@ fn relabelled_rank(block: &[u8], state: &[u8]) -> usize
 {
     let n = layout::positions(block);
     let mut k: usize = 0;
-    let mut i: usize = 0;
-    while i < n {
+    for i in 0..n {
         let label = layout::abstract_label(block, i, ConcreteLabel(state[i]));
         k = k * layout::abstract_count(block, i) + wide(byte_of(label));
-        i += 1;
     }
     k
 }

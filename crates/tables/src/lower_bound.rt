@@ -54,12 +54,10 @@ fn passes_everywhere(block: &[u8], code: &Code, weights: &Weights, table: &[u32]
     ensures { result ≡ test.passes (graph_of block.now) table.now }
 {
     let states = layout::abstract_states(block);
-    let mut u: usize = 0;
-    while u < states {
+    for u in 0..states {
         if !passes_at(block, code, weights, table, u, word_of(block, u)) {
             return false;
         }
-        u += 1;
     }
     true
 }

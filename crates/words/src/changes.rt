@@ -37,11 +37,9 @@ pub fn ranks_word(changes: &Changes, n: usize, word: u64) -> u64
     ensures { result ≡ ranks_word changes.now n word }
 {
     let mut ranks: u64 = 0;
-    let mut p: usize = 0;
-    while p < n {
+    for p in 0..n {
         let label = digit(word, p) as usize;
         ranks = wrapping_add_u64(ranks, changes[16 * p + label]);
-        p += 1;
     }
     ranks
 }
@@ -64,11 +62,9 @@ pub fn next_ranks(changes: &Changes, r: usize, ranks: u64, word: u64) -> u64
     let mut part = at + 1;
     let mut sum = wrapping_add_u64(ranks, added(changes, part, word));
     let parts = changes[at];
-    let mut j: u64 = 1;
-    while j < parts {
+    for j in 1..parts {
         part += PART;
         sum = wrapping_add_u64(sum, added(changes, part, word));
-        j += 1;
     }
     sum
 }

@@ -36,11 +36,9 @@ pub fn rank_word(weights: &[u16], n: usize, word: u64) -> usize
     let pairs = (n + 1) / 2;
     let mut rank: usize = 0;
     let mut rest = word;
-    let mut j: usize = 0;
-    while j < pairs {
+    for j in 0..pairs {
         rank += weight(weights, j, first_pair(rest));
         rest = rest / 256;
-        j += 1;
     }
     rank
 }

@@ -65,12 +65,10 @@ pub fn met_goal_word(code: &Code, goals: usize, word: u64) -> u8
     requires { goals ≤ 8 }
     ensures { result ≡ goal_byte (met_goal_word code.now goals word) }
 {
-    let mut g: usize = 0;
-    while g < goals {
+    for g in 0..goals {
         if matches_word(code, FIRST_GOAL + g, word) {
             return g as u8;
         }
-        g += 1;
     }
     NO_GOAL
 }

@@ -61,9 +61,6 @@ unfolding head_byte
 bounds-out-wide c =
     omega (arith, kept c, relabel-head-length c.args.block.now)
 
-pub overflow_add-x : goal.overflow_add-x
-overflow_add-x c = omega (arith, c.shared_slice_known-2-1.given 2)
-
 pub loop-x-preserved : goal.loop-x-preserved
 loop-x-preserved c =
     let b = c.args.block.now in
