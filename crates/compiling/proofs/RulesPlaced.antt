@@ -7,13 +7,12 @@ use mathlib.Core.List.{List}
 use Prim.Native.Nat.{ℕ, ◌+◌, ◌*◌, ◌%◌, ◌≤◌, ◌<◌}
 use native.Mathlib.Nat.{mod-eq_of_lt}
 use native.Mathlib.Omega.{arith}
-use lib.ListN.{length, get_or, set, length-set}
+use lib.ListN.{length, get_or, set}
 use lib.Seq.{get_or-set_same, get_or-set_other}
 use Rattle.basics.proofs.Parts.{outside-then, outside-within}
 use Rattle.blocks.specs.Layout.{positions, cost_of, side_at, left_of, right_of}
 use Rattle.blocks.specs.Validity.{Valid}
 use Rattle.words.specs.Sides.{left_place, right_place, goal_place, cost_word}
-use Rattle.words.specs.Code.{code_length}
 use Rattle.words.specs.Compiled.{Tested, Compiled}
 use Rattle.compiling.specs.PlacingSides.{SidePlaced, SidesPlaced, RulePlaced, RulesPlaced, GoalsPlaced}
 use Rattle.compiling.specs.PlacingSides.{CountsPlaced}
@@ -83,7 +82,6 @@ module _
             (get_or-set_other code₁ (816 + r) (816 + k) cost 0 (λ q. omega arith)
             ∙ sides.code.behind (816 + k) (omega arith))
             s;
-        code = length-set code₁ (816 + r) cost ∙ sides.code.len;
       }
 
 -- a goal stays while a later one is placed
@@ -93,19 +91,17 @@ pub goal-kept :
 goal-kept g k h p = tested-kept (goal_place k) (record { element = λ j a c. p.code.before j (omega arith) })
 
 pub compiled :
-    {b code₀ code₁ code₂ code₃ : List ℕ} → Valid b → length code₀ ≡ code_length → RulesPlaced b code₀ code₁
-    → GoalsPlaced b code₁ code₂ → CountsPlaced b code₂ code₃ → Compiled b code₃ × (length code₃ ≡ code_length)
-compiled {b} {code₀} {code₁} {code₂} {code₃} valid len rs gs cs = (
-  record {
-    valid = valid;
-    counted = cs.counted;
-    rule = λ r l.
-        let few : r < 64 = omega (arith, valid.sized.headed.sizes.r_high) in
-        rule-kept r (record { element = λ j a c. cs.code.before j (omega arith) ∙ gs.code.before j (omega arith) })
-        (cs.code.before (816 + r) (omega arith) ∙ gs.code.behind (816 + r) (omega arith)) (rs.rule r l);
-    goal = λ g l.
-        let few : g < 8 = omega (arith, valid.sized.headed.sizes.g_high) in
-        tested-kept (goal_place g) (record { element = λ j a c. cs.code.before j (omega arith) }) (gs.goal g l);
-  },
-  cs.code.len ∙ gs.code.len ∙ rs.code ∙ len,
-)
+    {b code₀ code₁ code₂ code₃ : List ℕ} → Valid b → RulesPlaced b code₀ code₁
+    → GoalsPlaced b code₁ code₂ → CountsPlaced b code₂ code₃ → Compiled b code₃
+compiled {b} {code₀} {code₁} {code₂} {code₃} valid rs gs cs =
+    record {
+      valid = valid;
+      counted = cs.counted;
+      rule = λ r l.
+          let few : r < 64 = omega (arith, valid.sized.headed.sizes.r_high) in
+          rule-kept r (record { element = λ j a c. cs.code.before j (omega arith) ∙ gs.code.before j (omega arith) })
+          (cs.code.before (816 + r) (omega arith) ∙ gs.code.behind (816 + r) (omega arith)) (rs.rule r l);
+      goal = λ g l.
+          let few : g < 8 = omega (arith, valid.sized.headed.sizes.g_high) in
+          tested-kept (goal_place g) (record { element = λ j a c. cs.code.before j (omega arith) }) (gs.goal g l);
+    }

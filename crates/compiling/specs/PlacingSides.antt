@@ -2,7 +2,7 @@
 -- (`Begun`) and with one term more (`WithConstant`, `WithSource`), a side, both sides of a rule, a rule, all rules,
 -- all goals and the counts placed, each with what it keeps of the array. The functions that place sides are stated
 -- with these; what they leave of rules and goals is what `Compiled` asks.
-use Rattle.std.specs.Prelude.{◌≡◌, true, List, ℕ, ◌+◌, ◌*◌, ◌^◌, ◌≤◌, ◌<◌, eqb, length, get_or}
+use Rattle.std.specs.Prelude.{◌≡◌, true, List, ℕ, ◌+◌, ◌*◌, ◌^◌, ◌≤◌, ◌<◌, eqb, get_or}
 use Rattle.std.specs.Int.Bits.{bit_and, bit_or}
 use Rattle.basics.specs.Bounded.{all}
 use Rattle.basics.specs.Parts.{Outside}
@@ -73,12 +73,10 @@ pub record SidesPlaced (n : ℕ) (left right : ℕ → ℕ) (r : ℕ) (code₀ c
 pub record RulePlaced (b : List ℕ) (r : ℕ) (code₀ code₁ : List ℕ) : Type 0 where
   pub rule : RuleAt b code₁ r
   pub others : (k : ℕ) → k < r → RuleAt b code₀ k → RuleAt b code₁ k
-  pub code : length code₁ ≡ length code₀
 
 -- all rules
 pub record RulesPlaced (b code₀ code₁ : List ℕ) : Type 0 where
   pub rule : (r : ℕ) → r < rules b → RuleAt b code₁ r
-  pub code : length code₁ ≡ length code₀
 
 -- all goals; what stands at other places stays
 pub record GoalsPlaced (b code₀ code₁ : List ℕ) : Type 0 where

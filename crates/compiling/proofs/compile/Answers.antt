@@ -5,6 +5,5 @@ use Rattle.compiling.proofs.compile.Goals as goal
 
 pub returns : goal.returns
 returns c =
-    let h = c.requires in
-    compiled h.0 h.1 c.place_rules.ensures
+    compiled c.requires c.place_rules.ensures
     c.place_goals.ensures c.place_counts.ensures

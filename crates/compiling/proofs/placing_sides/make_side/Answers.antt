@@ -1,6 +1,6 @@
 -- `compiling::placing_sides::make_side` meets its contract.
 use mathlib.Core.Path.{◌≡◌, subst}
-use Prim.Native.Nat.{ℕ, ◌-◌}
+use Prim.Native.Nat.{ℕ}
 use native.Mathlib.Omega.{arith}
 use Rattle.blocks.specs.Layout.{side_at}
 use Rattle.compiling.specs.PlacingSides.{Begun}

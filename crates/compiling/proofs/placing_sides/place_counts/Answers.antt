@@ -9,5 +9,5 @@ returns c =
     let n = c.positions in
     let r = c.rules in
     let g = c.goals in
-    counts-placed c.args.block.now c.args.code.now n.result r.result g.result c.requires.1
+    counts-placed c.args.block.now c.args.code.now n.result r.result g.result (search rules)
     n.ensures.0 r.ensures.0 g.ensures.0

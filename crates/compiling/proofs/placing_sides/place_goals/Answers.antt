@@ -1,6 +1,6 @@
 -- `compiling::placing_sides::place_goals` meets its contract.
-use mathlib.Core.Path.{refl, ◌∙◌}
-use Prim.Native.Nat.{◌-◌, ◌*◌}
+use mathlib.Core.Path.{refl}
+use Prim.Native.Nat.{◌*◌}
 use native.Mathlib.Omega.{arith}
 use borrow.Author.Count.{below_more}
 use Rattle.basics.proofs.Parts.{outside-none, outside-then, outside-within}
@@ -21,7 +21,7 @@ loop-g-init c =
     )
 
 pub goal_at-at-requires : goal.goal_at-at-requires
-goal_at-at-requires c = (c.requires.0.headed, omega arith)
+goal_at-at-requires c = (c.requires.headed, omega arith)
 
 pub place_side-requires : goal.place_side-requires
 place_side-requires c =
@@ -29,16 +29,16 @@ place_side-requires c =
     let h = c.requires in
     let inv = c.loop-g.invariant in
     let g = c.loop-g.g in
-    let few = h.0.headed.sizes.g_high in
+    let few = h.headed.sizes.g_high in
     let e = c.goal_at-at.ensures.0 in
-    let l = goal-inside b h.0 g (omega arith) in
-    (omega arith, omega arith, omega (arith, h.0.headed.sizes.n_high), omega arith, inv.3.len ∙ h.1)
+    let l = goal-inside b h g (omega arith) in
+    (omega arith, omega arith, omega (arith, h.headed.sizes.n_high), omega arith)
 
 pub loop-g-preserved : goal.loop-g-preserved
 loop-g-preserved c =
     let b = c.args.block.now in
     let h = c.requires in
-    let few = h.0.headed.sizes.g_high in
+    let few = h.headed.sizes.g_high in
     let inv = c.loop-g.invariant in
     let g = c.loop-g.g in
     let at = c.goal_at-at.ensures.0 in

@@ -16,7 +16,7 @@ place_sides-requires c =
     let f = c.right_at-right.ensures.0 in
     let l = left-inside b h.0 c.args.r h.1 in
     let k = right-inside b h.0 c.args.r h.1 in
-    (omega arith, omega arith, omega (arith, h.0.headed.sizes.n_high), omega (arith, h.0.headed.sizes.r_high), h.2)
+    (omega arith, omega arith, omega (arith, h.0.headed.sizes.n_high), omega (arith, h.0.headed.sizes.r_high))
 
 pub returns : goal.returns
 returns c =
@@ -25,6 +25,6 @@ returns c =
     let left = c.left_at-left.ensures.0 in
     let right = c.right_at-right.ensures.0 in
     let few : c.args.r < 64 = omega (arith, c.requires.1, c.requires.0.headed.sizes.r_high) in
-    rule-placed b c.args.r c.wide.result few (omega (arith, c.requires.2))
+    rule-placed b c.args.r c.wide.result few (omega arith)
     (sides-as b n left right c.place_sides.ensures)
     (c.wide.ensures.0 ∙ c.cost.ensures) c.wide.ensures.1

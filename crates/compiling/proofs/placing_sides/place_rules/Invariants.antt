@@ -1,16 +1,12 @@
 -- `compiling::placing_sides::place_rules` meets its contract.
 -- The loop's invariant: the rules passed are placed.
 use mathlib.Core.Path.{◌≡◌}
-use Prim.Native.Nat.{ℕ, ◌≤◌, ◌<◌, ◌-◌}
-use lib.ListN.{length}
+use Prim.Native.Nat.{ℕ, ◌≤◌, ◌<◌}
 use Rattle.blocks.specs.Layout.{rules}
 use Rattle.words.specs.Compiled.{RuleAt}
 use Rattle.compiling.proofs.placing_sides.place_rules.Given as goal
 
 abbrev pub invariant-loop-r : goal.invariant-loop-r
 invariant-loop-r l =
-    (l.count ≡ rules l.block) × (l.r ≤ l.count) × (length l.code ≡ length l.initial.code)
+    (l.count ≡ rules l.block) × (l.r ≤ l.count)
     × ((k : ℕ) → k < l.r → RuleAt l.block l.code k)
-
-abbrev pub decreases-loop-r : goal.decreases-loop-r
-decreases-loop-r l = l.count - l.r

@@ -19,10 +19,9 @@ loop-i-init c =
     let p : ℕ → ℕ = λ i. place_value (abstract_count b) i (positions b - i) in (
       search rules,
       sym (ap p c.positions-i.ensures.0 ∙ place-last (abstract_count b) (positions b)),
-      c.requires.1,
       λ j x a l. absurd (omega arith),
-      λ k l. c.requires.2 k,
-      λ k. omega (arith, c.requires.2 k),
+      λ k l. c.requires.1 k,
+      λ k. omega (arith, c.requires.1 k),
     )
 
 -- p is the place value behind position i, and with its base that at i
@@ -64,7 +63,6 @@ place_row-requires c = (
   c.requires.0,
   omega arith,
   omega (arith, counted c, few c),
-  c.loop-i.invariant.2,
 )
 
 pub abstract_count-p-requires : goal.abstract_count-p-requires
@@ -124,14 +122,13 @@ loop-i-preserved c =
     let row = c.place_row.ensures in (
       omega arith,
       product c,
-      row.singles.len ∙ l.invariant.2,
-      rows_more i (behind-2 c) row (λ j x a. l.invariant.3 j x (omega arith)),
-      λ k m. row.singles.behind k (omega arith) ∙ l.invariant.4 k m,
-      row.low l.invariant.5,
+      rows_more i (behind-2 c) row (λ j x a. l.invariant.2 j x (omega arith)),
+      λ k m. row.singles.behind k (omega arith) ∙ l.invariant.3 k m,
+      row.low l.invariant.4,
     )
 
 pub returns : goal.returns
 returns c =
     let e : c.loop-i.i ≡ 0 = omega arith in
     let inv = c.loop-i.invariant in
-    record { weight = λ i x. inv.3 i x (omega arith); behind = inv.4; low = inv.5 }
+    record { weight = λ i x. inv.2 i x (omega arith); behind = inv.3; low = inv.4 }
