@@ -3,7 +3,7 @@ use mathlib.Core.Path.{◌≡◌, sym, ap, ap₂, ◌∙◌}
 use mathlib.Core.Logic.{⊎_elim}
 use mathlib.Core.Bool.{◌&&◌}
 use mathlib.Core.List.{List}
-use Prim.Native.Nat.{ℕ, ◌≤◌, ◌<◌, ◌+◌, ◌*◌, ◌-◌, ◌/◌, ◌%◌}
+use Prim.Native.Nat.{ℕ, ◌≤◌, ◌<◌, ◌+◌, ◌*◌, ◌/◌, ◌%◌}
 use native.Mathlib.Omega.{arith}
 use lib.Dec.{ltb}
 use lib.ListN.{length, get_or, set}
@@ -14,6 +14,7 @@ use Rattle.basics.proofs.Parts.{outside-none, outside_set}
 use Rattle.words.specs.Code.{code_length, sets_place, counts_place}
 use Rattle.rule_sets.specs.Agreeing.{agrees_at, Agreeing}
 use Rattle.rule_sets.proofs.KeptRules.{agreeing-kept, set-kept}
+use borrow.Author.Rules.{rules}
 use Rattle.rule_sets.proofs.place_label_sets.Goals as goal
 use Rattle.rule_sets.proofs.place_label_sets.Invariants.{Written}
 
@@ -39,7 +40,6 @@ loop-k-init c = (
   omega arith,
   c.requires.0,
   c.requires.1,
-  c.requires.2,
   outside-none sets_place counts_place c.args.code.now,
   λ m l. absurd (omega arith),
 )
@@ -50,14 +50,13 @@ set_of-requires c = (omega arith, omega arith)
 pub loop-k-preserved : goal.loop-k-preserved
 loop-k-preserved c =
     let l = c.loop-k in
-    let more = outside_set (sets_place + l.k) c.set_of.result (omega arith) (omega arith) l.invariant.4 in (
+    let more = outside_set (sets_place + l.k) c.set_of.result (omega arith) (omega arith) l.invariant.3 in (
       omega arith,
       l.invariant.1,
       l.invariant.2,
-      more.len ∙ c.requires.2,
       more,
-      written-more l.code c.args.rules l.k c.set_of.result l.invariant.3 l.invariant.1 (omega arith)
-          l.invariant.5 c.set_of.ensures,
+      written-more l.code c.args.rules l.k c.set_of.result (search rules) l.invariant.1 (omega arith)
+          l.invariant.4 c.set_of.ensures,
     )
 
 pub returns : goal.returns
@@ -68,8 +67,8 @@ returns c = (
         let l = c.loop-k in
         let d : (16 * i + x) / 16 ≡ i = omega arith in
         let m : (16 * i + x) % 16 ≡ x = omega arith in
-        l.invariant.5 (16 * i + x) (omega arith) r
+        l.invariant.4 (16 * i + x) (omega arith) r
         ∙ ap₂ (λ (y z : ℕ). ltb r a.rules && agrees_at l.code r y z) d m;
   },
-  c.loop-k.invariant.4,
+  c.loop-k.invariant.3,
 )

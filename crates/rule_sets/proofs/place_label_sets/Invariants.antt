@@ -1,11 +1,10 @@
 -- `rule_sets::place_label_sets` meets its contract.
 -- The loop's invariant: nothing but sets is written, and the sets before k are those of the code's rules.
-use mathlib.Core.Path.{◌≡◌}
 use mathlib.Core.List.{List}
-use Prim.Native.Nat.{ℕ, ◌≤◌, ◌<◌, ◌+◌, ◌*◌, ◌-◌, ◌/◌, ◌%◌}
-use lib.ListN.{length, get_or}
+use Prim.Native.Nat.{ℕ, ◌≤◌, ◌<◌, ◌+◌, ◌*◌, ◌/◌, ◌%◌}
+use lib.ListN.{get_or}
 use Rattle.basics.specs.Parts.{Outside}
-use Rattle.words.specs.Code.{code_length, sets_place, counts_place}
+use Rattle.words.specs.Code.{sets_place, counts_place}
 use Rattle.rule_sets.specs.Agreeing.{Agreeing}
 use Rattle.rule_sets.proofs.place_label_sets.Given as goal
 
@@ -15,9 +14,6 @@ Written code rules k = (m : ℕ) → m < k → Agreeing code rules (m / 16) (m %
 
 abbrev pub invariant-loop-k : goal.invariant-loop-k
 invariant-loop-k l =
-    (l.k ≤ 16 * l.n) × (l.rules ≤ 64) × (l.n ≤ 16) × (length l.code ≡ code_length)
+    (l.k ≤ 16 * l.n) × (l.rules ≤ 64) × (l.n ≤ 16)
     × Outside sets_place counts_place l.initial.code l.code
     × Written l.code l.rules l.k
-
-abbrev pub decreases-loop-k : goal.decreases-loop-k
-decreases-loop-k l = 16 * l.n - l.k
