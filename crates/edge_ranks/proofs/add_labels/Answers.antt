@@ -1,6 +1,6 @@
 -- `edge_ranks::add_labels` meets its contract.
 use mathlib.Core.Path.{sym, ap, ◌∙◌}
-use Prim.Native.Nat.{ℕ, ◌-◌, ◌%◌}
+use Prim.Native.Nat.{ℕ, ◌%◌}
 use native.Mathlib.Nat.{one-mul}
 use native.Mathlib.Omega.{arith}
 use Rattle.edge_ranks.specs.Lists.{first_rank, second_rank}
@@ -10,21 +10,21 @@ use Rattle.edge_ranks.proofs.add_labels.Goals as goal
 pub loop-label-init : goal.loop-label-init
 loop-label-init c =
     let n = c.args.count in
-    (omega arith, omega arith, omega arith, sym (one-mul n), c.requires.lists_len.0, grown-none n, grown-none n)
+    (omega arith, omega arith, sym (one-mul n), grown-none n, grown-none n)
 
 pub returns-then-at-count : goal.returns-then-at-count
 returns-then-at-count c = let i = c.loop-label.invariant in
-    record { labels_added = grown-over i.5; labels_added_2 = grown-over i.6; lists_len_2 = i.4 }
+    record { labels_added = grown-over i.3; labels_added_2 = grown-over i.4 }
 
 pub extend-requires : goal.extend-requires
 extend-requires c =
     let i = c.loop-label.invariant in
-    (i.4, i.2, omega arith, c.difference.ensures.0)
+    (i.1, omega arith, c.difference.ensures.0)
 
 pub extend-requires-in-loop-label : goal.extend-requires-in-loop-label
 extend-requires-in-loop-label c =
     let i = c.loop-label.invariant in
-    (c.extend.ensures.outside.len ∙ i.4, i.2, omega arith, c.difference-in-loop-label.ensures.0)
+    (i.1, omega arith, c.difference-in-loop-label.ensures.0)
 
 pub loop-label-preserved : goal.loop-label-preserved
 loop-label-preserved c =
@@ -38,22 +38,19 @@ loop-label-preserved c =
     let second =
     c.difference-in-loop-label.ensures.1 ∙ c.second_rank_by-second.ensures
     ∙ ap (λ (w : ℕ). g w % 16384) c.single-word.ensures in
-    let longer = longer-both c.extend.ensures c.extend-in-loop-label.ensures l.invariant.2 (omega arith) in (
+    let longer = longer-both c.extend.ensures c.extend-in-loop-label.ensures l.invariant.1 (omega arith) in (
       omega arith,
       omega arith,
-      omega arith,
-      next-at a.count l.label l.at l.invariant.3,
-      c.extend-in-loop-label.ensures.outside.len ∙ c.extend.ensures.outside.len ∙ l.invariant.4,
-      grown-more l.invariant.5 longer.0 l.invariant.3 l.invariant.2 first,
-      grown-more l.invariant.6 longer.1 l.invariant.3 l.invariant.2 second,
+      next-at a.count l.label l.at l.invariant.2,
+      grown-more l.invariant.3 longer.0 l.invariant.2 l.invariant.1 first,
+      grown-more l.invariant.4 longer.1 l.invariant.2 l.invariant.1 second,
     )
 
 pub returns : goal.returns
 returns c =
     let i = c.loop-label.invariant in
     record {
-      labels_added = grown-all i.5 (omega arith) i.1 i.2 i.3;
+      labels_added = grown-all i.3 (omega arith) i.0 i.1 i.2;
       labels_added_2 =
-          grown-all i.6 (omega arith) i.1 i.2 i.3;
-      lists_len_2 = i.4;
+          grown-all i.4 (omega arith) i.0 i.1 i.2;
     }

@@ -17,16 +17,15 @@ loop-p-init c =
     let first = c.rank_by.result in
     let second = c.second_rank_by.result in
     let front = set old 0 first in
-    let len : length front ≡ lists_length = length-set old 0 first ∙ c.requires.code_bound.4 in
+    let len : length front ≡ lists_length = length-set old 0 first ∙ omega arith in
     let source =
     get_or-set_other front 16384 0 second 0 (λ e. omega arith)
-    ∙ get_or-set_same old 0 first 0 (omega (arith, c.requires.code_bound.4)) ∙ c.rank_by.ensures in
+    ∙ get_or-set_same old 0 first 0 (omega arith) ∙ c.rank_by.ensures in
     let target = get_or-set_same front 16384 second 0 (omega (arith, len)) ∙ c.second_rank_by.ensures in
     let f = first_rank a.code.now a.weights.now a.x in
     let g = second_rank a.code.now a.weights.now a.x a.y in (
       omega (arith, c.position_count-p.ensures),
       omega arith,
-      length-set front 16384 second ∙ len,
       source,
       target,
       λ z.
@@ -41,7 +40,7 @@ add_labels-count-requires c =
     record {
       code_bound = (q.0, q.1, q.2, q.3, omega arith, l.invariant.1);
       lists_len =
-          (l.invariant.2, omega (arith, l.invariant.3), omega (arith, l.invariant.4));
+          (omega (arith, l.invariant.2), omega (arith, l.invariant.3));
     }
 
 pub loop-p-preserved-then-not-is_idle : goal.loop-p-preserved-then-not-is_idle
@@ -56,14 +55,13 @@ loop-p-preserved-then-not-is_idle c =
     let e : l.p ≡ suc (l.p - 1) = omega (arith, k) in (
       omega (arith, l.invariant.0),
       q.labels_added.few,
-      q.lists_len_2,
-      q.labels_added.front ∙ l.invariant.3,
-      q.labels_added_2.front ∙ l.invariant.4,
+      q.labels_added.front ∙ l.invariant.2,
+      q.labels_added_2.front ∙ l.invariant.3,
       λ z.
           listed_more f g n a.labels c.requires.additive c.requires.additive_2 (l.p - 1)
           (omega (arith, k, l.invariant.0)) _ _ _ _
-          l.count c.add_labels-count.result l.invariant.3 l.invariant.4 q.labels_added q.labels_added_2 z
-          (rw e at (l.invariant.5 (q.labels_added.not_none z))),
+          l.count c.add_labels-count.result l.invariant.2 l.invariant.3 q.labels_added q.labels_added_2 z
+          (rw e at (l.invariant.4 (q.labels_added.not_none z))),
     )
 
 pub loop-p-preserved : goal.loop-p-preserved
@@ -80,18 +78,17 @@ loop-p-preserved c =
       l.invariant.1,
       l.invariant.2,
       l.invariant.3,
-      l.invariant.4,
       λ z.
           listed-idle f g n a.labels c.requires.additive c.requires.additive_2 (l.p - 1) (omega arith) _ _ l.count
           (λ k m b. (
             ap (rank_word a.weights.now n) (idle k m b),
             ap (first_rank a.code.now a.weights.now a.y) (idle k m b),
           ))
-          (rw e at (l.invariant.5 z)),
+          (rw e at (l.invariant.4 z)),
     )
 
 pub returns : goal.returns
 returns c =
     let l = c.loop-p in
     let e : l.p ≡ 0 = omega arith in
-    record { listed = rw e at l.invariant.5; upper_bound = (l.invariant.1, l.invariant.2) }
+    record { listed = rw e at l.invariant.4; upper_bound = l.invariant.1 }
