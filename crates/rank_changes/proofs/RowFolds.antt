@@ -29,13 +29,13 @@ with-weights weights constant rows rows' e = omega arith
 
 module _ (n : ℕ) (left : ℕ → ℕ) where
   pub folded-none : {rows : List ℕ} {constant : ℕ} → Folded n left rows constant rows constant
-  folded-none = record { summed = λ s small m. refl; len = refl }
+  folded-none = record { summed = λ s small m. refl }
 
   pub folded_then :
       {rows₀ rows₁ rows₂ : List ℕ} {constant₀ constant₁ constant₂ : ℕ} → Folded n left rows₀ constant₀ rows₁ constant₁
       → Folded n left rows₁ constant₁ rows₂ constant₂ → Folded n left rows₀ constant₀ rows₂ constant₂
   folded_then f g =
-      record { summed = λ s small m. g.summed s small m ∙ f.summed s small m; len = g.len ∙ f.len }
+      record { summed = λ s small m. g.summed s small m ∙ f.summed s small m }
 
   pub row-folded :
       {rows rows' : List ℕ} (constant p : ℕ) → p < n → (c : ConcreteLabel) (x : ℕ) → term_of (left p) ≡ Label c
@@ -46,7 +46,6 @@ module _ (n : ℕ) (left : ℕ → ℕ) where
         summed = λ s small m.
             moved constant (sum_to (entry_of rows s) n) (sum_to (entry_of rows' s) n) (entry rows p x)
             (sum_one (entry_of rows' s) (entry_of rows s) p (entry rows p x) n l (kept s small) (fell s small m));
-        len = cleared.rows.len;
       }
     where
       -- the label of a state that matches
@@ -76,7 +75,6 @@ module _ (n : ℕ) (left : ℕ → ℕ) where
   constant-folded p l folded added =
       record {
         summed = λ s small m. omega (arith, folded.summed s small m, sum_added added n l s small);
-        len = added.rows.len ∙ folded.len;
       }
 
   -- the weights of the labels that the right side's terms give, for a state that matches

@@ -115,7 +115,6 @@ module _ (n : ℕ) (left right : ℕ → ℕ) (singles : List ℕ) (few : n ≤ 
   balanced-none {rows} begun =
       record {
         summed = λ s small. omega (arith, begun-sum singles rows s begun n few small);
-        len = begun.len;
       }
 
   module _ {rows : List ℕ} {constant i : ℕ} (b : Balanced n left right singles rows constant i) where
@@ -139,7 +138,6 @@ module _ (n : ℕ) (left right : ℕ → ℕ) (singles : List ℕ) (few : n ≤ 
               (b.summed s small)
               (more s (entry singles i x)
               (ap (λ t. entry singles i (given n left s i t)) e ∙ ap (entry singles i) (sym f)));
-          len = b.len;
         }
 
     pub row_more :
@@ -153,5 +151,4 @@ module _ (n : ℕ) (left right : ℕ → ℕ) (singles : List ℕ) (few : n ≤ 
               (sum_to (entry_of rows' s) n)
               _ d _ (b.summed s small) (more s d (ap (entry singles i) (label s)))
               (sum_added added n l s small);
-          len = added.rows.len ∙ b.len;
         }

@@ -1,13 +1,13 @@
 -- What writing the changes leaves: the weights of single labels in front (`SinglesCopied`), the change of a rule
 -- (`ChangeAt`, `ChangePlaced`), and of all rules (`ChangesPlaced`). The functions that write changes are stated with
 -- these; together they make the array `Changed`.
-use Rattle.std.specs.Prelude.{◌≡◌, ℕ, ◌+◌, ◌<◌, ◌≤◌, true, List, length, slice_index}
+use Rattle.std.specs.Prelude.{◌≡◌, ℕ, ◌+◌, ◌<◌, ◌≤◌, true, List, slice_index}
 use Rattle.basics.specs.Parts.{Outside}
 use Rattle.blocks.specs.Layout.{positions, rules}
 use Rattle.blocks.specs.States.{state_ok}
 use Rattle.psvn.specs.Rules.{applies, step}
 use Rattle.words.specs.Packing.{unpack}
-use Rattle.words.specs.Changes.{changes_length, ranks_of, ranks_word, change_place, part_count, next_ranks}
+use Rattle.words.specs.Changes.{ranks_of, ranks_word, change_place, part_count, next_ranks}
 
 -- the weights of single labels in front; the rest stays
 pub record SinglesCopied (singles changes₀ changes₁ : List ℕ) : Type 0 where
@@ -31,5 +31,4 @@ pub record ChangePlaced (b singles : List ℕ) (r : ℕ) (changes₀ changes₁ 
 -- the changes of all rules; the weights and the number of maps stay
 pub record ChangesPlaced (b singles changes₀ changes₁ : List ℕ) : Type 0 where
   pub change : (r : ℕ) → r < rules b → ChangeAt b singles changes₁ r
-  pub len : length changes₁ ≡ changes_length
   pub front : (k : ℕ) → k < 257 → slice_index changes₁ k ≡ slice_index changes₀ k

@@ -1,6 +1,6 @@
 -- What folding rows into the constant leaves: a row that adds nothing (`RowCleared`), and for every state that matches
 -- the left side the same sum (`Folded`). The functions that fold are stated with these.
-use Rattle.std.specs.Prelude.{◌≡◌, ℕ, ◌+◌, ◌*◌, ◌%◌, ◌<◌, true, List, length, slice_index}
+use Rattle.std.specs.Prelude.{◌≡◌, ℕ, ◌+◌, ◌*◌, ◌%◌, ◌<◌, true, List, slice_index}
 use Rattle.basics.specs.Parts.{Outside}
 use Rattle.basics.specs.Sums.{sum_to}
 use Rattle.psvn.specs.Rules.{matches}
@@ -19,4 +19,3 @@ pub record Folded
   pub summed :
       (s : List ℕ) → ((p : ℕ) → p < n → slice_index s p < 16) → matches n left s ≡ true
       → (constant₁ + sum_to (entry_of rows₁ s) n) % word_span ≡ (constant₀ + sum_to (entry_of rows₀ s) n) % word_span
-  pub len : length rows₁ ≡ length rows₀

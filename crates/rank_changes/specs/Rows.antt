@@ -1,7 +1,7 @@
 -- What a rule adds to ranks, on the way: a row of sixteen entries for each position, what each label there adds, and
 -- a constant. With the weights of a state's labels they make the weights of the labels that the right side's terms
 -- give (`Balanced`). All sums are those of words of 64 bits. The functions that make rows are stated with these.
-use Rattle.std.specs.Prelude.{◌≡◌, ℕ, ◌+◌, ◌*◌, ◌%◌, ◌<◌, true, List, length, slice_index}
+use Rattle.std.specs.Prelude.{◌≡◌, ℕ, ◌+◌, ◌*◌, ◌%◌, ◌<◌, true, List, slice_index}
 use Rattle.basics.specs.Parts.{Outside}
 use Rattle.basics.specs.Sums.{sum_to}
 use Rattle.blocks.specs.Terms.{term_of}
@@ -23,7 +23,6 @@ pub record Bound (n : ℕ) (left right : ℕ → ℕ) : Type 0 where
 
 -- each entry takes the weight of its label away
 pub record RowsBegun (singles rows : List ℕ) : Type 0 where
-  pub len : length rows ≡ 256
   pub taken : (k : ℕ) → k < 256 → (slice_index rows k + slice_index singles k) % word_span ≡ 0
 
 -- the row of position p with d added to its first x entries
@@ -38,4 +37,3 @@ pub record Balanced (n : ℕ) (left right : ℕ → ℕ) (singles rows : List �
       (s : List ℕ) → ((p : ℕ) → p < n → slice_index s p < 16)
       → (sum_to (entry_of singles s) n + constant + sum_to (entry_of rows s) n) % word_span
       ≡ sum_to (λ k. entry singles k (given n left s k (term_of (right k)))) i % word_span
-  pub len : length rows ≡ 256

@@ -10,7 +10,7 @@ returns c =
     let placed = c.place_rule_changes.ensures in
     let maps = placed.front 256 (omega arith) ∙ copied.changes.behind 256 (omega arith) in
     record {
-      changed = changed c.args.block.now c.requires.0 copied placed;
+      changed = changed c.args.block.now c.requires copied placed;
       by_index =
-          (singles-kept copied placed, placed.len, maps);
+          (singles-kept copied placed, maps);
     }

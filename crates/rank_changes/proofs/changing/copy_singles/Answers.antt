@@ -1,5 +1,5 @@
 -- `rank_changes::changing::copy_singles` meets its contract.
-use Rattle.std.proofs.Common.{ℕ, ◌-◌, get_or, refl, arith, rules}
+use Rattle.std.proofs.Common.{ℕ, get_or, refl, arith, rules}
 use Rattle.basics.proofs.Lists.{set_more}
 use Rattle.basics.proofs.Parts.{outside-none, outside_set}
 use Rattle.rank_changes.proofs.changing.copy_singles.Goals as goal

@@ -1,7 +1,7 @@
 -- `rank_changes::changing::place_change` meets its contract.
 -- Both sides lie in the block, and every right variable stands on the left; the constant is folded into the row of the
 -- first part, which is one of the positions.
-use Rattle.std.proofs.Common.{◌<◌, refl, arith}
+use Rattle.std.proofs.Common.{◌<◌, arith, rules}
 use Rattle.blocks.proofs.Accepted.{right_bound}
 use Rattle.blocks.proofs.Offsets.{left-inside, right-inside}
 use Rattle.rank_changes.proofs.RowFolds.{constant-folded}
@@ -19,7 +19,7 @@ add_terms-added-requires c =
     let l = left-inside b h.0.sized c.args.r h.1 in
     let k = right-inside b h.0.sized c.args.r h.1 in
     record {
-      n_in_bounds = (omega arith, omega arith, omega (arith, h.0.sized.headed.sizes.n_high), refl);
+      n_in_bounds = (omega arith, omega arith, omega (arith, h.0.sized.headed.sizes.n_high));
       bound =
           rw (n, left, right) (record { at = right_bound b h.0 c.args.r h.1 });
     }
@@ -30,7 +30,7 @@ fold_terms-constant-requires c =
     let n = c.positions-n.ensures.0 in
     let left = c.left_at-left.ensures.0 in
     let l = left-inside c.args.block.now h.0.sized c.args.r h.1 in
-    (omega arith, omega (arith, h.0.sized.headed.sizes.n_high), c.add_terms-added.ensures.len)
+    (omega arith, omega (arith, h.0.sized.headed.sizes.n_high))
 
 -- the rule is one of 64
 few-rules : (c : After-place_parts-count) → c.args.r < 64
@@ -64,4 +64,4 @@ returns c =
     constant-folded _ _ first.result first.ensures c.fold_terms-constant.ensures
     c.add_constant.ensures in
     change-placed b h.0 h.1 n left right c.add_terms-added.ensures folded
-    first.ensures c.place_parts-count.ensures h.2
+    first.ensures c.place_parts-count.ensures (search rules)

@@ -1,5 +1,5 @@
 -- `rank_changes::folding::clear_row` meets its contract.
-use Rattle.std.proofs.Common.{◌+◌, ◌-◌, ◌*◌, ◌∙◌, arith, get_or-set_other, get_or-set_same, rules, below_more}
+use Rattle.std.proofs.Common.{◌+◌, ◌*◌, ◌∙◌, arith, get_or-set_other, get_or-set_same, rules, below_more}
 use Rattle.basics.proofs.Parts.{outside-none, outside_set}
 use Rattle.rank_changes.proofs.folding.clear_row.Goals as goal
 

@@ -1,5 +1,5 @@
 -- `rank_changes::parts::add_constant` meets its contract.
-use Rattle.std.proofs.Common.{◌≡◌, ◌-◌, arith, rules}
+use Rattle.std.proofs.Common.{◌≡◌, arith, rules}
 use Rattle.rank_changes.proofs.RowSums.{added_none, added_more}
 use Rattle.rank_changes.proofs.parts.add_constant.Goals as goal
 
@@ -10,7 +10,7 @@ pub loop-x-preserved : goal.loop-x-preserved
 loop-x-preserved c =
     let sum = c.wrapping_add_u64 in (
       search rules,
-      added_more sum.result c.requires.1 (omega arith) (omega arith) sum.ensures.value
+      added_more sum.result (search rules) (omega arith) (omega arith) sum.ensures.value
           c.loop-x.invariant.1,
     )
 

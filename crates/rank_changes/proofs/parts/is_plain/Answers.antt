@@ -1,5 +1,5 @@
 -- `rank_changes::parts::is_plain` meets its contract.
-use Rattle.std.proofs.Common.{◌+◌, ◌-◌, ◌*◌, true, eqb, get_or, sym, arith, rules, below_more, eq-eqb, ne_eqb}
+use Rattle.std.proofs.Common.{◌+◌, ◌*◌, eqb, get_or, sym, arith, rules, below_more, eq-eqb, ne_eqb}
 use Rattle.basics.proofs.Bounded.{all-false, all-passed}
 use Rattle.rank_changes.proofs.parts.is_plain.Goals as goal
 

@@ -1,5 +1,5 @@
 -- `rank_changes::parts::place_part` meets its contract.
-use Rattle.std.proofs.Common.{◌+◌, ◌-◌, ◌*◌, set, ◌∙◌, arith, length-set, get_or-set_other, get_or-set_same, rules}
+use Rattle.std.proofs.Common.{◌+◌, ◌*◌, set, ◌∙◌, arith, length-set, get_or-set_other, get_or-set_same, rules}
 use Rattle.std.proofs.Common.{below_more}
 use Rattle.basics.proofs.Parts.{outside-none, outside_set, outside-then}
 use Rattle.rank_changes.specs.Rows.{entry}

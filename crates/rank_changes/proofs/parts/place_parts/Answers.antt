@@ -1,5 +1,5 @@
 -- `rank_changes::parts::place_parts` meets its contract.
-use Rattle.std.proofs.Common.{◌≡◌, ◌-◌, sym, ◌∙◌, ⊎_elim, arith, rules}
+use Rattle.std.proofs.Common.{◌≡◌, sym, ◌∙◌, arith, rules}
 use Rattle.rank_changes.proofs.PartsWritten.{parts_none, parts-as, part-more, plain_more}
 use Rattle.rank_changes.proofs.parts.place_parts.Goals as goal
 use Rattle.rank_changes.proofs.parts.place_parts.Goals.{then-is_part, else-is_part}
@@ -17,7 +17,7 @@ pub place_part-requires : goal.place_part-requires
 place_part-requires c =
     let l = c.loop-p in
     let few = l.invariant.1.few in
-    (omega arith, omega arith, l.invariant.1.changes.len ∙ c.requires.2)
+    (omega arith, omega arith)
 
 pub loop-p-preserved : goal.loop-p-preserved
 loop-p-preserved c =

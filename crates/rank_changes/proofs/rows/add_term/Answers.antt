@@ -19,7 +19,7 @@ add_row-requires c =
     let e = sym c.decode-term.ensures ∙ c.in-Variable.is in
     let first = c.first_of-p in
     let below = source-below h.bound h.n_in_bounds.3 _ first.result e first.ensures in
-    (omega arith, omega arith, h.balanced.len)
+    (omega arith, omega arith)
 
 pub returns-in-Label : goal.returns-in-Label
 returns-in-Label c =

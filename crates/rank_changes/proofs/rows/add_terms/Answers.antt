@@ -1,5 +1,5 @@
 -- `rank_changes::rows::add_terms` meets its contract.
-use Rattle.std.proofs.Common.{◌≡◌, ℕ, ◌-◌, subst, arith, rules}
+use Rattle.std.proofs.Common.{◌≡◌, ℕ, subst, arith, rules}
 use Rattle.blocks.specs.Layout.{side_at}
 use Rattle.rank_changes.specs.Rows.{Balanced}
 use Rattle.rank_changes.proofs.RowSums.{balanced-none}
