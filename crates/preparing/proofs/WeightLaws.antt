@@ -60,7 +60,7 @@ added_more {own} {singles₀} {singles₁} {begin} {n} {x} l a e =
 pub added-all :
     {own singles₀ singles₁ : List ℕ} {begin n : ℕ} → n ≡ 256 → AddedTo own begin n singles₀ singles₁
     → MapAdded own begin singles₀ singles₁
-added-all e a = record { len = a.len; weight = λ k l. a.passed k (omega arith) }
+added-all e a = record { weight = λ k l. a.passed k (omega arith) }
 
 -- the place of a label
 place-position : (p x : ℕ) → x < 16 → (16 * p + x) / 16 ≡ p
@@ -71,7 +71,6 @@ pub map-placed :
     → MapAdded own begin singles₀ singles₁ → MapPlaced c begin singles₀ singles₁
 map-placed {c} {own} {singles₀} {singles₁} {begin} v s a =
     record {
-      len = a.len;
       weight = λ p x l m.
           let few = label-count-low c v.sized.headed p in
           let behind = 65536 * (get_or singles₀ (16 * p + x) 0 % three_ranks) in
@@ -107,12 +106,11 @@ at-first-low begin p = go (ltb p 1)
 module _ {b maps : List ℕ} (k : Mapped b maps) where
   -- none is packed yet
   pub packed_none :
-      (i n : ℕ) (singles : List ℕ) → n ≡ 0 → length singles ≡ 256 → ((j : ℕ) → get_or singles j 0 ≡ 0)
+      (i n : ℕ) (singles : List ℕ) → n ≡ 0 → ((j : ℕ) → get_or singles j 0 ≡ 0)
       → WeightsPacked b maps i n singles
   unfolding packed_from
-  packed_none i n singles e long zeros =
+  packed_none i n singles e zeros =
       record {
-        len = long;
         weight = λ p x l m. zeros (16 * p + x) ∙ sym (ap (packed_from (place_weight b maps p x) i) e);
       }
 
@@ -142,7 +140,6 @@ module _ {b maps : List ℕ} (k : Mapped b maps) where
   unfolding packed_from
   packed-next i n more begin singles₀ singles₁ e one at w a =
       record {
-        len = a.len;
         weight = λ p x l m.
             let same = exercise-alike b maps i in
             let count = ap (λ (f : ℕ → ℕ). f p) same.labels_same in

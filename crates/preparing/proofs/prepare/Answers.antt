@@ -9,12 +9,11 @@ use Rattle.words.proofs.KeptCode.{compiled-kept}
 use Rattle.rank_changes.proofs.RankAfter.{ranks-front}
 use Rattle.preparing.specs.Prepared.{Packed}
 use Rattle.preparing.proofs.PackedRanks.{packed-ranks, all-ranks-low}
-use borrow.Author.Rules.{rules}
 use Rattle.preparing.proofs.prepare.Goals as goal
 use Rattle.preparing.proofs.prepare.Goals.{After-place_changes}
 
 pub compile-requires : goal.compile-requires
-compile-requires c = (c.requires.0.valid 0 (omega arith), c.requires.1)
+compile-requires c = c.requires.valid 0 (omega arith)
 
 -- the ranks tell where entries stand
 packed :
@@ -28,10 +27,10 @@ packed c =
     let count = c.further_maps in
     let told : 1 + count.result ≡ all_maps b maps = omega (arith, count.ensures) in
     record {
-      maps_told = kept.2 ∙ get_or-set_same c.args.changes.now 256 _ 0 (omega (arith, c.requires.2)) ∙ told;
+      maps_told = kept.1 ∙ get_or-set_same c.args.changes.now 256 _ 0 (omega arith) ∙ told;
       ranks = λ t ok.
-          ranks-front b (c.requires.0.valid 0 (omega arith)) _ _ kept.0 t ok
-          ∙ packed-ranks b maps c.requires.0 t ok _ c.packed_weights-singles.ensures;
+          ranks-front b (c.requires.valid 0 (omega arith)) _ _ kept.0 t ok
+          ∙ packed-ranks b maps c.requires t ok _ c.packed_weights-singles.ensures;
     }
 
 pub returns : goal.returns
@@ -39,13 +38,13 @@ returns c =
     let sets = c.place_sets.ensures in
     let p = packed c in record {
       prepared = record {
-        compiled = compiled-kept sets.1 c.compile.ensures.0;
+        compiled = compiled-kept sets.1 c.compile.ensures;
         rule_sets =
             rw (← c.rules.ensures.0, ← c.positions.ensures.0)
             sets.0;
         changed = c.place_changes.ensures.changed;
         some_map = omega (arith, p.maps_told);
-        ranks_low = all-ranks-low c.args.block.now c.args.maps.now _ c.requires.0 p;
+        ranks_low = all-ranks-low c.args.block.now c.args.maps.now _ c.requires p;
       };
       packed = p;
     }

@@ -1,6 +1,6 @@
 -- `preparing::weights::add_map` meets its contract.
 use mathlib.Core.Path.{ap, ap₂, ◌∙◌}
-use Prim.Native.Nat.{ℕ, ◌+◌, ◌*◌, ◌-◌, ◌/◌, ◌%◌}
+use Prim.Native.Nat.{ℕ, ◌+◌, ◌*◌, ◌/◌, ◌%◌}
 use native.Mathlib.Omega.{arith}
 use lib.ListN.{get_or}
 use Rattle.preparing.specs.Weights.{at_first, three_ranks}
@@ -9,7 +9,7 @@ use borrow.Author.Rules.{rules}
 use Rattle.preparing.proofs.weights.add_map.Goals as goal
 
 pub loop-k-init : goal.loop-k-init
-loop-k-init c = (search rules, added_none c.requires.2)
+loop-k-init c = (search rules, added_none (search rules))
 
 pub overflow_add-weight : goal.overflow_add-weight
 overflow_add-weight c = omega (arith, c.wide_weight.ensures.1, c.begins_at.ensures.1)

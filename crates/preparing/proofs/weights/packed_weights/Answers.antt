@@ -1,5 +1,5 @@
 -- `preparing::weights::packed_weights` meets its contract.
-use mathlib.Core.Path.{◌≡◌, refl, sym, ap, ◌∙◌}
+use mathlib.Core.Path.{◌≡◌, sym, ap, ◌∙◌}
 use Prim.Native.Nat.{ℕ, suc, ◌-◌, ◌≤◌, ◌<◌}
 use native.Mathlib.Omega.{arith}
 use Rattle.compiling.proofs.WeightsPlaced.{zeros}
@@ -18,7 +18,7 @@ loop-i-init c =
     let e = c.further_maps-i.ensures in (
       search rules,
       c.all_entries-begin.ensures.0 ∙ sym (ap (λ (i : ℕ). entries_before c.args.block.now c.args.maps.now (suc i)) e),
-      packed_none c.requires _ _ _ (omega (arith, e)) refl (zeros 256),
+      packed_none c.requires _ _ _ (omega (arith, e)) (zeros 256),
     )
 
 pub entries_of-begin-requires : goal.entries_of-begin-requires
@@ -62,7 +62,7 @@ moved-2 c =
 pub place_further-requires : goal.place_further-requires
 place_further-requires c =
     let l = c.loop-i in
-    (c.requires, omega (arith, l.invariant.0, c.loop-i-test.true), (moved-2 c).2, l.invariant.2.len)
+    (c.requires, omega (arith, l.invariant.0, c.loop-i-test.true), (moved-2 c).2)
 
 -- where the table of the next map begins
 moved-3 :
@@ -89,7 +89,7 @@ loop-i-preserved c =
 
 pub place_map-requires : goal.place_map-requires
 place_map-requires c =
-    (c.requires.valid 0 (omega arith), omega arith, c.loop-i.invariant.2.len)
+    (c.requires.valid 0 (omega arith), omega arith)
 
 pub returns : goal.returns
 returns c =

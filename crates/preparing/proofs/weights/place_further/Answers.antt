@@ -38,7 +38,7 @@ part c =
 
 pub place_map-requires : goal.place_map-requires
 place_map-requires c =
-    (subst Valid (sym (part c)) (c.requires.0.valid (suc c.args.i) c.requires.1), c.requires.2, c.requires.3)
+    (subst Valid (sym (part c)) (c.requires.0.valid (suc c.args.i) c.requires.1), c.requires.2)
 
 -- the part that is read
 part-2 :

@@ -1,16 +1,15 @@
 -- `preparing::weights::place_map` meets its contract.
 -- The weights of single labels go into an array of zeros, and then in front of those that are packed.
-use mathlib.Core.Path.{refl}
 use Rattle.compiling.proofs.WeightsPlaced.{zeros}
 use Rattle.preparing.proofs.WeightLaws.{map-placed}
 use Rattle.preparing.proofs.weights.place_map.Goals as goal
 
 pub place_singles-requires : goal.place_singles-requires
-place_singles-requires c = (c.requires.0, refl, zeros 256)
+place_singles-requires c = (c.requires.0, zeros 256)
 
 pub add_map-requires : goal.add_map-requires
 add_map-requires c =
-    (c.place_singles.ensures.low, c.requires.1, c.requires.2)
+    (c.place_singles.ensures.low, c.requires.1)
 
 pub returns : goal.returns
 returns c =
