@@ -126,7 +126,7 @@ fn rule_passes(
 ) -> bool
     requires { Ready block.now code.now weights.now × (abstract_states block.now ≤ length table.now) ×
         (r < rules block.now) }
-    ensures rule_passes { result ≡ true → RulePasses (graph_of block.now) table.now r }
+    ensures { result ≡ true → RulePasses (graph_of block.now) table.now r }
 {
     let count = find_edges(
         code,
@@ -153,7 +153,7 @@ fn goal_passes(
 ) -> bool
     requires { Ready block.now code.now weights.now × (abstract_states block.now ≤ length table.now) ×
         (g < goals block.now) }
-    ensures goal_passes { result ≡ true → GoalPasses block.now table.now g }
+    ensures { result ≡ true → GoalPasses block.now table.now g }
 {
     let count = find_edges(
         code,
@@ -178,7 +178,7 @@ pub fn passes_by_sides(
     lists: &mut Lists,
 ) -> bool
     requires { Ready block.now code.now weights.now × (abstract_states block.now ≤ length table.now) }
-    ensures table_value { result ≡ true → test.passes (graph_of block.now) table.now ≡ true }
+    ensures { result ≡ true → test.passes (graph_of block.now) table.now ≡ true }
 {
     let goals = layout::goals(block);
     for g in 0..goals {

@@ -1,5 +1,4 @@
 -- `candidates::reversed_rules::groups_of` meets its contract.
-use Prim.Native.Nat.{◌-◌}
 use native.Mathlib.Omega.{arith}
 use Rattle.candidates.proofs.reversed_rules.groups_of.Goals as goal
 use Rattle.candidates.proofs.reversed_rules.groups_of.Goals.{then-count-lt15+then-begins_group}

@@ -1,10 +1,8 @@
 -- `candidates::reversed_rules::reverse_rule` meets its contract.
 -- Both sides of the rule lie in the block, and the array of sides and the compiled block keep their lengths.
-use mathlib.Core.Path.{◌∙◌}
 use Prim.Native.Nat.{◌+◌, ◌≤◌}
 use native.Mathlib.Omega.{arith}
-use lib.ListN.{length, length-set}
-use borrow.Author.Rules.{rules}
+use lib.ListN.{length}
 use Rattle.blocks.proofs.Offsets.{left-inside, right-inside}
 use Rattle.candidates.proofs.reversed_rules.reverse_rule.Goals as goal
 use Rattle.candidates.proofs.reversed_rules.reverse_rule.Goals.{After-sides-1, After-sides-2-1, After-sides-4-1}
@@ -23,7 +21,7 @@ inside c =
     )
 
 pub reverse_left-requires : goal.reverse_left-requires
-reverse_left-requires c = let i = inside c in (i.0, i.1, i.2, search rules)
+reverse_left-requires c = inside c
 
 -- both sides, at the places where the code finds them
 inside-2 :
@@ -39,7 +37,7 @@ inside-2 c =
     )
 
 pub reverse_right-requires : goal.reverse_right-requires
-reverse_right-requires c = let i = inside-2 c in (i.0, i.1, i.2, search rules)
+reverse_right-requires c = inside-2 c
 
 -- both sides, at the places where the code finds them
 inside-3 :
@@ -56,7 +54,3 @@ inside-3 c =
 
 pub groups_of-requires : goal.groups_of-requires
 groups_of-requires c = inside-3 c
-
-pub returns : goal.returns
-returns c =
-    simp length-set (c.place_sides.ensures.code.len ∙ c.requires.2)

@@ -17,7 +17,7 @@ pub returns-then-passes_by_sides : goal.returns-then-passes_by_sides
 returns-then-passes_by_sides c = (
   c.requires.ready.2,
   exact (graph_of c.args.block.now) c.args.table.now c.requires.ready.2
-      (c.passes_by_sides.ensures.table_value c.if-passes_by_sides.true) (λ u. omega (arith, c.slice_known-1.given u)),
+      (c.passes_by_sides.ensures c.if-passes_by_sides.true) (λ u. omega (arith, c.slice_known-1.given u)),
 )
 
 pub loop-init : goal.loop-init

@@ -18,7 +18,6 @@ find_edges-count-requires c =
         omega (arith, c.requires.2, z.g_high),
         omega (arith, c.requires.2, z.g_high),
         omega (arith, k, z.l_high),
-        c.requires.3,
       );
       additive = rw k (goal-first a.block.now a.code.now a.weights.now ready a.g c.requires.2);
       additive_2 = rw k (goal-second a.block.now a.code.now a.weights.now ready a.g c.requires.2);
@@ -26,15 +25,13 @@ find_edges-count-requires c =
 
 pub returns-then-count-eq0 : goal.returns-then-count-eq0
 returns-then-count-eq0 c =
-    record { goal_passes = λ e. absurd (true-false e refl); lists_len = c.find_edges-count.ensures.upper_bound.1 }
+    λ e. absurd (true-false e refl)
 
 pub returns : goal.returns
 returns c =
     let a = c.args in
-    let k = c.labels.ensures.0 in record {
-      goal_passes = λ e.
-          goal-listed a.block.now a.code.now a.weights.now c.requires.0 a.table.now a.g
-          c.requires.2 _ _ c.find_edges-count.result
-          (rw k at (c.find_edges-count.ensures.listed (omega (arith, c.if-count-eq0.false)))) (c.zeros.ensures e);
-      lists_len = c.find_edges-count.ensures.upper_bound.1;
-    }
+    let k = c.labels.ensures.0 in
+    λ e.
+    goal-listed a.block.now a.code.now a.weights.now c.requires.0 a.table.now a.g
+    c.requires.2 _ _ c.find_edges-count.result
+    (rw k at (c.find_edges-count.ensures.listed (omega (arith, c.if-count-eq0.false)))) (c.zeros.ensures e)

@@ -1,6 +1,4 @@
 -- `tables::edges::best` meets its contract.
-use mathlib.Core.Logic.{⊎_elim}
-use Prim.Native.Nat.{◌-◌}
 use native.Mathlib.Omega.{arith}
 use borrow.Author.Rules.{rules}
 use Rattle.distances.proofs.OneRule.{best_none, best-lower, best-keep, best-all}

@@ -2,7 +2,6 @@
 -- The loop's invariant: `least` is the least cost by the rules below r.
 use mathlib.Core.Path.{◌≡◌}
 use Prim.Native.Nat.{◌≤◌, ◌-◌}
-use borrow.Author.Rules.{rules}
 use Rattle.blocks.specs.Layout as layout
 use Rattle.distances.proofs.OneRule.{BestBelow}
 use Rattle.tables.specs.Abstraction.{graph_of}

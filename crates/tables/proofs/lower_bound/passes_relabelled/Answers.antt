@@ -4,4 +4,4 @@ use mathlib.Core.Path.{sym}
 use Rattle.tables.proofs.lower_bound.passes_relabelled.Goals as goal
 
 pub returns-then-passes_by_sides : goal.returns-then-passes_by_sides
-returns-then-passes_by_sides c = sym (c.passes_by_sides.ensures.table_value c.if-passes_by_sides.true)
+returns-then-passes_by_sides c = sym (c.passes_by_sides.ensures c.if-passes_by_sides.true)
