@@ -4,7 +4,8 @@
 use mathlib.Core.Path.{◌≡◌, refl, sym, ap, ap₂, ◌∙◌}
 use mathlib.Core.Logic.{◌⊎◌, ⊎_elim}
 use mathlib.Core.Bool.{Bool, true, false, cond, not, ◌&&◌, ◌||◌, true≢false}
-use mathlib.Core.Option as option
+use Rattle.std.specs.Prelude.{None, Some, is_some}
+use Rattle.std.proofs.lemmas.Option.{none-some, same_Some}
 use Prim.Native.Nat.{ℕ, zero, suc, ◌+◌, ◌≤◌, ◌<◌}
 use native.Mathlib.Nat.{eq-or-lt_of_le, le_of_suc-le-suc, not-suc-le-zero, add-zero, add-suc}
 use native.Mathlib.Omega.{arith}
@@ -140,15 +141,22 @@ module _ (f : ℕ → Bool) where
   first-passed n i l h = first-none n (some-passed n i l h)
 
   -- what is found, or none, after such a scan
-  pub find_at : (n i : ℕ) → i < n → f i ≡ true → ((k : ℕ) → k < i → f k ≡ false) → find n f ≡ option.some i
+  pub find_at : (n i : ℕ) → i < n → f i ≡ true → ((k : ℕ) → k < i → f k ≡ false) → find n f ≡ Some i
   find_at n i l h low = rw (some-intro n i l h, first-at n i l h low) refl
 
-  pub find-passed : (n i : ℕ) → n ≤ i → ((k : ℕ) → k < i → f k ≡ false) → find n f ≡ option.none
+  pub find-passed : (n i : ℕ) → n ≤ i → ((k : ℕ) → k < i → f k ≡ false) → find n f ≡ None
   find-passed n i l h = rw (some-passed n i l h) refl
 
   -- where the test holds at some number below n, the first of them is found
-  pub find-some : (n : ℕ) → some n f ≡ true → find n f ≡ option.some (first n f)
+  pub find-some : (n : ℕ) → some n f ≡ true → find n f ≡ Some (first n f)
   find-some n h = rw h refl
+
+  pub find-is_some : (n : ℕ) → is_some (find n f) ≡ some n f
+  find-is_some n = go (some n f) refl
+    where
+      go : (t : Bool) → some n f ≡ t → is_some (find n f) ≡ some n f
+      go true e = rw (e) refl
+      go false e = rw (e) refl
 
   -- numbers from m on at which the test fails do not matter
   pub find_past : (n m : ℕ) → m ≤ n → ((k : ℕ) → m ≤ k → k < n → f k ≡ false) → find n f ≡ find m f
@@ -165,21 +173,21 @@ module _ (f : ℕ → Bool) where
 
   -- at what is found the test holds, and at no number before it; with none it holds nowhere
   pub find-holds :
-      (n i : ℕ) → find n f ≡ option.some i → (i < n) × (f i ≡ true) × ((k : ℕ) → k < i → f k ≡ false)
+      (n i : ℕ) → find n f ≡ Some i → (i < n) × (f i ≡ true) × ((k : ℕ) → k < i → f k ≡ false)
   find-holds n i h = go (some n f) refl
     where
       go : (t : Bool) → some n f ≡ t → (i < n) × (f i ≡ true) × ((k : ℕ) → k < i → f k ≡ false)
       go true e =
-          let q : first n f ≡ i = option.some-injective (first n f) i (rw e at h) in
+          let q : first n f ≡ i = same_Some (first n f) i (rw e at h) in
           let m = first_holds n e in
           (rw q at m.0, rw q at m.1, λ k l. first-least n k (omega arith))
-      go false e = absurd (option.none-ne-some i (rw e at h))
+      go false e = absurd (none-some i (rw e at h))
 
-  pub find-fails : (n : ℕ) → find n f ≡ option.none → (i : ℕ) → i < n → f i ≡ false
+  pub find-fails : (n : ℕ) → find n f ≡ None → (i : ℕ) → i < n → f i ≡ false
   find-fails n h = go (some n f) refl
     where
       go : (t : Bool) → some n f ≡ t → (i : ℕ) → i < n → f i ≡ false
-      go true e = absurd (option.none-ne-some (first n f) (sym (rw e at h)))
+      go true e = absurd (none-some (first n f) (sym (rw e at h)))
       go false e = some-false n e
 
   -- the last is not before a number at which the test holds, and the test holds at it
@@ -237,13 +245,13 @@ module _ (f g : ℕ → Bool) where
 
 -- none is found to fail exactly where all pass, and where one is found not all do
 module _ (f : ℕ → Bool) where
-  pub none-fails : (n : ℕ) → all n f ≡ true → find n (λ i. not (f i)) ≡ option.none
+  pub none-fails : (n : ℕ) → all n f ≡ true → find n (λ i. not (f i)) ≡ None
   none-fails n h = find-passed (λ i. not (f i)) n n (omega arith) (λ k l. ap not (all-at f n h k l))
 
-  pub all_pass_lem : (n : ℕ) → find n (λ i. not (f i)) ≡ option.none → all n f ≡ true
+  pub all_pass_lem : (n : ℕ) → find n (λ i. not (f i)) ≡ None → all n f ≡ true
   all_pass_lem n h = all-intro f n (λ i l. not-false (f i) (find-fails (λ k. not (f k)) n h i l))
 
-  pub one-fails : (n i : ℕ) → find n (λ k. not (f k)) ≡ option.some i → all n f ≡ false
+  pub one-fails : (n i : ℕ) → find n (λ k. not (f k)) ≡ Some i → all n f ≡ false
   one-fails n i h =
       let (low, fails, before) = find-holds (λ k. not (f k)) n i h in
       all-false f n i low (not-true (f i) fails)

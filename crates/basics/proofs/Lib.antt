@@ -2,6 +2,7 @@
 -- Every proof that goes over positions, rules, labels or written bytes rests on them.
 pub mod Truth
 pub mod Bounded
+pub mod Found
 pub mod Lists
 pub mod Placing
 pub mod Sums

@@ -1,8 +1,7 @@
 -- Tests over the numbers below a bound: each of them (`all`), some of them (`some`), the first and the last of them
 -- (`first`, `last`), and the first if there is one (`find`). Validity, matching, goals and predecessors are stated with
 -- these.
-use Rattle.std.specs.Prelude.{ℕ, zero, suc, Bool, true, false, cond, ◌&&◌, ◌||◌}
-use Rattle.std.proofs.Math.Option as option
+use Rattle.std.specs.Prelude.{ℕ, zero, suc, Bool, true, false, cond, ◌&&◌, ◌||◌, Option, None, Some}
 
 -- the test holds at each number below n
 abbrev pub all : ℕ → (ℕ → Bool) → Bool
@@ -20,8 +19,8 @@ first zero f = zero
 first (suc n) f = cond (some n f) (first n f) (cond (f n) n (suc n))
 
 -- the least number below n at which the test holds, or none
-abbrev pub find : ℕ → (ℕ → Bool) → option.Option ℕ
-find n f = cond (some n f) (option.some (first n f)) option.none
+abbrev pub find : ℕ → (ℕ → Bool) → Option ℕ
+find n f = cond (some n f) (Some (first n f)) None
 
 -- one more than the greatest number below n at which the test holds, or 0
 abbrev pub last : ℕ → (ℕ → Bool) → ℕ

@@ -2,8 +2,9 @@
 // numbers as words.
 #![tactic(auto)]
 
-ghost use Rattle.std.specs.Prelude.{◌≡◌, ◌&&◌, ◌+◌, ◌^◌, ◌≤◌, min, eqb, length, get_or, take};
-ghost use Rattle.basics.specs.Bounded.{first};
+ghost use Rattle.std.specs.Prelude.{◌≡◌, ◌&&◌, ◌+◌, ◌^◌, ◌≤◌, min, eqb, length, get_or, take, ◌==◌};
+ghost use Rattle.std.specs.List.{position};
+ghost use Rattle.basics.specs.Bounded.{find};
 ghost use Rattle.basics.specs.Lists.{at_front};
 
 pub mod sets;
@@ -50,15 +51,17 @@ pub fn copy(from: &[u8], n: usize, to: &mut [u8])
     }
 }
 
-// The first of the n places from `at` on that holds the byte v, or n.
-pub fn first_of(bytes: &[u8], at: usize, n: usize, v: u8) -> usize
-    requires { at + n ≤ length bytes.now }
-    ensures { result ≡ first n (λ j. eqb (get_or bytes.now (at + j) 0) v) }
+// The first place that holds the byte v, if one does.
+fn place_of(bytes: &[u8], v: u8) -> Option<usize>
+    ensures { result ≡ position (λ byte. byte == v) bytes.now }
 {
-    for j in 0..n {
-        if bytes[at + j] == v {
-            return j;
-        }
-    }
-    n
+    bytes.iter().position(|byte| *byte == v)
+}
+
+// The first of the n places from `at` on that holds the byte v, if one does.
+pub fn first_of(bytes: &[u8], at: usize, n: usize, v: u8) -> Option<usize>
+    requires { at + n ≤ length bytes.now }
+    ensures { result ≡ find n (λ j. eqb (get_or bytes.now (at + j) 0) v) }
+{
+    place_of(&bytes[at..at + n], v)
 }

@@ -1,7 +1,7 @@
 // Whether a block is accepted: conditions 3 to 7, in this order, each over the whole block.
 ghost use Rattle.std.specs.Prelude.{◌≡◌, ◌+◌, ◌≤◌, ◌<◌, length};
 ghost use Rattle.refusals.specs.Answers.{verdict};
-ghost use Rattle.refusals.specs.Refusals.{verdict_of};
+ghost use Rattle.refusals.specs.Refusals.{answer_of};
 ghost use Rattle.blocks.specs.Terms.{term_of};
 ghost use Rattle.blocks.specs.Layout.{positions, rules, head_length, side_at};
 ghost use Rattle.blocks.specs.Validity.{within, sizes_ok, head_ok, map_ok, side_ok, rule_terms_ok, goal_terms_ok};
@@ -11,7 +11,7 @@ ghost use Rattle.blocks.specs.Validity.{shape_conditions, content_conditions, bl
 use super::layout;
 use super::terms::{Term, decode, term_ok};
 use basics::{and, first_of, power_within};
-use refusals::{Refusal, Verdict};
+use refusals::Refusal;
 
 // The most abstract states that an exercise may have.
 pub const MOST_STATES: usize = 16384;
@@ -140,7 +140,7 @@ fn term_bound(block: &[u8], left: usize, n: usize, byte: u8) -> bool
     let term = decode(byte);
     match term {
         Term::Label(_) => true,
-        Term::Variable(v) => first_of(block, left, n, v) < n,
+        Term::Variable(v) => first_of(block, left, n, v).is_some(),
         Term::Dash => true,
         Term::Refused => true,
     }
@@ -177,42 +177,39 @@ fn bound_ok(block: &[u8]) -> bool
 }
 
 // The head and the length: 3 and 4.
-pub fn check_shape(block: &[u8]) -> Verdict
-    ensures { verdict_of result ≡ verdict (shape_conditions block.now) }
+pub fn check_shape(block: &[u8]) -> Result<(), Refusal>
+    ensures { answer_of result ≡ verdict (shape_conditions block.now) }
 {
     if !head_ok(block) {
-        return Verdict::Refused(Refusal::Head);
+        return Err(Refusal::Head);
     }
     if block.len() != layout::block_length(block) {
-        return Verdict::Refused(Refusal::Length);
+        return Err(Refusal::Length);
     }
-    Verdict::Accepted
+    Ok(())
 }
 
 // What stands in the block: 5, 6 and 7.
-pub fn check_content(block: &[u8]) -> Verdict
+pub fn check_content(block: &[u8]) -> Result<(), Refusal>
     requires { Sized block.now }
-    ensures { verdict_of result ≡ verdict (content_conditions block.now) }
+    ensures { answer_of result ≡ verdict (content_conditions block.now) }
 {
     if !map_ok(block) {
-        return Verdict::Refused(Refusal::Map);
+        return Err(Refusal::Map);
     }
     if !terms_ok(block) {
-        return Verdict::Refused(Refusal::Term);
+        return Err(Refusal::Term);
     }
     if !bound_ok(block) {
-        return Verdict::Refused(Refusal::Unbound);
+        return Err(Refusal::Unbound);
     }
-    Verdict::Accepted
+    Ok(())
 }
 
 // Whether a block is accepted, or what turns it back: its parts in turn.
-pub fn check(block: &[u8]) -> Verdict
-    ensures { verdict_of result ≡ verdict (block_conditions block.now) }
+pub fn check(block: &[u8]) -> Result<(), Refusal>
+    ensures { answer_of result ≡ verdict (block_conditions block.now) }
 {
-    let shape = check_shape(block);
-    if let Verdict::Refused(refusal) = shape {
-        return Verdict::Refused(refusal);
-    }
+    check_shape(block)?;
     check_content(block)
 }

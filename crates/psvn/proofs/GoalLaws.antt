@@ -4,7 +4,7 @@
 use mathlib.Core.Path.{◌≡◌, refl, sym, ap, subst, ◌∙◌}
 use mathlib.Core.Bool.{Bool, true, false, not}
 use mathlib.Core.List.{List}
-use mathlib.Core.Option.{Option, none, some}
+use Rattle.std.specs.Prelude.{None, Option, Some}
 use Prim.Native.Nat.{ℕ, ◌≤◌, ◌<◌}
 use native.Mathlib.Omega.{arith}
 use lib.Dec.{eqb}
@@ -30,13 +30,13 @@ byte-found n f few = go (bounded.some n f) refl
         (find-passed f n n (omega arith) (some-false f n e)) ∙ sym e
 
 module _ (b s : List ℕ) where
-  pub lowest-met : (g : ℕ) → met_goal b s ≡ some g → LowestMet b s g
+  pub lowest-met : (g : ℕ) → met_goal b s ≡ Some g → LowestMet b s g
   unfolding met_goal
   lowest-met g h =
       let q = find-holds (λ k. goal_met b k s) (goals b) g h in
       record { goal = q.0; met = q.1; none_below = q.2 }
 
-  pub none-met : met_goal b s ≡ none → NoneMet b s
+  pub none-met : met_goal b s ≡ None → NoneMet b s
   unfolding met_goal
   none-met h = find-fails (λ k. goal_met b k s) (goals b) h
 
@@ -49,28 +49,28 @@ module _ (b s : List ℕ) where
 
   module _ (few : goals b ≤ no_goal) where
     told-by : (x : Option ℕ) → met_goal b s ≡ x → GoalMeans b s (goal_byte x)
-    told-by (some g) e =
+    told-by (Some g) e =
         let low = lowest-met g e in
         record {
           none_iff = (λ q. absurd (omega (arith, low.goal)), λ h. absurd (true-false low.met (h g low.goal)));
           lowest = λ q. low;
         }
-    told-by none e = record { none_iff = (λ q. none-met e, λ h. refl); lowest = λ q. absurd (q refl) }
+    told-by None e = record { none_iff = (λ q. none-met e, λ h. refl); lowest = λ q. absurd (q refl) }
 
     pub goal-means : GoalMeans b s (goal_byte (met_goal b s))
     goal-means = told-by (met_goal b s) refl
 
     -- the byte read back
-    pub byte-none : goal_byte (met_goal b s) ≡ no_goal → met_goal b s ≡ none
+    pub byte-none : goal_byte (met_goal b s) ≡ no_goal → met_goal b s ≡ None
     byte-none h = go (met_goal b s) refl
       where
-        go : (x : Option ℕ) → met_goal b s ≡ x → met_goal b s ≡ none
-        go none e = e
-        go (some g) e = absurd (omega (arith, (lowest-met g e).goal, ap goal_byte e, h))
+        go : (x : Option ℕ) → met_goal b s ≡ x → met_goal b s ≡ None
+        go None e = e
+        go (Some g) e = absurd (omega (arith, (lowest-met g e).goal, ap goal_byte e, h))
 
-    pub byte-some : (goal_byte (met_goal b s) ≡ no_goal → ⊥) → met_goal b s ≡ some (goal_byte (met_goal b s))
+    pub byte-some : (goal_byte (met_goal b s) ≡ no_goal → ⊥) → met_goal b s ≡ Some (goal_byte (met_goal b s))
     byte-some h = go (met_goal b s) refl
       where
-        go : (x : Option ℕ) → met_goal b s ≡ x → met_goal b s ≡ some (goal_byte (met_goal b s))
-        go none e = absurd (h (ap goal_byte e))
-        go (some g) e = e ∙ ap some (sym (ap goal_byte e))
+        go : (x : Option ℕ) → met_goal b s ≡ x → met_goal b s ≡ Some (goal_byte (met_goal b s))
+        go None e = absurd (h (ap goal_byte e))
+        go (Some g) e = e ∙ ap Some (sym (ap goal_byte e))

@@ -6,7 +6,7 @@
 use mathlib.Core.Path.{◌≡◌, refl, sym, ap, ◌∙◌}
 use mathlib.Core.Bool.{Bool, true, false, not, ◌&&◌}
 use mathlib.Core.List.{List}
-use mathlib.Core.Option.{none, some}
+use Rattle.std.specs.Prelude.{None, Some}
 use Prim.Native.Nat.{ℕ, ◌≤◌, ◌<◌}
 use native.Mathlib.Omega.{arith}
 use lib.Dec.{eqb}
@@ -85,14 +85,14 @@ module _ (n : ℕ) (side : ℕ → ℕ) (s : List ℕ) where
       ∙ all_both (constant_agrees side s) (variable_agrees n side s) n
 
   -- by the answer of the first: with none the second decides, and a position rules the side out
-  pub constants-agree : constant_mismatch n side s ≡ none → constants_agree n side s ≡ true
+  pub constants-agree : constant_mismatch n side s ≡ None → constants_agree n side s ≡ true
   unfolding constant_mismatch constants_agree
   constants-agree h = all_pass_lem (constant_agrees side s) n h
 
   pub by-variables : constants_agree n side s ≡ true → matches n side s ≡ variables_agree n side s
   by-variables h = two-parts ∙ ap (λ (t : Bool). t && variables_agree n side s) h
 
-  pub ruled_out : (i : ℕ) → constant_mismatch n side s ≡ some i → matches n side s ≡ false
+  pub ruled_out : (i : ℕ) → constant_mismatch n side s ≡ Some i → matches n side s ≡ false
   unfolding constant_mismatch constants_agree
   ruled_out i h = two-parts
       ∙ ap (λ (t : Bool). t && variables_agree n side s) (one-fails (constant_agrees side s) n i h)

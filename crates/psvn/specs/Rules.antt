@@ -1,8 +1,7 @@
 -- Matching and applying: one notion, the label that a term gives at a position (`given`), says when a side matches and
 -- what a rule writes. A rule applies (`applies`), makes a state (`step`) and so leads from one state to another
 -- (`leads`); a goal is met (`goal_met`), some goal is (`meets`), and which one (`met_goal`; as a byte, `goal_byte`).
-use Rattle.std.specs.Prelude.{ℕ, Bool, ◌&&◌, List, eqb, get_or}
-use Rattle.std.proofs.Math.Option as option
+use Rattle.std.specs.Prelude.{ℕ, Bool, ◌&&◌, List, eqb, get_or, Option, None, Some}
 use Rattle.basics.specs.Bounded.{all, some, first, find}
 use Rattle.basics.specs.Lists.{tabulate}
 use Rattle.blocks.specs.Terms.{term_of}
@@ -57,13 +56,13 @@ unfoldable pub meets : List ℕ → List ℕ → Bool
 meets b s = some (goals b) (λ g. goal_met b g s)
 
 -- the goal that the state meets: "the lowest number of a met goal" (document 02, F-1), or none
-unfoldable pub met_goal : List ℕ → List ℕ → option.Option ℕ
+unfoldable pub met_goal : List ℕ → List ℕ → Option ℕ
 met_goal b s = find (goals b) (λ g. goal_met b g s)
 
 -- "hexadecimal FF for none", and a goal as one byte
 abbrev pub no_goal : ℕ
 no_goal = 255
 
-abbrev pub goal_byte : option.Option ℕ → ℕ
-goal_byte (option.some g) = g
-goal_byte option.none = no_goal
+abbrev pub goal_byte : Option ℕ → ℕ
+goal_byte (Some g) = g
+goal_byte None = no_goal

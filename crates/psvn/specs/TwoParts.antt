@@ -2,8 +2,7 @@
 -- differs from the state's label, or none (`constant_mismatch`); then, on none alone, the variables
 -- (`variables_agree`). `mismatch_of` reads the first part's answer, and `MismatchMeans` says what it means; `TwoParts`
 -- says that both parts are `matches`. Matching on bytes and on words is stated with these.
-use Rattle.std.specs.Prelude.{◌≡◌, ◌↔◌, Bool, true, false, not, List, ℕ, ◌≤◌, ◌<◌, eqb, get_or}
-use Rattle.std.proofs.Math.Option.{Option, none, some}
+use Rattle.std.specs.Prelude.{◌≡◌, ◌↔◌, Bool, true, false, not, List, ℕ, ◌≤◌, ◌<◌, eqb, get_or, None, Option, Some}
 use Rattle.basics.specs.Bounded.{all, find}
 use Rattle.blocks.specs.Terms.{term_of}
 use Rattle.blocks.specs.declared.terms.Term.{Term}
@@ -32,15 +31,15 @@ constant_mismatch n side s = find n (λ i. not (constant_agrees side s i))
 
 -- the answer of the first part
 abbrev pub mismatch_of : Mismatch → Option ℕ
-mismatch_of Nowhere = none
-mismatch_of (At i) = some i
+mismatch_of Nowhere = None
+mismatch_of (At i) = Some i
 
 -- what it means, by the test of each of n positions: a position is told exactly where that is the lowest one that
 -- fails, and none "exactly when all agree"
 pub record MismatchMeans (n : ℕ) (test : ℕ → Bool) (answer : Option ℕ) : Type 0 where
   pub position_iff :
-      (i : ℕ) → (answer ≡ some i) ↔ ((i < n) × (test i ≡ false) × ((k : ℕ) → k < i → test k ≡ true))
-  pub none_iff : (answer ≡ none) ↔ ((i : ℕ) → i < n → test i ≡ true)
+      (i : ℕ) → (answer ≡ Some i) ↔ ((i < n) × (test i ≡ false) × ((k : ℕ) → k < i → test k ≡ true))
+  pub none_iff : (answer ≡ None) ↔ ((i : ℕ) → i < n → test i ≡ true)
 
 -- a label may stand where a term does, as far as variables go: a variable asks for its bound label
 abbrev pub variable_allows : ℕ → (ℕ → ℕ) → List ℕ → Term → ℕ → Bool
@@ -61,7 +60,7 @@ variables_agree n side s = all n (variable_agrees n side s)
 pub record TwoParts (n : ℕ) (side : ℕ → ℕ) (s : List ℕ) : Type 0 where
   pub told : MismatchMeans n (constant_agrees side s) (constant_mismatch n side s)
   pub match_iff :
-      (matches n side s ≡ true) ↔ ((constant_mismatch n side s ≡ none) × (variables_agree n side s ≡ true))
+      (matches n side s ≡ true) ↔ ((constant_mismatch n side s ≡ None) × (variables_agree n side s ≡ true))
   pub bindings :
       matches n side s ≡ true
       → (i : ℕ) → i < n → 16 ≤ side i → side i < 32 → get_or s i 0 ≡ bound n side s (side i)

@@ -1,13 +1,11 @@
--- The document's number for each refusal, and the answer that a verdict stands for.
+-- The document's number for each refusal (`refusal_number`), and the answer that a result stands for (`answer_of`).
 -- The contracts of all that refuses cite these.
-use Rattle.std.specs.Prelude.{ℕ}
+use Rattle.std.specs.Prelude.{ℕ, Result, Ok, Err}
 use Rattle.refusals.specs.Answers.{Answer, refused, told}
 use Rattle.refusals.specs.declared.Refusal.{Refusal}
 use Rattle.refusals.specs.declared.Refusal.TheVariants.{Character, Line, Head, Length, Map, Term, Unbound}
 use Rattle.refusals.specs.declared.Refusal.TheVariants.{State, Rule, Limit, Buffer, TableShort, TableFails}
 use Rattle.refusals.specs.declared.Refusal.TheVariants.{Maps, MapRange, Records}
-use Rattle.refusals.specs.declared.Verdict.{Verdict}
-use Rattle.refusals.specs.declared.Verdict.TheVariants.{Accepted, Refused}
 
 -- the column 'no.' of 'Turned back, by place'
 abbrev pub refusal_number : Refusal → ℕ
@@ -28,6 +26,7 @@ refusal_number Maps = 14
 refusal_number MapRange = 15
 refusal_number Records = 16
 
-abbrev pub verdict_of : Verdict → Answer (Unit {0})
-verdict_of Accepted = told tt
-verdict_of (Refused refusal) = refused (refusal_number refusal)
+-- what a call tells, or the number that it is refused with
+abbrev pub answer_of : {A : Type 0} → Result A Refusal → Answer A
+answer_of (Ok told_value) = told told_value
+answer_of (Err refusal) = refused (refusal_number refusal)

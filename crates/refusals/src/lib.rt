@@ -4,8 +4,8 @@
 ghost use Rattle.std.specs.Prelude.{◌≡◌};
 ghost use Rattle.refusals.specs.Refusals.{refusal_number};
 
-// Why a call is turned back; `number` gives the document's number.
-#[derive(Clone, Copy)]
+// Why a call is turned back. What a call checks answers `Ok(())` where nothing is against it, or the refusal.
+#[derive(Clone, Copy, PartialEq, Eq, Debug)]
 pub enum Refusal {
     Character,
     Line,
@@ -25,33 +25,28 @@ pub enum Refusal {
     Records,
 }
 
-// What the conditions of a call give: nothing against it, or the refusal.
-#[derive(Clone, Copy)]
-pub enum Verdict {
-    Accepted,
-    Refused(Refusal),
-}
-
 // The document's number of a refusal.
-pub fn number(refusal: Refusal) -> u8
-    ensures { result ≡ refusal_number refusal }
-{
-    match refusal {
-        Refusal::Character => 1,
-        Refusal::Line => 2,
-        Refusal::Head => 3,
-        Refusal::Length => 4,
-        Refusal::Map => 5,
-        Refusal::Term => 6,
-        Refusal::Unbound => 7,
-        Refusal::State => 8,
-        Refusal::Rule => 9,
-        Refusal::Limit => 10,
-        Refusal::Buffer => 11,
-        Refusal::TableShort => 12,
-        Refusal::TableFails => 13,
-        Refusal::Maps => 14,
-        Refusal::MapRange => 15,
-        Refusal::Records => 16,
+impl From<Refusal> for u8 {
+    ghost from_gives = { λ refusal number. number ≡ refusal_number refusal };
+
+    fn from(refusal: Refusal) -> u8 {
+        match refusal {
+            Refusal::Character => 1,
+            Refusal::Line => 2,
+            Refusal::Head => 3,
+            Refusal::Length => 4,
+            Refusal::Map => 5,
+            Refusal::Term => 6,
+            Refusal::Unbound => 7,
+            Refusal::State => 8,
+            Refusal::Rule => 9,
+            Refusal::Limit => 10,
+            Refusal::Buffer => 11,
+            Refusal::TableShort => 12,
+            Refusal::TableFails => 13,
+            Refusal::Maps => 14,
+            Refusal::MapRange => 15,
+            Refusal::Records => 16,
+        }
     }
 }

@@ -4,7 +4,7 @@
 -- (`constants-agree-word`, `ruled-out-word`). The functions that match on words rest on these.
 use Rattle.std.proofs.Common.{◌≡◌, ℕ, zero, suc, ◌+◌, ◌*◌, ◌/◌, ◌%◌, ◌^◌, ◌<◌, Bool, true, false, not, ◌&&◌, eqb, List}
 use Rattle.std.proofs.Common.{sym, ap, ◌∙◌, arith, lit<, pow-add, eq-eqb, ne_eqb}
-use mathlib.Core.Option.{none, some}
+use Rattle.std.specs.Prelude.{None, Some}
 use native.Mathlib.Nat.{div-div-eq-div-mul}
 use lib.Bits.{bit_and, bit_xor, and_le_l, and_le_r, xor_add_and, xor_self}
 use Rattle.basics.specs.Sets.{member, lowest}
@@ -73,13 +73,13 @@ module _ (code : List ℕ) (x w v : ℕ) (e : v ≡ bit_xor (bit_and w (mask_at 
   differs-there i h =
       ne_eqb (held i) (asked i) (λ q. h (at-digit i ∙ ap (λ (y : ℕ). bit_xor y (asked i)) q ∙ xor_self (asked i)))
 
-  pub mismatch-none : v ≡ 0 → mismatch_word code x w ≡ none
+  pub mismatch-none : v ≡ 0 → mismatch_word code x w ≡ None
   unfolding mismatch_word
   mismatch-none z =
       find-passed (λ i. not (constant_agrees_word code x w i)) 16 16 (omega arith) (λ i l.
       ap not (agrees-there i (ap (λ (y : ℕ). digit y i) z ∙ digit-high 0 0 i (lit< tt) (omega arith))))
 
-  pub mismatch-found : lowest v < 64 → mismatch_word code x w ≡ some (lowest v / 4)
+  pub mismatch-found : lowest v < 64 → mismatch_word code x w ≡ Some (lowest v / 4)
   unfolding mismatch_word
   mismatch-found l =
       find_at (λ i. not (constant_agrees_word code x w i)) 16 (lowest v / 4) (omega arith)
@@ -88,11 +88,11 @@ module _ (code : List ℕ) (x w v : ℕ) (e : v ≡ bit_xor (bit_and w (mask_at 
 
 -- by the answer: with none all constants agree, and a position rules the side out
 module _ (code : List ℕ) (x w : ℕ) where
-  pub constants-agree-word : mismatch_word code x w ≡ none → constants_word code x w ≡ true
+  pub constants-agree-word : mismatch_word code x w ≡ None → constants_word code x w ≡ true
   unfolding mismatch_word constants_word
   constants-agree-word h = all_pass_lem (constant_agrees_word code x w) 16 h
 
-  pub ruled-out-word : (i : ℕ) → mismatch_word code x w ≡ some i → matches_word code x w ≡ false
+  pub ruled-out-word : (i : ℕ) → mismatch_word code x w ≡ Some i → matches_word code x w ≡ false
   unfolding mismatch_word constants_word matches_word
   ruled-out-word i h =
       ap (λ (t : Bool). t && variables_word code x w) (one-fails (constant_agrees_word code x w) 16 i h)

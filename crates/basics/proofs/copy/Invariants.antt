@@ -2,7 +2,7 @@
 -- The loop's invariant: the places passed hold the bytes of `from`, the others what they held.
 use mathlib.Core.Path.{◌≡◌}
 use Prim.Native.Nat.{◌≤◌, ◌-◌}
-use lib.ListN.{set, take}
+use lib.ListN.{take}
 use lib.Seq.{sets}
 use Rattle.basics.proofs.copy.Given as goal
 

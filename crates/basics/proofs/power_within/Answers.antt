@@ -1,6 +1,6 @@
 -- `basics::power_within` meets its contract.
 use mathlib.Core.Path.{◌≡◌, sym, ap}
-use Prim.Native.Nat.{ℕ, suc, ◌≤◌, ◌-◌, ◌*◌, ◌^◌}
+use Prim.Native.Nat.{ℕ, suc, ◌≤◌, ◌*◌, ◌^◌}
 use native.Mathlib.Nat.{pow-zero, pow-suc, mul-le-mul, pow-le-pow_right}
 use native.Mathlib.Omega.{arith}
 use borrow.Author.Rules.{rules}

@@ -3,7 +3,6 @@
 use mathlib.Core.Path.{◌≡◌, ap}
 use Prim.Native.Nat.{ℕ, ◌*◌}
 use native.Mathlib.Omega.{arith}
-use borrow.Author.Rules.{rules}
 use Rattle.blocks.specs.Layout.{positions, rule_at, goal_at}
 use Rattle.blocks.proofs.Offsets.{goals-reach}
 use Rattle.blocks.proofs.layout.goal_at.Goals as goal

@@ -4,7 +4,7 @@ use mathlib.Core.Path.{◌≡◌}
 use Prim.Native.Nat.{suc, ◌+◌, ◌≤◌, ◌-◌}
 use lib.ListN.{get_or}
 use Rattle.basics.specs.Placing.{placed}
-use Rattle.blocks.specs.Layout.{head_length, labels}
+use Rattle.blocks.specs.Layout.{head_length}
 use Rattle.blocks.proofs.remapping.remap.Given as goal
 
 abbrev pub invariant-loop-x : goal.invariant-loop-x

@@ -1,7 +1,5 @@
 -- `blocks::states::state_ok` meets its contract.
 use mathlib.Core.Path.{sym}
-use mathlib.Core.Bool.{true}
-use Prim.Native.Nat.{◌-◌}
 use native.Mathlib.Omega.{arith}
 use lib.ListN.{get_or, length}
 use borrow.Author.Count.{below_more}

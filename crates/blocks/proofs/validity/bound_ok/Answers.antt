@@ -1,7 +1,5 @@
 -- `blocks::validity::bound_ok` meets its contract.
 use mathlib.Core.Path.{sym, ◌∙◌}
-use mathlib.Core.Bool.{true}
-use Prim.Native.Nat.{◌-◌}
 use native.Mathlib.Omega.{arith}
 use borrow.Author.Count.{below_more}
 use Rattle.basics.proofs.Bounded.{all-passed, all-false}

@@ -1,13 +1,12 @@
 -- `blocks::validity::side_ok` meets its contract.
 use mathlib.Core.Path.{◌≡◌, sym, ap, ◌∙◌}
-use mathlib.Core.Bool.{true}
-use Prim.Native.Nat.{ℕ, ◌-◌}
+use Prim.Native.Nat.{ℕ}
 use native.Mathlib.Omega.{arith}
 use borrow.Author.Count.{below_more}
 use borrow.Author.Rules.{rules}
 use Rattle.basics.proofs.Bounded.{all-passed, all-false}
 use Rattle.blocks.specs.Terms.{term_of, term_ok}
-use Rattle.blocks.specs.Layout.{positions, label_count, side_at}
+use Rattle.blocks.specs.Layout.{positions, side_at}
 use Rattle.blocks.specs.Validity.{side_ok}
 use Rattle.blocks.proofs.validity.side_ok.Goals as goal
 use Rattle.blocks.proofs.validity.side_ok.Goals.{Else-not-term_ok, Then-not-term_ok}

@@ -4,7 +4,6 @@ use mathlib.Core.Path.{ap, ap₂, ◌∙◌}
 use mathlib.Core.Bool.{◌&&◌}
 use Prim.Native.Nat.{ℕ}
 use lib.Dec.{leb}
-use borrow.Author.Rules.{rules}
 use Rattle.blocks.specs.Validity.{within, sizes_ok}
 use Rattle.blocks.proofs.validity.sizes_ok.Goals as goal
 
