@@ -4,7 +4,6 @@ use mathlib.Core.Bool.{Bool, cond}
 use Prim.Native.Nat.{ℕ, ◌+◌, ◌-◌}
 use native.Mathlib.Omega.{arith}
 use lib.ListN.{length-set}
-use borrow.Author.Rules.{rules}
 use Rattle.basics.specs.Marks.{mark}
 use Rattle.basics.proofs.Lists.{set_more}
 use Rattle.blocks.specs.Layout.{goals}
@@ -21,10 +20,8 @@ use Rattle.filling.proofs.filling.clear.Goals.{After-cleared_entry}
 pub loop-u-init : goal.loop-u-init
 loop-u-init c =
     let a = c.args in (
-      search rules,
       few a.block.now a.code.now a.weights.now c.requires.0,
       c.requires.1,
-      c.requires.2,
       λ w h. absurd (omega arith),
       λ w h. absurd (omega arith),
       λ z. absurd (omega arith),
@@ -33,7 +30,7 @@ loop-u-init c =
 pub word_at-word-requires : goal.word_at-word-requires
 word_at-word-requires c =
     let l = c.loop-u in
-    (c.requires.0.relabelled.valid.sized.headed, omega (arith, l.invariant.3, c.loop-u-test.true), l.invariant.6)
+    (c.requires.0.relabelled.valid.sized.headed, omega (arith, l.invariant.1, c.loop-u-test.true), l.invariant.4)
 
 -- the entry that is written
 entry :
@@ -54,12 +51,10 @@ loop-u-preserved c =
     let l = c.loop-u in
     let word = c.word_at-word.result in
     let e = c.cleared_entry.result in (
-      omega arith,
-      l.invariant.1,
-      length-set l.ranked l.u word ∙ l.invariant.2,
-      length-set l.table l.u e ∙ l.invariant.3,
-      set_more (word_of b) l.ranked l.u word l.invariant.4 (omega arith) c.word_at-word.ensures,
-      set_more (λ w. cond (meets b (unrank b w)) 0 mark) l.table l.u e l.invariant.5 (omega arith) (entry c),
+      l.invariant.0,
+      length-set l.table l.u e ∙ l.invariant.1,
+      set_more (word_of b) l.ranked l.u word l.invariant.2 (omega arith) c.word_at-word.ensures,
+      set_more (λ w. cond (meets b (unrank b w)) 0 mark) l.table l.u e l.invariant.3 (omega arith) (entry c),
       λ z. let e : l.u + 1 - 1 ≡ l.u = omega arith in c.word_at-word.ensures ∙ ap (word_of b) (sym e),
     )
 
@@ -67,6 +62,6 @@ pub returns : goal.returns
 returns c =
     let b = c.args.block.now in
     let l = c.loop-u in (
-      record { len = l.invariant.2; word = λ w h. l.invariant.4 w (omega arith) },
-      good-clear (graph_of b) l.table l.invariant.3 (λ w h. l.invariant.5 w (omega arith)),
+      record { word = λ w h. l.invariant.2 w (omega arith) },
+      good-clear (graph_of b) l.table l.invariant.1 (λ w h. l.invariant.3 w (omega arith)),
     )

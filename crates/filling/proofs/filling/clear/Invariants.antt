@@ -11,10 +11,6 @@ use Rattle.filling.proofs.filling.clear.Given as goal
 
 abbrev pub invariant-loop-u : goal.invariant-loop-u
 invariant-loop-u l =
-    (l.u ≤ abstract_states l.block) × (abstract_states l.block ≤ 16384) × (length l.ranked ≡ 16384)
-    × (length l.table ≡ abstract_states l.block)
+    (abstract_states l.block ≤ 16384) × (length l.table ≡ abstract_states l.block)
     × ((w : ℕ) → w < l.u → get_or l.ranked w 0 ≡ word_of l.block w) × Cleared (graph_of l.block) l.table l.u
     × (0 < l.u → l.word ≡ word_of l.block (l.u - 1))
-
-abbrev pub decreases-loop-u : goal.decreases-loop-u
-decreases-loop-u l = abstract_states l.block - l.u

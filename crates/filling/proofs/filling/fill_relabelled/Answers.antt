@@ -10,10 +10,9 @@ use Rattle.filling.proofs.filling.fill_relabelled.Goals as goal
 -- the arrays are ready once the block is compiled
 pub settle-requires : goal.settle-requires
 settle-requires c =
-    let s = c.spread.ensures in
     let ready : Ready c.args.block.now c.compile.new.code c.place_weights.new.weights =
-    record { relabelled = c.requires.0; compiled = c.compile.ensures.0; weighted = c.place_weights.ensures } in
-    record { ready = (ready, c.clear.ensures.0, s.0); lists_len = s.1 }
+    record { relabelled = c.requires.0; compiled = c.compile.ensures; weighted = c.place_weights.ensures } in
+    record { ready = (ready, c.clear.ensures.0, c.spread.ensures) }
 
 pub returns-then-sweeps : goal.returns-then-sweeps
 returns-then-sweeps c =
@@ -21,7 +20,7 @@ returns-then-sweeps c =
     let code = c.compile.new.code in
     let weights = c.place_weights.new.weights in
     let ready : Ready a code weights =
-    record { relabelled = c.requires.0; compiled = c.compile.ensures.0; weighted = c.place_weights.ensures } in (
+    record { relabelled = c.requires.0; compiled = c.compile.ensures; weighted = c.place_weights.ensures } in (
       c.settle.ensures.0,
       λ _.
           least-costs-only (graph_of a) (cheap a code weights ready) (few a code weights ready) c.settle.new.table
@@ -29,4 +28,4 @@ returns-then-sweeps c =
     )
 
 pub returns-else-sweeps : goal.returns-else-sweeps
-returns-else-sweeps c = (c.spread.ensures.0, λ wanted. absurd (true-false wanted c.if-sweeps.false))
+returns-else-sweeps c = (c.spread.ensures, λ wanted. absurd (true-false wanted c.if-sweeps.false))

@@ -1,7 +1,7 @@
 -- `filling::rank_words::next_word` meets its contract.
 -- The loop's invariant: the labels behind the first i begin again.
 use mathlib.Core.Path.{◌≡◌}
-use Prim.Native.Nat.{◌-◌, ◌≤◌}
+use Prim.Native.Nat.{◌≤◌}
 use Rattle.blocks.specs.Layout.{abstracts}
 use Rattle.filling.proofs.NextWords.{Counting}
 use Rattle.filling.proofs.rank_words.next_word.Given as goal

@@ -11,14 +11,14 @@ agreeing_with-rest-requires c =
 pub loop-rest-init : goal.loop-rest-init
 loop-rest-init c =
     let p = c.requires in
-    (c.rules-rules.ensures.0, p.ready.2, p.v_bound.1)
+    (c.rules-rules.ensures.0, p.ready.2)
 
 pub shape_of-table-then-rules-r : goal.shape_of-table-then-rules-r
 shape_of-table-then-rules-r c =
     c.loop-rest.invariant.1.len ∙ sym c.requires.ready.2.len
 
 pub returns-then-rules-r : goal.returns-then-rules-r
-returns-then-rules-r c = let i = c.loop-rest.invariant in (i.1, i.2)
+returns-then-rules-r c = c.loop-rest.invariant.1
 
 pub pull-requires : goal.pull-requires
 pull-requires c =
@@ -27,7 +27,7 @@ pull-requires c =
     record {
       ready = (p.ready.0, p.ready.1, l.invariant.1);
       rule_bound =
-          (omega (arith, l.invariant.0, c.if-rules-r.false), p.v_bound.0, l.invariant.2);
+          (omega (arith, l.invariant.0, c.if-rules-r.false), p.v_bound);
     }
 
 pub loop-rest-smaller : goal.loop-rest-smaller
@@ -35,11 +35,11 @@ loop-rest-smaller c = c.without_lowest-rest.ensures.1
 
 pub loop-rest-preserved : goal.loop-rest-preserved
 loop-rest-preserved c =
-    (c.loop-rest.invariant.0, c.pull.ensures.0, c.pull.ensures.1)
+    (c.loop-rest.invariant.0, c.pull.ensures)
 
 pub shape_of-table : goal.shape_of-table
 shape_of-table c =
     c.loop-rest.invariant.1.len ∙ sym c.requires.ready.2.len
 
 pub returns : goal.returns
-returns c = let i = c.loop-rest.invariant in (i.1, i.2)
+returns c = c.loop-rest.invariant.1

@@ -2,28 +2,15 @@
 -- An entry above the cost by a rule leaves room for that cost, and the one write keeps the table good; the queue's
 -- functions keep the length of its array.
 use native.Mathlib.Omega.{arith}
-use borrow.Author.Rules.{rules}
 use Rattle.blocks.specs.Layout.{rule_at, cost_of}
 use Rattle.distances.specs.Filling.{Cheap}
 use Rattle.distances.proofs.Writing.{good-write}
 use Rattle.tables.specs.Abstraction.{graph_of}
 use Rattle.filling.proofs.spreading.lower.Goals as goal
-use Rattle.filling.proofs.spreading.lower.Goals.{then-old-lt-MARK, else-old-lt-MARK}
 
 pub overflow_add-new : goal.overflow_add-new
 overflow_add-new c =
     omega (arith, c.requires.cost_bound, c.slice_known-1.given c.args.u)
-
-pub put_in-requires : goal.put_in-requires
-put_in-requires c =
-    let p = c.requires in (
-      search rules,
-      search rules,
-      elim c.if-old-lt-MARK.branch [
-        | then-old-lt-MARK w ↦ rw w.links-is w.take_out.ensures
-        | else-old-lt-MARK w ↦ rw w.links-is p.lowering.3
-      ],
-    )
 
 pub returns : goal.returns
 unfolding cost_of
@@ -32,9 +19,7 @@ returns c =
     let p = c.requires.lowering.0 in
     let b = a.block.now in
     let top = c.slice_known-1.given a.u in
-    let cheap : Cheap (graph_of b) = λ r l. omega (arith, c.type_inv.block (rule_at b r)) in (
-      good-write (graph_of b) a.table.now p.good p.small cheap a.u a.edge.rule a.edge.to _
-          p.u_in p.r_in p.edge p.v_in (omega (arith, c.requires.cost_bound, top)) (omega arith)
-          (omega (arith, c.requires.cost_bound)),
-      c.put_in.ensures,
-    )
+    let cheap : Cheap (graph_of b) = λ r l. omega (arith, c.type_inv.block (rule_at b r)) in
+    good-write (graph_of b) a.table.now p.good p.small cheap a.u a.edge.rule a.edge.to _
+    p.u_in p.r_in p.edge p.v_in (omega (arith, c.requires.cost_bound, top)) (omega arith)
+    (omega (arith, c.requires.cost_bound))

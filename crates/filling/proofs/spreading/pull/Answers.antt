@@ -4,20 +4,19 @@ use native.Mathlib.Omega.{arith}
 use Rattle.filling.proofs.spreading.pull.Goals as goal
 
 pub returns-then-not-applies_word : goal.returns-then-not-applies_word
-returns-then-not-applies_word c = let p = c.requires in (p.ready.2, p.rule_bound.2)
+returns-then-not-applies_word c = c.requires.ready.2
 
 pub loop-left-init : goal.loop-left-init
-loop-left-init c = let p = c.requires in (p.ready.2, p.rule_bound.2)
+loop-left-init c = c.requires.ready.2
 
 pub try_candidate-requires : goal.try_candidate-requires
 try_candidate-requires c =
     let p = c.requires in
-    let i = c.loop-left.invariant in
-    record { ready = (p.ready.0, p.ready.1, i.0); rule_bound = (p.rule_bound.0, p.rule_bound.1, i.1) }
+    record { ready = (p.ready.0, p.ready.1, c.loop-left.invariant); rule_bound = p.rule_bound }
 
 pub shape_of-table-then-not-try_candidate : goal.shape_of-table-then-not-try_candidate
 shape_of-table-then-not-try_candidate c =
-    c.try_candidate.ensures.0.len ∙ sym c.requires.ready.2.len
+    c.try_candidate.ensures.len ∙ sym c.requires.ready.2.len
 
 pub returns-then-not-try_candidate : goal.returns-then-not-try_candidate
 returns-then-not-try_candidate c = c.try_candidate.ensures
@@ -33,7 +32,7 @@ next_candidate-w-requires c =
 
 pub shape_of-table-then-w-start : goal.shape_of-table-then-w-start
 shape_of-table-then-w-start c =
-    c.try_candidate.ensures.0.len ∙ sym c.requires.ready.2.len
+    c.try_candidate.ensures.len ∙ sym c.requires.ready.2.len
 
 pub returns-then-w-start : goal.returns-then-w-start
 returns-then-w-start c = c.try_candidate.ensures
@@ -43,7 +42,7 @@ loop-left-preserved c = c.try_candidate.ensures
 
 pub shape_of-table : goal.shape_of-table
 shape_of-table c =
-    c.loop-left.invariant.0.len ∙ sym c.requires.ready.2.len
+    c.loop-left.invariant.len ∙ sym c.requires.ready.2.len
 
 pub returns : goal.returns
 returns c = c.loop-left.invariant

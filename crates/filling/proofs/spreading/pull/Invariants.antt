@@ -1,15 +1,11 @@
 -- `filling::spreading::pull` meets its contract.
--- The loop's invariant: the table is good, and the queue's array keeps its length.
-use mathlib.Core.Path.{◌≡◌}
-use lib.ListN.{length}
-use Rattle.edge_ranks.specs.Lists.{lists_length}
+-- The loop's invariant: the table is good.
 use Rattle.distances.specs.Filling.{Good}
 use Rattle.tables.specs.Abstraction.{graph_of}
 use Rattle.filling.proofs.spreading.pull.Given as goal
 
 abbrev pub invariant-loop-left : goal.invariant-loop-left
-invariant-loop-left l =
-    Good (graph_of l.block) l.table × (length l.links ≡ lists_length)
+invariant-loop-left l = Good (graph_of l.block) l.table
 
 abbrev pub decreases-loop-left : goal.decreases-loop-left
 decreases-loop-left l = l.left

@@ -6,4 +6,4 @@ pub expand-requires : goal.expand-requires
 expand-requires c =
     let p = c.requires in
     let i = c.loop-left.invariant in
-    record { ready = (p.ready.0, p.ready.1, i.1); v_bound = (omega (arith, i.1.len), c.take_out.ensures) }
+    record { ready = (p.ready.0, p.ready.1, i.1); v_bound = omega (arith, i.1.len) }

@@ -18,7 +18,6 @@ lower-requires c =
             c.if-step_word-ranked.false,
         c.cost_word-cost.ensures.0 ∙ (p.ready.0.compiled.rule a.edge.rule p.rule_bound.0).cost,
         c.cost_word-cost.ensures.1,
-        p.rule_bound.2,
       );
       cost_bound = omega (arith, c.if-wide_entry-cost.false, c.wide_entry-2.ensures, c.wide_entry.ensures);
     }

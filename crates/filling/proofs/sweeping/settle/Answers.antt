@@ -8,7 +8,7 @@ use Rattle.filling.proofs.sweeping.settle.Goals as goal
 pub passes_by_sides-requires : goal.passes_by_sides-requires
 passes_by_sides-requires c =
     let p = c.requires in
-    (p.ready.0, omega (arith, p.ready.2.len), p.lists_len)
+    (p.ready.0, omega (arith, p.ready.2.len))
 
 pub shape_of-table-then-passes_by_sides : goal.shape_of-table-then-passes_by_sides
 shape_of-table-then-passes_by_sides c = refl
