@@ -3,7 +3,7 @@
 -- (`larger-figure`), table by table (`Left`), and what the sums of the first two entries tell of it (`first-sum`,
 -- `second-sum`, `one-sum`, `two-sums`); a figure that is settled is late (`settled-late`). The search rests on these.
 use mathlib.Core.Path.{◌≡◌, refl, sym, ap, ◌∙◌}
-use mathlib.Core.Logic.{⊎_elim}
+use mathlib.Core.Logic.{inr, ⊎_elim}
 use mathlib.Core.Bool.{Bool, true, false, cond, ◌&&◌}
 use mathlib.Core.List.{List}
 use Prim.Native.Nat.{ℕ, zero, suc, ◌+◌, ◌-◌, ◌/◌, ◌%◌, ◌≤◌, ◌<◌, max}
@@ -186,13 +186,13 @@ module _ (table : List ℕ) (cost ranks : ℕ) where
   module _ (maps figure rest : ℕ) where
     -- one more
     pub left-next :
-        (left figure' : ℕ) → cost ≤ 8589934592 → 0 < left → Left table cost ranks maps figure rest left
+        (left left' figure' : ℕ) → cost ≤ 8589934592 → left ≡ suc left' → Left table cost ranks maps figure rest left
         → figure' ≡ max figure (entry_figure cost (get_or table (rest / 65536 % 65536) 0))
-        → Left table cost ranks maps figure' (rest / 65536) (left - 1)
+        → Left table cost ranks maps figure' (rest / 65536) left'
     unfolding largest_at
-    left-next zero figure' small some k e = absurd (omega arith)
-    left-next (suc left) figure' small some k e =
-        let less : suc left - 1 ≡ left = omega arith in
+    left-next zero left' figure' small some k e = absurd (omega arith)
+    left-next (suc left) left' figure' small some k e =
+        let less : left' ≡ left = omega arith in
         let next = get_or table (rest / 65536 % 65536) 0 in
         let behind = largest_at table (rest / 65536 / 65536) left in
         let grouped : max (max k.passed next) behind ≡ max k.passed (max next behind) = omega arith in
@@ -226,6 +226,15 @@ module _ (table : List ℕ) (cost ranks : ℕ) where
         let all : k.passed ≡ largest_at table ranks maps = omega (arith, k.whole) in
         k.told ∙ ap (entry_figure cost) all
     left-none (suc left) e k = absurd (omega arith)
+
+    -- so one that is settled stands for it
+    pub settled-stands :
+        (T least left : ℕ) → cost ≤ 8589934592 → (ltb T figure && leb least figure) ≡ true
+        → Left table cost ranks maps figure rest left
+        → StandsFor T least figure (entry_figure cost (largest_at table ranks maps))
+    settled-stands T least left small e k =
+        let (above, no_lower) = settled-late T least figure e in
+        inr (above, no_lower, left_below left small k)
 
     -- the entry that comes next is there
     pub left-low :

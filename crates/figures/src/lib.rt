@@ -2,16 +2,17 @@
 // state stand in one number, 16 bits for each map, each an index into that array.
 #![tactic(auto)]
 
-ghost use Rattle.std.specs.Prelude.{◌≡◌, ◌&&◌, ◌+◌, ◌%◌, ◌≤◌, ◌<◌, max, ltb, leb, get_or};
+ghost use Rattle.std.specs.Prelude.{◌≡◌, ◌&&◌, ◌+◌, ◌%◌, ◌≤◌, ◌<◌, ltb, leb, get_or};
 ghost use Rattle.basics.specs.Marks.{mark};
 ghost use Rattle.words.specs.Changes.{map_count, RanksLow};
 ghost use Rattle.figures.specs.Figures.{entry_figure, largest_at, StandsFor};
 
 use blocks::validity::Entries;
-use tables::edges::{MARK, wide_entry};
+use tables::edges::MARK;
 use words::changes::{Changes, map_count};
 
-// What stands for no figure: it is above every threshold.
+// What stands for no figure: it is above every threshold. No Option: the order of options has None below all numbers,
+// so that the largest, the threshold's test and the least overshoot would each need a case of their own.
 pub const NO_FIGURE: u64 = 18446744073709551615;
 
 // The figure by the table of the lowest rank; NO_FIGURE with the mark.
@@ -21,7 +22,7 @@ fn entry_figure(table: &Entries, cost: u64, ranks: u64) -> u64
 {
     let entry = table[(ranks % 65536) as usize];
     if entry < MARK {
-        return cost + wide_entry(entry);
+        return cost + u64::from(entry);
     }
     NO_FIGURE
 }
@@ -31,27 +32,14 @@ pub fn entry_sum(table: &Entries, cost: u64, ranks: u64) -> u64
     requires { (ranks % 65536 < 16384) × (cost ≤ 8589934592) }
     ensures { (result ≡ cost + get_or table.now (ranks % 65536) 0) × (result ≤ cost + mark) }
 {
-    cost + wide_entry(table[(ranks % 65536) as usize])
-}
-
-// The larger of two figures.
-fn larger(a: u64, b: u64) -> u64
-    ensures { result ≡ max a b }
-{
-    if a < b {
-        return b;
-    }
-    a
+    cost + u64::from(table[(ranks % 65536) as usize])
 }
 
 // Whether a figure is above the threshold and lowers nothing: then no higher one matters either.
 fn is_settled(threshold: u64, least: u64, figure: u64) -> bool
     ensures { result ≡ (ltb threshold figure && leb least figure) }
 {
-    if threshold < figure {
-        return least <= figure;
-    }
-    false
+    threshold < figure && least <= figure
 }
 
 // The figure by so many tables, from that by the first one: the largest of all. Entries only raise it, so that the
@@ -71,14 +59,12 @@ fn further_figure(
 {
     let mut figure = first;
     let mut rest = ranks;
-    let mut left = maps - 1;
-    while left > 0 {
-        rest = rest / 65536;
-        figure = larger(figure, entry_figure(table, cost, rest));
+    for _ in 1..maps {
+        rest /= 65536;
+        figure = figure.max(entry_figure(table, cost, rest));
         if is_settled(threshold, least, figure) {
             return figure;
         }
-        left -= 1;
     }
     figure
 }

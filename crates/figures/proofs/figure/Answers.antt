@@ -1,11 +1,10 @@
 -- `figures::figure` meets its contract.
 -- The figure by the first table is settled, or the others are looked at.
 use mathlib.Core.Path.{sym, subst, ◌∙◌}
-use mathlib.Core.Logic.{inr}
-use Prim.Native.Nat.{ℕ, ◌-◌, ◌<◌}
+use Prim.Native.Nat.{ℕ, ◌<◌}
 use Rattle.words.specs.Changes.{map_count, RanksLow}
 use Rattle.figures.specs.Figures.{entry_figure, largest_at, StandsFor}
-use Rattle.figures.proofs.FigureLaws.{left-first, left_below, first-low, settled-late}
+use Rattle.figures.proofs.FigureLaws.{left-first, first-low, settled-stands}
 use Rattle.figures.proofs.figure.Goals as goal
 
 pub entry_figure-first-requires : goal.entry_figure-first-requires
@@ -15,17 +14,9 @@ entry_figure-first-requires c =
 pub returns-then-is_settled : goal.returns-then-is_settled
 returns-then-is_settled c =
     let a = c.args in
-    let table = a.table.now in
-    let maps = map_count a.changes.now in
-    let first = c.entry_figure-first.result in
-    let (above, no_lower) =
-    settled-late a.threshold a.least first (sym c.is_settled.ensures ∙ c.if-is_settled.true) in
-    inr (
-      above,
-      no_lower,
-      left_below table a.cost a.ranks maps first a.ranks (maps - 1) c.requires.2
-          (left-first table a.cost a.ranks maps first c.requires.0 c.requires.1 c.entry_figure-first.ensures),
-    )
+    settled-stands _ _ _ _ _ _ _ _ _ c.requires.2 (sym c.is_settled.ensures ∙ c.if-is_settled.true)
+    (left-first a.table.now a.cost a.ranks (map_count a.changes.now) _ c.requires.0 c.requires.1
+    c.entry_figure-first.ensures)
 
 pub further_figure-requires : goal.further_figure-requires
 further_figure-requires c =

@@ -4,9 +4,5 @@ use Prim.Native.Nat.{◌-◌}
 use Rattle.figures.proofs.FigureLaws.{Left}
 use Rattle.figures.proofs.further_figure.Given as goal
 
-abbrev pub invariant-loop-left : goal.invariant-loop-left
-invariant-loop-left l =
-    Left l.table l.cost l.ranks l.maps l.figure l.rest l.left
-
-abbrev pub decreases-loop-left : goal.decreases-loop-left
-decreases-loop-left l = l.left
+abbrev pub invariant-loop : goal.invariant-loop
+invariant-loop l = Left l.table l.cost l.ranks l.maps l.figure l.rest (l.maps - l.counter)
