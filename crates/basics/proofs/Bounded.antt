@@ -190,6 +190,13 @@ module _ (f : ℕ → Bool) where
       go true e = absurd (none-some (first n f) (sym (rw e at h)))
       go false e = some-false n e
 
+  -- what is found is the first; where nothing is, the first is the bound
+  pub find-first : (n i : ℕ) → find n f ≡ Some i → first n f ≡ i
+  find-first n i h = let (low, holds, before) = find-holds n i h in first-at n i low holds before
+
+  pub find-missing : (n : ℕ) → find n f ≡ None → first n f ≡ n
+  find-missing n h = first-passed n n (omega arith) (find-fails n h)
+
   -- the last is not before a number at which the test holds, and the test holds at it
   pub last-above : (n k : ℕ) → k < n → f k ≡ true → k < last n f
   last-above zero k l h = absurd (not-suc-le-zero l)

@@ -1,15 +1,13 @@
 -- Matching in two parts (document 02, F-3): first all constants, where the answer is the lowest position whose constant
 -- differs from the state's label, or none (`constant_mismatch`); then, on none alone, the variables
--- (`variables_agree`). `mismatch_of` reads the first part's answer, and `MismatchMeans` says what it means; `TwoParts`
--- says that both parts are `matches`. Matching on bytes and on words is stated with these.
+-- (`variables_agree`). `MismatchMeans` says what the first part's answer means; `TwoParts` says that both
+-- parts are `matches`. Matching on bytes and on words is stated with these.
 use Rattle.std.specs.Prelude.{◌≡◌, ◌↔◌, Bool, true, false, not, List, ℕ, ◌≤◌, ◌<◌, eqb, get_or, None, Option, Some}
 use Rattle.basics.specs.Bounded.{all, find}
 use Rattle.blocks.specs.Terms.{term_of}
 use Rattle.blocks.specs.declared.terms.Term.{Term}
 use Rattle.blocks.specs.declared.terms.Term.TheVariants.{Label, Variable, Dash, Refused}
 use Rattle.psvn.specs.Rules.{bound, matches}
-use Rattle.psvn.specs.declared.matching.Mismatch.{Mismatch}
-use Rattle.psvn.specs.declared.matching.Mismatch.TheVariants.{Nowhere, At}
 
 -- a label may stand where a term does, as far as constants go: a constant asks for itself
 abbrev pub constant_allows : Term → ℕ → Bool
@@ -28,11 +26,6 @@ constants_agree n side s = all n (constant_agrees side s)
 -- "the lowest position whose constant differs from the state's label, or none"
 unfoldable pub constant_mismatch : ℕ → (ℕ → ℕ) → List ℕ → Option ℕ
 constant_mismatch n side s = find n (λ i. not (constant_agrees side s i))
-
--- the answer of the first part
-abbrev pub mismatch_of : Mismatch → Option ℕ
-mismatch_of Nowhere = None
-mismatch_of (At i) = Some i
 
 -- what it means, by the test of each of n positions: a position is told exactly where that is the lowest one that
 -- fails, and none "exactly when all agree"

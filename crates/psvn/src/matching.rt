@@ -4,18 +4,11 @@ ghost use Rattle.blocks.specs.Terms.{term_of};
 ghost use Rattle.blocks.specs.Layout.{side_at};
 ghost use Rattle.psvn.specs.Rules.{bound, matches};
 ghost use Rattle.psvn.specs.TwoParts.{constant_allows, constant_agrees, constants_agree, constant_mismatch};
-ghost use Rattle.psvn.specs.TwoParts.{mismatch_of, MismatchMeans, variable_agrees};
+ghost use Rattle.psvn.specs.TwoParts.{MismatchMeans, variable_agrees};
 
 use basics::first_of;
 use blocks::labels::ConcreteLabel;
 use blocks::terms::{Term, decode};
-
-// Where the constants of a side differ from the labels of a state: nowhere, or at the lowest such position.
-#[derive(Drop)]
-pub enum Mismatch {
-    Nowhere,
-    At(usize),
-}
 
 // Whether a label may stand where the term of a byte does, as far as constants go.
 fn constant_allows(byte: u8, label: u8) -> bool
@@ -30,21 +23,22 @@ fn constant_allows(byte: u8, label: u8) -> bool
     }
 }
 
-// The first part: the lowest position where the side at `at` has another constant than a state has a label.
-pub fn constant_mismatch(block: &[u8], at: usize, state: &[u8]) -> Mismatch
+// The first part: the lowest position where the side at `at` has another constant than a state has a label, if there is
+// one.
+pub fn constant_mismatch(block: &[u8], at: usize, state: &[u8]) -> Option<usize>
     requires { at + length state.now ≤ length block.now }
-    ensures result_value { mismatch_of result ≡
+    ensures result_value { result ≡
         constant_mismatch (length state.now) (side_at block.now at) state.now }
     ensures mismatch_means { MismatchMeans (length state.now)
-        (constant_agrees (side_at block.now at) state.now) (mismatch_of result) }
+        (constant_agrees (side_at block.now at) state.now) result }
 {
     let n = state.len();
     for i in 0..n {
         if !constant_allows(block[at + i], state[i]) {
-            return Mismatch::At(i);
+            return Some(i);
         }
     }
-    Mismatch::Nowhere
+    None
 }
 
 // The label that the side at `at` binds a variable to: that of the first position where it stands; 0 if it stands
@@ -54,11 +48,10 @@ pub fn label_bound(block: &[u8], at: usize, state: &[u8], v: u8) -> ConcreteLabe
     ensures { result.0 ≡ bound (length state.now) (side_at block.now at) state.now
         v }
 {
-    let j = first_of(block, at, state.len(), v);
-    if j < state.len() {
-        return ConcreteLabel(state[j]);
+    match first_of(block, at, state.len(), v) {
+        Some(j) => ConcreteLabel(state[j]),
+        None => ConcreteLabel(0),
     }
-    ConcreteLabel(0)
 }
 
 // Whether a state has at position i the label that a variable of the side at `at` is bound to, where one stands there.
@@ -99,9 +92,8 @@ pub fn side_matches(block: &[u8], at: usize, state: &[u8]) -> bool
     requires { at + length state.now ≤ length block.now }
     ensures { result ≡ matches (length state.now) (side_at block.now at) state.now }
 {
-    let mismatch = constant_mismatch(block, at, state);
-    match mismatch {
-        Mismatch::Nowhere => variables_match(block, at, state),
-        Mismatch::At(_) => false,
+    match constant_mismatch(block, at, state) {
+        None => variables_match(block, at, state),
+        Some(_) => false,
     }
 }

@@ -5,14 +5,14 @@ ghost use Rattle.blocks.specs.Terms.{term_of};
 ghost use Rattle.blocks.specs.Layout.{positions, rules, goals, side_at};
 ghost use Rattle.blocks.specs.Validity.{Sized};
 ghost use Rattle.psvn.specs.Rules.{given, rewritten, applies, step, same, leads};
-ghost use Rattle.psvn.specs.Rules.{goal_met, met_goal, goal_byte};
+ghost use Rattle.psvn.specs.Rules.{goal_met, met_goal};
 
 use super::matching::{label_bound, side_matches};
 use blocks::labels::ConcreteLabel;
 use blocks::layout;
 use blocks::terms::{Term, decode};
 
-// What stands for a goal where none is met: hexadecimal FF.
+// What stands for a goal in bytes and in answers for C where none is met: hexadecimal FF.
 pub const NO_GOAL: u8 = 255;
 
 // The label that a term's byte gives at position i of a state, under the side at `at`.
@@ -106,16 +106,16 @@ fn goal_met(block: &[u8], g: usize, state: &[u8]) -> bool
     side_matches(block, layout::goal_at(block, g), state)
 }
 
-// The goal that a state meets, the lowest number of a met one; NO_GOAL where none is met.
-pub fn met_goal(block: &[u8], state: &[u8]) -> u8
+// The goal that a state meets, the lowest number of a met one, if one is met.
+pub fn met_goal(block: &[u8], state: &[u8]) -> Option<u8>
     requires { Sized block.now × (length state.now ≡ positions block.now) }
-    ensures { result ≡ goal_byte (met_goal block.now state.now) }
+    ensures { result ≡ met_goal block.now state.now }
 {
     let goals = layout::goals(block);
     for g in 0..goals {
         if goal_met(block, g, state) {
-            return g as u8;
+            return Some(g as u8);
         }
     }
-    NO_GOAL
+    None
 }

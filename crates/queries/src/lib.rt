@@ -3,11 +3,11 @@
 
 ghost use Rattle.std.specs.Prelude.{◌≡◌};
 ghost use Rattle.refusals.specs.Answers.{verdict};
-ghost use Rattle.refusals.specs.Refusals.{verdict_of};
+ghost use Rattle.refusals.specs.Refusals.{answer_of};
 ghost use Rattle.blocks.specs.Validity.{Headed};
 ghost use Rattle.queries.specs.Queries.{query_conditions};
 
-use refusals::{Refusal, Verdict};
+use refusals::Refusal;
 
 // The largest step limit.
 pub const LONGEST_PLAN: usize = 64;
@@ -22,15 +22,15 @@ pub struct Limits {
 }
 
 // Whether a search may be asked for: refused with 8 for the start, with 10 for the step limit.
-pub fn check_query(block: &[u8], start: &[u8], limits: Limits) -> Verdict
+pub fn check_query(block: &[u8], start: &[u8], limits: Limits) -> Result<(), Refusal>
     requires { Headed block.now }
-    ensures { verdict_of result ≡ verdict (query_conditions block.now start.now limits) }
+    ensures { answer_of result ≡ verdict (query_conditions block.now start.now limits) }
 {
     if !blocks::states::state_ok(block, start) {
-        return Verdict::Refused(Refusal::State);
+        return Err(Refusal::State);
     }
     if LONGEST_PLAN < limits.steps {
-        return Verdict::Refused(Refusal::Limit);
+        return Err(Refusal::Limit);
     }
-    Verdict::Accepted
+    Ok(())
 }

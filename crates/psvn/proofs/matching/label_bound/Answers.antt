@@ -1,25 +1,29 @@
 -- `psvn::matching::label_bound` meets its contract.
 -- A variable that stands nowhere gives 0, as a place behind the state does.
-use mathlib.Core.Path.{sym, ap, ◌∙◌}
-use Prim.Native.Nat.{ℕ}
-use lib.ListN.{get_or, get_or-eq_default}
+use Rattle.std.proofs.Common.{sym, ap, ◌∙◌, ℕ, eqb, length, get_or, arith}
+use Rattle.std.proofs.Math.ListN.{get_or-eq_default}
+use Rattle.basics.proofs.Bounded.{find-holds, find-first, find-missing}
+use Rattle.blocks.specs.Layout.{side_at}
 use Rattle.psvn.specs.Rules.{bound}
 use Rattle.psvn.proofs.matching.label_bound.Goals as goal
-use Rattle.psvn.proofs.matching.label_bound.Goals.{After-shared_slice_known-then-j-state-1, Else-j-state}
 
--- the label at a place of the state
-abbrev label_at : After-shared_slice_known-then-j-state-1 → ℕ → ℕ
-label_at c k = get_or c.args.state.now k 0
+pub bounds-state-j : goal.bounds-state-j
+bounds-state-j c =
+    let a = c.args in
+    (find-holds (λ k. eqb (side_at a.block.now a.at k) a.v) (length a.state.now) c.in-Some.j (sym c.in-Some.ensures)).0
 
-pub returns-then-j-state : goal.returns-then-j-state
+pub returns-in-Some : goal.returns-in-Some
 unfolding bound
-returns-then-j-state c = ap (label_at c) c.first_of-j.ensures
+returns-in-Some c =
+    let a = c.args in
+    ap (λ (k : ℕ). get_or a.state.now k 0)
+    (sym (find-first (λ k. eqb (side_at a.block.now a.at k) a.v) (length a.state.now) c.in-Some.j
+    (sym c.in-Some.ensures)))
 
--- the label at a place of the state
-abbrev label_at-2 : Else-j-state → ℕ → ℕ
-label_at-2 c k = get_or c.args.state.now k 0
-
-pub returns : goal.returns
+pub returns-in-None : goal.returns-in-None
 unfolding bound
-returns c =
-    sym (get_or-eq_default c.args.state.now 0 c.if-j-state.false) ∙ ap (label_at-2 c) c.first_of-j.ensures
+returns-in-None c =
+    let a = c.args in
+    let end =
+    find-missing (λ k. eqb (side_at a.block.now a.at k) a.v) (length a.state.now) (sym c.in-None.ensures) in
+    sym (ap (λ (k : ℕ). get_or a.state.now k 0) end ∙ get_or-eq_default a.state.now 0 (omega arith))

@@ -1,7 +1,7 @@
 -- `psvn::relabelling::relabel_side` meets its contract.
 use mathlib.Core.Path.{◌≡◌, ap, ◌∙◌}
 use mathlib.Core.List.{List}
-use Prim.Native.Nat.{ℕ, ◌+◌, ◌-◌}
+use Prim.Native.Nat.{ℕ, ◌+◌}
 use native.Mathlib.Omega.{arith}
 use lib.ListN.{length, set}
 use lib.Seq.{sets, length-sets}
@@ -9,7 +9,7 @@ use borrow.Author.Rules.{rules}
 use Rattle.basics.specs.Lists.{tabulate}
 use Rattle.basics.proofs.Lists.{sets_more}
 use Rattle.blocks.specs.Layout.{positions, side_at}
-use Rattle.psvn.specs.Relabelling.{relabel_term, relabel_side}
+use Rattle.psvn.specs.Relabelling.{relabel_side}
 use Rattle.blocks.proofs.Accepted.{side-term}
 use Rattle.psvn.proofs.relabelling.relabel_side.Goals as goal
 use Rattle.psvn.proofs.relabelling.relabel_side.Goals.{After-loop-i, After-relabel_term}
