@@ -2,7 +2,7 @@
 // each, how many entries their tables have, and what turns them back.
 #![tactic(auto)]
 
-ghost use Rattle.std.specs.Prelude.{◌≡◌, suc, ◌+◌, ◌*◌, ◌≤◌, ◌<◌, min, length};
+ghost use Rattle.std.specs.Prelude.{◌≡◌, ℕ, suc, ◌+◌, ◌*◌, ◌≤◌, ◌<◌, min, List, length, take};
 ghost use Rattle.basics.specs.Lists.{at_front};
 ghost use Rattle.refusals.specs.Answers.{verdict};
 ghost use Rattle.refusals.specs.Refusals.{verdict_of};
@@ -14,9 +14,10 @@ ghost use Rattle.maps.specs.Maps.{exercise_conditions, Mapped};
 
 use basics::{and, power_within, wide};
 use blocks::layout;
-use blocks::layout::BlockBuffer;
+use blocks::layout::{BLOCK_ROOM, BlockBuffer};
 use blocks::validity::{MOST_STATES, lies_within};
 use refusals::{Refusal, Verdict};
+use std::marker::Model;
 
 // The most further maps that may be lent.
 pub const MOST_FURTHER: usize = 3;
@@ -54,6 +55,44 @@ pub fn remap(block: &[u8], maps: &[u8], i: usize, out: &mut BlockBuffer)
 {
     let at = map_at(block, maps, i);
     blocks::remapping::remap(block, &maps[at..], out);
+}
+
+// The exercise under a further map, at the front of a buffer with room for every block. Contracts see its bytes.
+#[derive(Drop)]
+pub struct Exercise {
+    buffer: BlockBuffer,
+    length: usize,
+}
+
+impl Model for Exercise {
+    ghost Value = { List ℕ };
+
+    ghost view = { λ e. take e.length e.buffer };
+
+    ghost invariant = { λ e. e.length ≤ 2304 };
+}
+
+impl Exercise {
+    // The exercise under further map i.
+    pub fn under(block: &[u8], maps: &[u8], i: usize) -> Self
+        requires { Sized block.now × (i < further_maps block.now maps.now) }
+        ensures { result ≡ exercise_at block.now maps.now (suc i) }
+    {
+        let begin = map_at(block, maps, i);
+        let mut buffer = [0u8; BLOCK_ROOM];
+        blocks::remapping::remap(block, &maps[begin..], &mut buffer);
+        Exercise {
+            buffer,
+            length: block.len(),
+        }
+    }
+
+    // Its bytes, an ordinary block.
+    pub fn bytes(&self) -> &[u8]
+        ensures { result.now ≡ self.now }
+    {
+        &self.buffer[..self.length]
+    }
 }
 
 // K of further map i.
