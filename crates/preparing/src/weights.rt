@@ -7,17 +7,13 @@ ghost use Rattle.preparing.specs.Weights.{at_first, MapAdded, MapPlaced, Weights
 
 use blocks::layout::BLOCK_ROOM;
 use rank_changes::{SINGLES, Singles};
-use words::ranking::wide_weight;
 
 // Where a table begins, for a label at position 0, which every state has; nothing for the others. `k` is the label's
 // place among sixteen for each position.
 fn begins_at(k: usize, begin: usize) -> usize
     ensures { (result ≡ at_first begin (k / 16)) × (result ≤ begin) }
 {
-    if k < 16 {
-        return begin;
-    }
-    0
+    if k < 16 { begin } else { 0 }
 }
 
 // Puts the weights of one more map in front: those that are packed move up, and of three at most none is lost.
@@ -25,9 +21,9 @@ fn add_map(own: &compiling::Singles, begin: usize, singles: &mut Singles)
     requires { ((k : ℕ) → get_or own.now k 0 ≤ 16384) × (begin ≤ 16384) }
     ensures { MapAdded own.now begin singles.old singles.new }
 {
-    for k in 0..SINGLES {
-        let weight = wide_weight(own[k]) + begins_at(k, begin);
-        singles[k] = weight as u64 + 65536 * (singles[k] % 281474976710656);
+    for (k, packed) in singles.iter_mut().enumerate() {
+        let weight = usize::from(own[k]) + begins_at(k, begin);
+        *packed = weight as u64 + 65536 * (*packed % 281474976710656);
     }
 }
 
@@ -61,9 +57,7 @@ pub fn packed_weights(block: &[u8], maps: &[u8]) -> Singles
 {
     let mut singles = [0u64; SINGLES];
     let mut begin = maps::all_entries(block, maps);
-    let mut i = maps::further_maps(block, maps);
-    while i > 0 {
-        i -= 1;
+    for i in (0..maps::further_maps(block, maps)).rev() {
         begin -= maps::entries_of(block, maps, i);
         place_further(block, maps, i, begin, &mut singles);
     }

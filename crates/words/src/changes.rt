@@ -6,7 +6,6 @@ ghost use Rattle.words.specs.Changes as counted;
 ghost use Rattle.words.specs.Changes.{part_count, part_adds, next_ranks, ranks_word};
 
 use super::packing::digit;
-use std::num::wrapping_add_u64;
 
 // Where the number of maps stands, behind the weights of single labels, sixteen for each position.
 pub const MAPS: usize = 256;
@@ -39,7 +38,7 @@ pub fn ranks_word(changes: &Changes, n: usize, word: u64) -> u64
     let mut ranks: u64 = 0;
     for p in 0..n {
         let label = digit(word, p) as usize;
-        ranks = wrapping_add_u64(ranks, changes[16 * p + label]);
+        ranks = ranks.wrapping_add(changes[16 * p + label]);
     }
     ranks
 }
@@ -60,11 +59,11 @@ pub fn next_ranks(changes: &Changes, r: usize, ranks: u64, word: u64) -> u64
 {
     let at = FIRST_CHANGE + CHANGE * r;
     let mut part = at + 1;
-    let mut sum = wrapping_add_u64(ranks, added(changes, part, word));
+    let mut sum = ranks.wrapping_add(added(changes, part, word));
     let parts = changes[at];
-    for j in 1..parts {
+    for _ in 1..parts {
         part += PART;
-        sum = wrapping_add_u64(sum, added(changes, part, word));
+        sum = sum.wrapping_add(added(changes, part, word));
     }
     sum
 }

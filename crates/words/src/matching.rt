@@ -49,14 +49,12 @@ pub fn variables_match_word(code: &Code, x: usize, word: u64) -> bool
     let at = SIDE * x;
     let mut from = code[at + FROM];
     let mut to = code[at + TO];
-    let mut left = code[at + MOVES];
-    while left > 0 {
+    for _ in 0..code[at + MOVES] {
         if !move_agrees(word, from, to) {
             return false;
         }
         from = from / 16;
         to = to / 16;
-        left -= 1;
     }
     true
 }

@@ -2,8 +2,6 @@
 ghost use Rattle.std.specs.Prelude.{◌≡◌, ℕ, ◌%◌, ◌<◌, ◌≤◌, length, slice_index};
 ghost use Rattle.words.specs.Packing as packing;
 
-use basics::wide;
-
 // The digit at position i.
 pub fn digit(word: u64, i: usize) -> u64
     requires { i < 16 }
@@ -29,10 +27,8 @@ pub fn pack(state: &[u8]) -> u64
     ensures { result ≡ packing.pack state.now }
 {
     let mut word: u64 = 0;
-    let mut i = state.len();
-    while i > 0 {
-        i -= 1;
-        word = word * 16 + wide(state[i]) as u64;
+    for label in state.iter().rev() {
+        word = word * 16 + u64::from(*label);
     }
     word
 }

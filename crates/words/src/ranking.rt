@@ -18,14 +18,7 @@ fn weight(weights: &[u16], j: usize, pair: ConcretePair) -> usize
     requires { (2048 ≤ length weights.now) × (j < 8) × (pair.0 < 256) }
     ensures { (result ≡ slice_index weights.now (256 * j + pair.0)) × (result ≤ 65535) }
 {
-    wide_weight(weights[256 * j + pair.0 as usize])
-}
-
-// A weight as an index.
-pub fn wide_weight(weight: u16) -> usize
-    ensures { (result ≡ weight) × (result ≤ 65535) }
-{
-    weight as usize
+    usize::from(weights[256 * j + usize::from(pair.0)])
 }
 
 // The rank of the relabelled state of a word of n labels.
@@ -50,9 +43,7 @@ pub fn word_of(block: &[u8], k: usize) -> u64
 {
     let mut word: u64 = 0;
     let mut rest = k;
-    let mut i = layout::positions(block);
-    while i > 0 {
-        i -= 1;
+    for i in (0..layout::positions(block)).rev() {
         let base = layout::abstract_count(block, i);
         word = word * 16 + (rest % base) as u64;
         rest = rest / base;

@@ -26,12 +26,10 @@ pub fn rewritten_word(code: &Code, x: usize, word: u64) -> u64
     let mut made = (word & code[at + KEEP]) | code[at + VALUE];
     let mut from = code[at + FROM];
     let mut to = code[at + TO];
-    let mut left = code[at + MOVES];
-    while left > 0 {
+    for _ in 0..code[at + MOVES] {
         made = made | move_label(word, from, to);
         from = from / 16;
         to = to / 16;
-        left -= 1;
     }
     made
 }

@@ -12,14 +12,14 @@ pub loop-k-init : goal.loop-k-init
 loop-k-init c = (search rules, added_none (search rules))
 
 pub overflow_add-weight : goal.overflow_add-weight
-overflow_add-weight c = omega (arith, c.wide_weight.ensures.1, c.begins_at.ensures.1)
+overflow_add-weight c = omega (arith, c.requires.0 c.loop-k.k, c.from.ensures, c.begins_at.ensures.1)
 
-pub overflow_add-singles : goal.overflow_add-singles
-overflow_add-singles c =
+pub overflow_add-packed : goal.overflow_add-packed
+overflow_add-packed c =
     let l = c.loop-k in
     omega (
       arith,
-      c.wide_weight.ensures.0,
+      c.from.ensures,
       c.requires.0 l.k,
       c.begins_at.ensures.1,
       c.requires.1,
@@ -33,7 +33,7 @@ loop-k-preserved c =
     let front = get_or a.own.now l.k 0 + at_first a.begin (l.k / 16) in (
       search rules,
       added_more (omega (arith, c.loop-k-test.true)) l.invariant.1
-          (ap₂ (λ (x y : ℕ). x + y + behind) c.wide_weight.ensures.0 c.begins_at.ensures.0
+          (ap₂ (λ (x y : ℕ). x + y + behind) c.from.ensures c.begins_at.ensures.0
           ∙ ap (λ (x : ℕ). front + 65536 * (x % three_ranks)) (l.invariant.1.rest l.k (omega arith))),
     )
 

@@ -12,7 +12,7 @@ returns-then-k-lt16 c =
     let a = c.args in
     (sym (ap (λ (t : Bool). cond t a.begin 0) (lt-ltb (a.k / 16) 1 (omega (arith, c.if-k-lt16.true)))), omega arith)
 
-pub returns : goal.returns
-returns c =
+pub returns-else-k-lt16 : goal.returns-else-k-lt16
+returns-else-k-lt16 c =
     let a = c.args in
     (sym (ap (λ (t : Bool). cond t a.begin 0) (le-ltb (a.k / 16) 1 (omega (arith, c.if-k-lt16.false)))), omega arith)

@@ -10,6 +10,3 @@ abbrev pub invariant-loop-i : goal.invariant-loop-i
 invariant-loop-i l =
     (l.i ≤ further_maps l.block l.maps) × (l.begin ≡ entries_before l.block l.maps (suc l.i))
     × WeightsPacked l.block l.maps (suc l.i) (further_maps l.block l.maps - l.i) l.singles
-
-abbrev pub decreases-loop-i : goal.decreases-loop-i
-decreases-loop-i l = l.i

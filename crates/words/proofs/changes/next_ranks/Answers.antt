@@ -1,45 +1,39 @@
 -- `words::changes::next_ranks` meets its contract.
-use Rattle.std.proofs.Common.{◌≡◌, ℕ, ◌+◌, ◌-◌, ◌%◌, sym, ap, ◌∙◌, ap₂, add-zero, add_assoc, zero-add, add-one, arith}
+use Rattle.std.proofs.Common.{◌≡◌, ℕ, ◌+◌, ◌%◌, sym, ap, ◌∙◌, ap₂, add-zero, add_assoc, zero-add, add-one, arith}
 use Rattle.std.proofs.Common.{rules}
 use native.Mathlib.Nat.{mod-add-mod}
 use Rattle.words.specs.Changes.{word_span, change_place, part_count, part_place, part_adds, added_to, next_ranks}
 use Rattle.words.proofs.changes.next_ranks.Goals as goal
 
-pub loop-j-init : goal.loop-j-init
+pub loop-init : goal.loop-init
 unfolding added_to
-loop-j-init c =
+loop-init c =
     let a = c.args in (
       search rules,
-      search rules,
-      search rules,
-      c.wrapping_add_u64-sum.ensures.value
-          ∙ ap (λ (x : ℕ). (a.ranks + x) % word_span)
+      ap (λ (x : ℕ). (a.ranks + x) % word_span)
           (c.added.ensures
           ∙ ap (λ (k : ℕ). part_adds a.changes.now k a.word) (sym (add-zero (change_place a.r + 1)))
           ∙ sym (zero-add (part_adds a.changes.now (part_place a.r 0) a.word))),
     )
 
-pub loop-j-preserved : goal.loop-j-preserved
+pub loop-preserved : goal.loop-preserved
 unfolding added_to
-loop-j-preserved c =
+loop-preserved c =
     let a = c.args in
-    let l = c.loop-j in
+    let l = c.loop in
     let before = added_to a.changes.now a.r a.word in (
       search rules,
-      search rules,
-      search rules,
-      c.wrapping_add_u64-sum-in-loop-j.ensures.value
-          ∙ ap₂ (λ (x y : ℕ). (x + y) % word_span) l.invariant.3
-          (c.added-in-loop-j.ensures ∙ ap (λ (k : ℕ). part_adds a.changes.now k a.word) l.invariant.2)
-          ∙ mod-add-mod (a.ranks + before l.j) word_span _
-          ∙ ap (λ (x : ℕ). x % word_span) (add_assoc a.ranks (before l.j) _)
-          ∙ ap (λ (j : ℕ). (a.ranks + before j) % word_span) (sym (add-one l.j)),
+      ap₂ (λ (x y : ℕ). (x + y) % word_span) l.invariant.1
+          (c.added-sum.ensures ∙ ap (λ (k : ℕ). part_adds a.changes.now k a.word) (omega (arith, l.invariant.0)))
+          ∙ mod-add-mod (a.ranks + before l.counter) word_span _
+          ∙ ap (λ (x : ℕ). x % word_span) (add_assoc a.ranks (before l.counter) _)
+          ∙ ap (λ (j : ℕ). (a.ranks + before j) % word_span) (sym (add-one l.counter)),
     )
 
 pub returns : goal.returns
 unfolding next_ranks
 returns c =
     let a = c.args in
-    let l = c.loop-j in
-    let all : l.j ≡ part_count a.changes.now a.r = omega (arith, c.loop-j-test.false, l.invariant.1) in
-    l.invariant.3 ∙ ap (λ (j : ℕ). (a.ranks + added_to a.changes.now a.r a.word j) % word_span) all
+    let l = c.loop in
+    let all : l.counter ≡ part_count a.changes.now a.r = omega (arith, c.requires.1, c.loop-test.false) in
+    l.invariant.1 ∙ ap (λ (j : ℕ). (a.ranks + added_to a.changes.now a.r a.word j) % word_span) all

@@ -1,77 +1,56 @@
 -- `words::packing::pack` meets its contract.
-use Rattle.std.proofs.Common.{◌≡◌, ℕ, suc, ◌+◌, ◌-◌, ◌*◌, ◌^◌, ◌<◌, length, get_or, drop, sym, ap, ◌∙◌, lt_of_lt_of_le}
-use Rattle.std.proofs.Common.{arith, length-drop, get_or-drop, drop-cons, rules}
-use lib.Seq.{drop-length}
+use Rattle.std.proofs.Common.{◌≡◌, ℕ, ◌+◌, ◌^◌, ◌<◌, ◌≤◌, List, [], ◌∷◌, ◌++◌, length, get_or, sym, ap, ◌∙◌}
+use Rattle.std.proofs.Common.{lt_of_lt_of_le, arith, append_assoc, length-append, refl, rules}
+use Rattle.std.proofs.lemmas.List.{get_or-append-add, nil_from_length}
 use Rattle.words.specs.Packing as packing
 use Rattle.words.proofs.WordDigits.{pack-below, power-fits}
 use Rattle.words.proofs.packing.pack.Goals as goal
-use Rattle.words.proofs.packing.pack.Goals.{After-wide, In-loop-i}
 
-pub loop-i-init : goal.loop-i-init
-loop-i-init c = (search rules, ap packing.pack (sym (drop-length c.args.state.now)))
-
-next :
-    (c : In-loop-i)
-    → let s = c.args.state.now in
-    let i = c.loop-i.i in
-    c.loop-i.word * 16 + get_or s (i - 1) 0 ≡ packing.pack (drop (i - 1) s)
-next c =
-    let s = c.args.state.now in
-    let i = c.loop-i.i in
-    let back : suc (i - 1) ≡ i = omega arith in
-    ap (λ (w : ℕ). w * 16 + get_or s (i - 1) 0)
-    (c.loop-i.invariant.1 ∙ ap (λ (k : ℕ). packing.pack (drop k s)) (sym back))
-    ∙ ap packing.pack (sym (drop-cons s (i - 1) 0 (omega arith)))
-
+-- the labels behind `rest` fit a word
 fits :
-    (c : In-loop-i)
-    → packing.pack (drop (c.loop-i.i - 1) c.args.state.now) < 2 ^ 64
-fits c =
-    let s = c.args.state.now in
-    let i = c.loop-i.i - 1 in
-    let e = length-drop i s in
+    (rest tail state : List ℕ) → state ≡ rest ++ tail → length state ≤ 16
+    → ((i : ℕ) → i < length state → get_or state i 0 < 16) → packing.pack tail < 2 ^ 64
+fits rest tail state e few small =
+    let long : length state ≡ length rest + length tail = ap length e ∙ length-append rest tail in
     lt_of_lt_of_le
-    (pack-below (drop i s) (λ k l. rw (get_or-drop i s k 0) (c.requires.1 (i + k) (omega arith))))
-    (power-fits (length (drop i s)) (omega arith))
+    (pack-below tail (λ k l.
+    let at : get_or state (length rest + k) 0 ≡ get_or tail k 0 =
+    ap (λ (s : List ℕ). get_or s (length rest + k) 0) e ∙ get_or-append-add rest tail k 0 in
+    omega (arith, at, small (length rest + k) (omega arith))))
+    (power-fits (length tail) (omega arith))
+
+-- the label taken stands behind the rest, in front of those taken before
+taken :
+    (rest rest' tail state : List ℕ) (label : ℕ) → state ≡ rest ++ tail → rest ≡ rest' ++ label ∷ []
+    → state ≡ rest' ++ label ∷ tail
+taken rest rest' tail state label e f =
+    e ∙ ap (λ (s : List ℕ). s ++ tail) f ∙ append_assoc rest' (label ∷ []) tail
+
+pub loop-label-init : goal.loop-label-init
+loop-label-init c = ([], search rules, refl)
 
 pub overflow_mul-word : goal.overflow_mul-word
-overflow_mul-word c = omega (arith, next c, fits c)
-
-next-2 :
-    (c : After-wide)
-    → let s = c.args.state.now in
-    let i = c.loop-i.i in
-    c.loop-i.word * 16 + get_or s (i - 1) 0 ≡ packing.pack (drop (i - 1) s)
-next-2 c =
-    let s = c.args.state.now in
-    let i = c.loop-i.i in
-    let back : suc (i - 1) ≡ i = omega arith in
-    ap (λ (w : ℕ). w * 16 + get_or s (i - 1) 0)
-    (c.loop-i.invariant.1 ∙ ap (λ (k : ℕ). packing.pack (drop k s)) (sym back))
-    ∙ ap packing.pack (sym (drop-cons s (i - 1) 0 (omega arith)))
-
-fits-2 :
-    (c : After-wide)
-    → packing.pack (drop (c.loop-i.i - 1) c.args.state.now) < 2 ^ 64
-fits-2 c =
-    let s = c.args.state.now in
-    let i = c.loop-i.i - 1 in
-    let e = length-drop i s in
-    lt_of_lt_of_le
-    (pack-below (drop i s) (λ k l. rw (get_or-drop i s k 0) (c.requires.1 (i + k) (omega arith))))
-    (power-fits (length (drop i s)) (omega arith))
+overflow_mul-word c =
+    let (tail, stands, word) = c.loop-label.invariant in
+    let e = taken _ _ tail c.args.state.now c.in-Some.label.now stands c.in-Some.ensures.steps in
+    omega (arith, word, fits _ (c.in-Some.label.now ∷ tail) _ e c.requires.0 c.requires.1)
 
 pub overflow_add-word : goal.overflow_add-word
-overflow_add-word c = omega (arith, c.wide.ensures.0, next-2 c, fits-2 c)
+overflow_add-word c =
+    let (tail, stands, word) = c.loop-label.invariant in
+    let e = taken _ _ tail c.args.state.now c.in-Some.label.now stands c.in-Some.ensures.steps in
+    omega (arith, word, c.from.ensures, fits _ (c.in-Some.label.now ∷ tail) _ e c.requires.0 c.requires.1)
 
-pub loop-i-preserved : goal.loop-i-preserved
-loop-i-preserved c = (
-  omega arith,
-  ap (λ (x : ℕ). c.loop-i.word * 16 + x) c.wide.ensures.0 ∙ next-2 c,
-)
+pub loop-label-preserved : goal.loop-label-preserved
+loop-label-preserved c =
+    let (tail, stands, word) = c.loop-label.invariant in (
+      c.in-Some.label.now ∷ tail,
+      taken _ _ tail c.args.state.now c.in-Some.label.now stands c.in-Some.ensures.steps,
+      omega (arith, word, c.from.ensures),
+    )
 
 pub returns : goal.returns
 returns c =
-    let s = c.args.state.now in
-    let e : c.loop-i.i ≡ 0 = omega arith in
-    c.loop-i.invariant.1 ∙ ap (λ (i : ℕ). packing.pack (drop i s)) e
+    let (tail, stands, word) = c.loop-label.invariant in
+    let none = nil_from_length _ c.in-None.ensures.steps.0 in
+    word ∙ ap packing.pack (sym (stands ∙ ap (λ (s : List ℕ). s ++ tail) none))

@@ -1,5 +1,5 @@
 -- `words::ranking::rank_word` meets its contract.
-use Rattle.std.proofs.Common.{◌≡◌, ℕ, ◌+◌, ◌-◌, ◌*◌, ◌/◌, ◌%◌, ◌^◌, get_or, sym, refl, ap, ◌∙◌, ap₂, pow-suc, div-one}
+use Rattle.std.proofs.Common.{◌≡◌, ℕ, ◌+◌, ◌*◌, ◌/◌, ◌%◌, ◌^◌, get_or, sym, refl, ap, ◌∙◌, ap₂, pow-suc, div-one}
 use Rattle.std.proofs.Common.{add-one, arith, rules}
 use native.Mathlib.Nat.{div-div-eq-div-mul}
 use Rattle.words.specs.Ranking.{rank_pairs, rank_word}

@@ -11,6 +11,3 @@ abbrev pub invariant-loop-i : goal.invariant-loop-i
 invariant-loop-i l =
     (l.i ≤ positions l.block) × (l.word < 16 ^ (positions l.block - l.i))
     × (word_of l.block l.k ≡ l.word * 16 ^ l.i + pack (digits (abstract_count l.block) l.i l.rest))
-
-abbrev pub decreases-loop-i : goal.decreases-loop-i
-decreases-loop-i l = l.i

@@ -1,5 +1,5 @@
 -- `words::sides::met_goal_word` meets its contract.
-use Rattle.std.proofs.Common.{ℕ, ◌-◌, Bool, false, sym, ap, ◌∙◌, arith, rules, below_more}
+use Rattle.std.proofs.Common.{ℕ, Bool, sym, ap, ◌∙◌, arith, rules, below_more}
 use Rattle.basics.proofs.Bounded.{find_at, find-passed}
 use Rattle.psvn.specs.Rules.{goal_byte}
 use Rattle.words.specs.Sides.{goal_place, matches_word, met_goal_word}

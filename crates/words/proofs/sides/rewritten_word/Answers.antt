@@ -1,5 +1,5 @@
 -- `words::sides::rewritten_word` meets its contract.
-use Rattle.std.proofs.Common.{◌≡◌, ℕ, suc, ◌-◌, ◌/◌, ◌%◌, List, sym, refl, ap, ◌∙◌, ap₂, div-one, arith, rules}
+use Rattle.std.proofs.Common.{◌≡◌, ℕ, suc, ◌/◌, ◌%◌, List, sym, refl, ap, ◌∙◌, ap₂, div-one, add-one, arith}
 use lib.Bits.{bit_or}
 use Rattle.words.specs.Packing.{digit}
 use Rattle.words.specs.Sides.{count_at, from_at, to_at, moved, join_moves, rewritten_word}
@@ -19,30 +19,21 @@ joined-more code x word made from to label j k e = (
   ap (λ (y : ℕ). y / 16) k.2 ∙ digits-rest (to_at code x) j,
 )
 
-pub loop-left-init : goal.loop-left-init
+pub loop-init : goal.loop-init
 unfolding join_moves
-loop-left-init c =
-    let a = c.args in
-    let none : count_at a.code.now a.x - count_at a.code.now a.x ≡ 0 = omega arith in
-    (search rules, rw none (refl, sym (div-one _), sym (div-one _)))
+loop-init c = (refl, sym (div-one _), sym (div-one _))
 
-pub loop-left-preserved : goal.loop-left-preserved
-loop-left-preserved c =
+pub loop-preserved : goal.loop-preserved
+loop-preserved c =
     let a = c.args in
-    let l = c.loop-left in
-    let all = count_at a.code.now a.x in
-    let next : suc (all - l.left) ≡ all - (l.left - 1) = omega (arith, l.invariant.0, c.loop-left-test.true) in (
-      search rules,
-      rw next at
-          (joined-more a.code.now a.x a.word l.made l.from l.to _ (all - l.left) l.invariant.1
-          c.move_label-made.ensures),
-    )
+    let l = c.loop in
+    rw (← add-one l.counter) at
+    (joined-more a.code.now a.x a.word l.made l.from l.to _ l.counter l.invariant c.move_label-made.ensures)
 
 pub returns : goal.returns
 unfolding rewritten_word
 returns c =
     let a = c.args in
-    let l = c.loop-left in
-    let all : count_at a.code.now a.x - l.left ≡ count_at a.code.now a.x =
-    omega (arith, l.invariant.0, c.loop-left-test.false) in
-    (rw all at l.invariant.1).0
+    let l = c.loop in
+    let all : l.counter ≡ count_at a.code.now a.x = omega arith in
+    (rw all at l.invariant).0
