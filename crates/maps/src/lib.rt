@@ -5,7 +5,7 @@
 ghost use Rattle.std.specs.Prelude.{◌≡◌, ℕ, suc, ◌+◌, ◌*◌, ◌≤◌, ◌<◌, min, List, length, take};
 ghost use Rattle.basics.specs.Lists.{at_front};
 ghost use Rattle.refusals.specs.Answers.{verdict};
-ghost use Rattle.refusals.specs.Refusals.{verdict_of};
+ghost use Rattle.refusals.specs.Refusals.{answer_of};
 ghost use Rattle.blocks.specs.Layout.{labels, abstracts, abstract_states};
 ghost use Rattle.blocks.specs.Validity.{Headed, Sized, Valid};
 ghost use Rattle.maps.specs.Maps.{map_width, further_maps, further_abstracts, further_byte, exercise_at};
@@ -16,7 +16,7 @@ use basics::{and, power_within, wide};
 use blocks::layout;
 use blocks::layout::{BLOCK_ROOM, BlockBuffer};
 use blocks::validity::{MOST_STATES, lies_within};
-use refusals::{Refusal, Verdict};
+use refusals::Refusal;
 use std::marker::Model;
 
 // The most further maps that may be lent.
@@ -185,26 +185,23 @@ fn maps_ok(block: &[u8], maps: &[u8]) -> bool
 }
 
 // Whether further maps of an accepted block are accepted, or what turns them back: 14 and 15.
-pub fn check_maps(block: &[u8], maps: &[u8]) -> Verdict
+pub fn check_maps(block: &[u8], maps: &[u8]) -> Result<(), Refusal>
     requires { Valid block.now }
-    ensures { verdict_of result ≡ verdict (map_conditions block.now maps.now) }
+    ensures { answer_of result ≡ verdict (map_conditions block.now maps.now) }
 {
     if !maps_whole(block, maps) {
-        return Verdict::Refused(Refusal::Maps);
+        return Err(Refusal::Maps);
     }
     if !maps_ok(block, maps) {
-        return Verdict::Refused(Refusal::MapRange);
+        return Err(Refusal::MapRange);
     }
-    Verdict::Accepted
+    Ok(())
 }
 
 // Whether a block and its further maps are accepted, or what turns them back: the block, then the maps.
-pub fn check(block: &[u8], maps: &[u8]) -> Verdict
-    ensures { verdict_of result ≡ verdict (exercise_conditions block.now maps.now) }
+pub fn check(block: &[u8], maps: &[u8]) -> Result<(), Refusal>
+    ensures { answer_of result ≡ verdict (exercise_conditions block.now maps.now) }
 {
-    let checked = blocks::validity::check(block);
-    if let Verdict::Refused(refusal) = checked {
-        return Verdict::Refused(refusal);
-    }
+    blocks::validity::check(block)?;
     check_maps(block, maps)
 }
