@@ -16,9 +16,7 @@ fn read_entries(table: &[u32], count: usize, entries: &mut Entries)
     requires { (count ≤ length table.now) × (count ≤ 16384) }
     ensures { (k : ℕ) → k < count → get_or entries.new k 0 ≡ get_or table.now k 0 }
 {
-    for k in 0..count {
-        entries[k] = table[k];
-    }
+    entries[..count].copy_from_slice(&table[..count]);
 }
 
 // Makes ready the arrays of an accepted block with accepted maps: it is compiled, and the entries of all tables are

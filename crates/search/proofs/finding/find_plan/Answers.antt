@@ -2,11 +2,9 @@
 -- The rounds on the words of the prepared block are the search on its states, by whatever estimate the arrays rate them
 -- by; the rules of a plan found are written to the buffer.
 use mathlib.Core.Path.{◌≡◌, refl, ap, subst, ◌∙◌}
-use mathlib.Core.List.{List, [], ◌∷◌}
+use mathlib.Core.List.{List}
 use Prim.Native.Nat.{ℕ}
 use native.Mathlib.Omega.{arith}
-use denote.Enum.Declared.{tag_of}
-use types.Run.{OneOf, miss}
 use Rattle.rounds.specs.Systems.{Estimate, plus}
 use Rattle.rounds.specs.Rounds.{Answer}
 use Rattle.words.specs.Changes.{map_count}
@@ -16,12 +14,10 @@ use Rattle.search.specs.Exercises.{search_from, plan_goal}
 use Rattle.search.specs.Promises as promises
 use Rattle.search.specs.OnWords.{Rates}
 use Rattle.search.specs.Parts.{Begun, answer_in, FoundWithin, ending_goal, answer_goal}
-use Rattle.search.specs.declared.running.Ending.{Ending}
 use Rattle.search.proofs.Demand.{kept, plan-reaching}
 use Rattle.search.proofs.Instance.{good_start, goal-on-words}
 use Rattle.search.proofs.Runs.{begun-start, run-search, answers-found, answers-none}
 use Rattle.search.proofs.StateWords.{word-ranks-low}
-use Rattle.search.specs.contracts.running.Ending.{the_type}
 use Rattle.search.proofs.finding.find_plan.Goals as goal
 use Rattle.search.proofs.finding.find_plan.Goals.{After-run-1, After-slice_known-in-Found-1, After-write_plan-arg-1}
 use Rattle.search.proofs.finding.find_plan.Goals.{In_default}

@@ -6,7 +6,6 @@ use Prim.Native.Nat.{ℕ, ◌≤◌, ◌-◌}
 use lib.Seq.{sets}
 use Rattle.basics.specs.Lists.{tabulate}
 use Rattle.search.specs.Run.{rule_at}
-use borrow.Author.Rules.{rules}
 use Rattle.search.proofs.finding.write_plan.Given as goal
 
 -- a buffer with the first i rules at its front

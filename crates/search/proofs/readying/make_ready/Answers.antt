@@ -7,7 +7,7 @@ pub read_entries-requires : goal.read_entries-requires
 read_entries-requires c =
     let p = c.requires in
     let count = c.all_entries.ensures in
-    (omega (arith, count.0, p.1), count.1, p.4)
+    (omega (arith, count.0, p.1), count.1)
 
 pub returns : goal.returns
 returns c =

@@ -7,4 +7,4 @@ use Rattle.search.proofs.run.carry.Goals as goal
 pub returns : goal.returns
 returns c =
     let a = c.args in
-    carried-tally a.run.now c.requires a.tally (omega (arith, c.struct_known-1.given))
+    carried-tally a.run.now c.told-run a.tally (omega arith)

@@ -6,4 +6,4 @@ use Rattle.search.proofs.run.put.Goals as goal
 pub returns : goal.returns
 returns c =
     let a = c.args in
-    put_one a.run.now a.depth a.rule a.word a.ranks a.cost c.requires.0 c.requires.1 c.requires.2
+    put_one a.run.now a.depth a.rule a.word a.ranks a.cost c.told-run c.requires.0 c.requires.1

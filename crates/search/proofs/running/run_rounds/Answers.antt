@@ -1,6 +1,5 @@
 -- `search::running::run_rounds` meets its contract.
 use mathlib.Core.Path.{ap}
-use Prim.Native.Nat.{◌-◌}
 use native.Mathlib.Omega.{arith}
 use Rattle.tallies.specs.declared.Tally.{Tally}
 use Rattle.search.proofs.Runs.{left-whole, left-none, hit-small, left-hit, left-stop, left-on, left-higher}

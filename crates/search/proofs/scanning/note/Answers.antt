@@ -33,10 +33,10 @@ tested c =
 
 pub returns-then-not-on_path : goal.returns-then-not-on_path
 returns-then-not-on_path c =
-    let e : settled c (seen c) ≡ c.overshot-tally.result =
+    let e : settled c (seen c) ≡ c.overshoot.new.self =
     ap (settled c) (sym (tested c) ∙ c.if-not-on_path.true)
-    ∙ ap (λ (x : Tally). overshot_by x c.args.figure) (sym c.tally_of.ensures)
-    ∙ sym c.overshot-tally.ensures in
+    ∙ ap (λ (x : Tally). overshot_by x c.args.figure) (sym c.tally_of-tally.ensures)
+    ∙ sym c.overshoot.ensures in
     rw e c.carry.ensures
 
 -- the tally that is carried, whether the state that the rule makes is on the path, and the tally by that
@@ -59,7 +59,7 @@ tested-2 c =
 
 pub returns-else-not-on_path : goal.returns-else-not-on_path
 returns-else-not-on_path c =
-    carried_same c.requires.3 (sym (ap (settled-2 c) (sym (tested-2 c) ∙ c.if-not-on_path.false)))
+    carried_same c.requires.2 (sym (ap (settled-2 c) (sym (tested-2 c) ∙ c.if-not-on_path.false)))
 
 -- the tally that is carried, whether the state that the rule makes is on the path, and the tally by that
 abbrev tally-3 : Else-figure-run → Tally
@@ -73,4 +73,4 @@ seen-3 c =
 pub returns-else-figure-run : goal.returns-else-figure-run
 returns-else-figure-run c =
     let same = no_lower (tally-3 c) c.args.figure (omega (arith, c.if-figure-run.false)) in
-    carried_same c.requires.3 (sym (same-either (seen-3 c) (tally-3 c) _ same))
+    carried_same c.requires.2 (sym (same-either (seen-3 c) (tally-3 c) _ same))

@@ -1,6 +1,6 @@
 -- `search::scanning::on_path` meets its contract.
 use mathlib.Core.Path.{sym}
-use mathlib.Core.Bool.{Bool, false}
+use mathlib.Core.Bool.{Bool}
 use Prim.Native.Nat.{ℕ, suc, ◌-◌}
 use native.Mathlib.Omega.{arith}
 use lib.Dec.{eqb}

@@ -5,7 +5,6 @@ use mathlib.Core.Bool.{Bool, true, false}
 use mathlib.Core.List.{List}
 use Prim.Native.Nat.{ℕ}
 use native.Mathlib.Omega.{arith}
-use lib.ListN.{length}
 use Rattle.words.specs.Sides.{step_word}
 use Rattle.search.specs.Run.{state_at, cost_at}
 use Rattle.search.specs.OnWords.{on_path}
@@ -104,7 +103,6 @@ overflow_add-cost-2 c =
 pub put-requires : goal.put-requires
 put-requires c =
     let k = c.requires.here.0 in (
-      ap length (same (goal.at.put-requires c).Else-not-judge) ∙ k.limited.long,
       omega (arith, c.requires.here.1, k.limited.steps_few),
       omega (arith, rules-low k, c.requires.rule_bound.0),
     )

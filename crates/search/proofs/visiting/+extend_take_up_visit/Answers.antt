@@ -120,17 +120,17 @@ module _
 small : (code : List ℕ) (w n : ℕ) {s : ℕ} → s ≡ agreeing code w n → s < 2 ^ 64
 small code w n is = rw is (agreeing-small code w n)
 
-pub visit-returns-then-run-tally : goal.visit-returns-then-run-tally
-visit-returns-then-run-tally t c =
+pub visit-returns-then-run-from : goal.visit-returns-then-run-from
+visit-returns-then-run-from t c =
     visit-stop c.args.table.now c.requires
-    (omega (arith, c.if-run-tally.true, ap (λ (x : Tally). x.visits) c.tally_of-tally.ensures))
+    (omega (arith, ap (λ (x : Tally). x.visits) c.tally_of-tally.ensures))
 
 pub visit-returns-then-meets_word : goal.visit-returns-then-meets_word
 visit-returns-then-meets_word t c =
     let k = c.requires in
     let told = c.tally_of-tally.ensures in
-    let few = c.if-run-tally.false in
-    let one = c.counted.ensures in
+    let few : c.tally_of-tally.result.visits < allowance c.args.run.now = omega arith in
+    let one = c.count_visit.ensures in
     let new = c.carry.ensures in
     visit-goal c.args.table.now k (left k told few one new) (carried k told few one new)
     (tested k told few one new c.goal_count.ensures c.meets_word.ensures c.if-meets_word.true)
@@ -139,8 +139,8 @@ pub visit-returns-then-run-depth : goal.visit-returns-then-run-depth
 visit-returns-then-run-depth t c =
     let k = c.requires in
     let told = c.tally_of-tally.ensures in
-    let few = c.if-run-tally.false in
-    let one = c.counted.ensures in
+    let few : c.tally_of-tally.result.visits < allowance c.args.run.now = omega arith in
+    let one = c.count_visit.ensures in
     let new = c.carry.ensures in
     visit-leaf c.args.table.now k (left k told few one new) (carried k told few one new)
     (tested k told few one new c.goal_count.ensures c.meets_word.ensures c.if-meets_word.false)
@@ -150,8 +150,8 @@ pub visit-extend-requires : goal.visit-extend-requires
 visit-extend-requires t c =
     let k = c.requires in
     let told = c.tally_of-tally.ensures in
-    let few = c.if-run-tally.false in
-    let one = c.counted.ensures in
+    let few : c.tally_of-tally.result.visits < allowance c.args.run.now = omega arith in
+    let one = c.count_visit.ensures in
     let new = c.carry.ensures in
     let table = c.args.table.now in
     let low : c.args.depth < step_limit c.carry.new.run = omega (arith, c.if-run-depth.false) in
@@ -168,8 +168,8 @@ pub visit-returns : goal.visit-returns
 visit-returns t c =
     let k = c.requires in
     let told = c.tally_of-tally.ensures in
-    let few = c.if-run-tally.false in
-    let one = c.counted.ensures in
+    let few : c.tally_of-tally.result.visits < allowance c.args.run.now = omega arith in
+    let one = c.count_visit.ensures in
     let new = c.carry.ensures in
     let table = c.args.table.now in
     let set = c.agreeing_with-all.ensures in
