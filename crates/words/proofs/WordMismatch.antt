@@ -1,10 +1,11 @@
 -- The first part of matching on words, without a loop: what a word has under a mask and the value that is asked for
 -- differ in some bits, and the lowest of these stands in the lowest position that differs (`mismatch-found`); where
--- they do not differ, no constant does (`mismatch-none`). By the answer all constants agree, or the side is ruled out
--- (`constants-agree-word`, `ruled-out-word`). The functions that match on words rest on these.
-use Rattle.std.proofs.Common.{◌≡◌, ℕ, zero, suc, ◌+◌, ◌*◌, ◌/◌, ◌%◌, ◌^◌, ◌<◌, Bool, true, false, not, ◌&&◌, eqb, List}
-use Rattle.std.proofs.Common.{sym, ap, ◌∙◌, arith, lit<, pow-add, eq-eqb, ne_eqb}
-use Rattle.std.specs.Prelude.{None, Some}
+-- they do not differ, no constant does (`mismatch-none`). A position is told exactly where the constants do not all
+-- agree (`mismatch-told`). The functions that match on words rest on these.
+use Rattle.std.proofs.Common.{◌≡◌, ℕ, zero, suc, ◌+◌, ◌*◌, ◌/◌, ◌%◌, ◌^◌, ◌<◌, true, false, not, eqb, List}
+use Rattle.std.proofs.Common.{sym, refl, ap, ◌∙◌, arith, lit<, pow-add, eq-eqb, ne_eqb}
+use Rattle.std.specs.Prelude.{Option, None, Some, is_some}
+use Rattle.basics.specs.Bounded.{all}
 use native.Mathlib.Nat.{div-div-eq-div-mul}
 use lib.Bits.{bit_and, bit_xor, and_le_l, and_le_r, xor_add_and, xor_self}
 use Rattle.basics.specs.Sets.{member, lowest}
@@ -13,7 +14,6 @@ use Rattle.basics.proofs.SetLaws.{member-shift, member-none, no_member, lowest-m
 use Rattle.basics.proofs.Truth.{true-false}
 use Rattle.words.specs.Packing.{digit}
 use Rattle.words.specs.Sides.{mask_at, value_at, constant_agrees_word, constants_word, mismatch_word}
-use Rattle.words.specs.Sides.{variables_word, matches_word}
 use Rattle.words.proofs.WordDigits.{digit_shift, digit_lt, digit-high, digit_and, digit-xor}
 
 -- the bits of a digit are four of the word's
@@ -86,13 +86,11 @@ module _ (code : List ℕ) (x w v : ℕ) (e : v ≡ bit_xor (bit_and w (mask_at 
       (ap not (differs-there (lowest v / 4) (lowest-digit v l)))
       (λ i k. ap not (agrees-there i (none-lower v l i k)))
 
--- by the answer: with none all constants agree, and a position rules the side out
-module _ (code : List ℕ) (x w : ℕ) where
-  pub constants-agree-word : mismatch_word code x w ≡ None → constants_word code x w ≡ true
-  unfolding mismatch_word constants_word
-  constants-agree-word h = all_pass_lem (constant_agrees_word code x w) 16 h
-
-  pub ruled-out-word : (i : ℕ) → mismatch_word code x w ≡ Some i → matches_word code x w ≡ false
-  unfolding mismatch_word constants_word matches_word
-  ruled-out-word i h =
-      ap (λ (t : Bool). t && variables_word code x w) (one-fails (constant_agrees_word code x w) 16 i h)
+-- a position is told exactly where the constants do not all agree
+pub mismatch-told : (code : List ℕ) (x w : ℕ) → is_some (mismatch_word code x w) ≡ not (constants_word code x w)
+unfolding mismatch_word constants_word
+mismatch-told code x w = go (mismatch_word code x w) refl
+  where
+    go : (o : Option ℕ) → mismatch_word code x w ≡ o → is_some o ≡ not (all 16 (constant_agrees_word code x w))
+    go None e = sym (ap not (all_pass_lem (constant_agrees_word code x w) 16 e))
+    go (Some i) e = sym (ap not (one-fails (constant_agrees_word code x w) 16 i e))

@@ -1,7 +1,7 @@
 // Matching on words in two parts, by the sides of a compiled block (see `code`): first all constants of a side, and its
 // variables only where no constant differs.
 ghost use Rattle.std.specs.Prelude.{◌≡◌, ◌%◌, ◌<◌, true, ◌==◌};
-ghost use Rattle.psvn.specs.TwoParts.{mismatch_of, MismatchMeans};
+ghost use Rattle.psvn.specs.TwoParts.{MismatchMeans};
 ghost use Rattle.words.specs.Packing as packing;
 ghost use Rattle.words.specs.Sides.{count_at, mask_allows, constant_agrees_word, constants_word, mismatch_word};
 ghost use Rattle.words.specs.Sides.{matches_word};
@@ -9,7 +9,6 @@ ghost use Rattle.words.specs.Sides.{matches_word};
 use super::code::{Code, FROM, MOVES, SIDE, TO, VALUE};
 use super::packing::digit;
 use basics::sets::lowest_of;
-use psvn::matching::Mismatch;
 
 // Whether a label may stand at position i, as far as the constants of the side at place x go.
 pub fn mask_allows(code: &Code, x: usize, i: usize, label: u64) -> bool
@@ -19,18 +18,19 @@ pub fn mask_allows(code: &Code, x: usize, i: usize, label: u64) -> bool
     label & digit(code[SIDE * x], i) == digit(code[SIDE * x + VALUE], i)
 }
 
-// The first part: the lowest position where the side at place x has another constant than a word has a label. Four bits
-// are a label, so that the lowest bit that differs stands in it.
-pub fn mismatch_word(code: &Code, x: usize, word: u64) -> Mismatch
+// The first part: the lowest position where the side at place x has another constant than a word has a label, if there
+// is one. Four bits are a label, so that the lowest bit that differs stands in it.
+pub fn mismatch_word(code: &Code, x: usize, word: u64) -> Option<usize>
     requires { x < 136 }
-    ensures result_value { mismatch_of result ≡ mismatch_word code.now x word }
-    ensures mismatch_means { MismatchMeans 16 (constant_agrees_word code.now x word) (mismatch_of result) }
+    ensures result_value { result ≡ mismatch_word code.now x word }
+    ensures mismatch_means { MismatchMeans 16 (constant_agrees_word code.now x word) result }
 {
     let differing = (word & code[SIDE * x]) ^ code[SIDE * x + VALUE];
     if differing == 0 {
-        return Mismatch::Nowhere;
+        None
+    } else {
+        Some(lowest_of(differing) / 4)
     }
-    Mismatch::At(lowest_of(differing) / 4)
 }
 
 // Whether a word has the same label at the positions that the lowest digits of `from` and of `to` tell.
@@ -72,9 +72,5 @@ pub fn matches_word(code: &Code, x: usize, word: u64) -> bool
     requires { x < 136 }
     ensures { result ≡ matches_word code.now x word }
 {
-    let mismatch = mismatch_word(code, x, word);
-    match mismatch {
-        Mismatch::Nowhere => variables_match_word(code, x, word),
-        Mismatch::At(_) => false,
-    }
+    mismatch_word(code, x, word).is_none() && variables_match_word(code, x, word)
 }

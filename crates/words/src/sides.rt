@@ -1,14 +1,12 @@
 // Applying and goals on words, by the sides of a compiled block (see `code`): the sides of rule r stand at the places
 // 2 * r and 2 * r + 1, goal g at 128 + g.
 ghost use Rattle.std.specs.Prelude.{◌≡◌, ◌%◌, ◌<◌, ◌≤◌};
-ghost use Rattle.psvn.specs.Rules.{goal_byte};
 ghost use Rattle.words.specs.Sides.{moved, rewritten_word, applies_word, step_word, cost_word, meets_word};
 ghost use Rattle.words.specs.Sides.{met_goal_word};
 
 use super::code::{COSTS, Code, FIRST_GOAL, FROM, KEEP, MOVES, SIDE, TO, VALUE};
 use super::matching::matches_word;
 use super::packing::digit;
-use psvn::rules::NO_GOAL;
 
 // The label at the position that the lowest digit of `from` tells, at the position that the lowest digit of `to` tells.
 fn move_label(word: u64, from: u64, to: u64) -> u64
@@ -58,17 +56,17 @@ pub fn cost_word(code: &Code, r: usize) -> u64
     code[COSTS + r] % 256
 }
 
-// The goal that a word meets, the lowest number of a met one; NO_GOAL where none is met.
-pub fn met_goal_word(code: &Code, goals: usize, word: u64) -> u8
+// The goal that a word meets, the lowest number of a met one, if one is met.
+pub fn met_goal_word(code: &Code, goals: usize, word: u64) -> Option<u8>
     requires { goals ≤ 8 }
-    ensures { result ≡ goal_byte (met_goal_word code.now goals word) }
+    ensures { result ≡ met_goal_word code.now goals word }
 {
     for g in 0..goals {
         if matches_word(code, FIRST_GOAL + g, word) {
-            return g as u8;
+            return Some(g as u8);
         }
     }
-    NO_GOAL
+    None
 }
 
 // Whether a word meets one of the goals.
@@ -76,5 +74,5 @@ pub fn meets_word(code: &Code, goals: usize, word: u64) -> bool
     requires { goals ≤ 8 }
     ensures { result ≡ meets_word code.now goals word }
 {
-    met_goal_word(code, goals, word) != NO_GOAL
+    met_goal_word(code, goals, word).is_some()
 }

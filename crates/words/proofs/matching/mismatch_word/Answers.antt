@@ -1,7 +1,6 @@
 -- `words::matching::mismatch_word` meets its contract.
 -- The bits in which the word differs from what is asked tell the lowest position, or that there is none.
-use Rattle.std.proofs.Common.{◌≡◌, ℕ, ◌/◌, List, sym, refl, ap, ◌∙◌, subst, arith}
-use mathlib.Core.Option.{Option, some}
+use Rattle.std.proofs.Common.{◌≡◌, ℕ, ◌/◌, List, Option, Some, sym, refl, ap, ◌∙◌, subst, arith}
 use Rattle.psvn.specs.TwoParts.{MismatchMeans}
 use Rattle.psvn.proofs.MatchingLaws.{mismatch-means}
 use Rattle.words.specs.Sides.{constant_agrees_word, mismatch_word}
@@ -25,10 +24,10 @@ returns-then-differing-eq0 c =
     let told = told a.code.now a.x a.word (mismatch-none a.code.now a.x a.word _ refl c.if-differing-eq0.true) in
     record { result_value = told.0; mismatch_means = told.1 }
 
-pub returns : goal.returns
-returns c =
+pub returns-else-differing-eq0 : goal.returns-else-differing-eq0
+returns-else-differing-eq0 c =
     let a = c.args in
     let low = c.lowest_of.ensures in
     let told = told a.code.now a.x a.word
     (mismatch-found a.code.now a.x a.word _ refl (omega arith)
-    ∙ ap (λ (k : ℕ). some (k / 4)) (sym low.0)) in record { result_value = told.0; mismatch_means = told.1 }
+    ∙ ap (λ (k : ℕ). Some (k / 4)) (sym low.0)) in record { result_value = told.0; mismatch_means = told.1 }
