@@ -1,18 +1,20 @@
 -- What an accepting verdict on the conditions of a call says: on a block and a state (`state-accepted`), and on a rule
--- and the room for a state beside them (`apply-accepted`).
+-- and the room for a state beside them (`apply-accepted`). `checks` are the lemmas that the checks of calls rest on.
 -- All calls that take a state rest on these once they have refused what is to be refused.
 use mathlib.Core.Path.{◌≡◌}
 use mathlib.Core.Bool.{true}
 use mathlib.Core.List.{List, [], ◌∷◌}
 use Prim.Native.Nat.{ℕ, ◌≤◌, ◌<◌}
 use lib.Dec.{leb, ltb}
+use lib.ListN.{length}
 use borrow.Author.Tests.{leb-true, ltb-true}
 use Rattle.refusals.specs.Answers.{told, verdict, ◌unless◌}
-use Rattle.refusals.proofs.Verdicts.{verdict-told, verdict-parts}
-use Rattle.blocks.specs.Layout.{positions, rules}
-use Rattle.blocks.specs.Validity.{block_conditions, Valid}
+use Rattle.refusals.proofs.Verdicts.{verdict-told, verdict-parts, verdict-behind, verdict-before}
+use Rattle.blocks.specs.Layout.{head_length, positions, rules}
+use Rattle.blocks.specs.Validity.{block_conditions, Sized, Valid}
 use Rattle.blocks.specs.States.{state_ok}
 use Rattle.blocks.proofs.Accepted.{accepted-valid}
+use Rattle.blocks.proofs.StateLaws.{state-length}
 use Rattle.psvn_calls.specs.Checking.{state_conditions}
 use Rattle.psvn_calls.specs.Applying.{apply_conditions}
 
@@ -26,6 +28,12 @@ module _ (b s : List ℕ) where
   state-accepted h =
       let p = verdict-parts (block_conditions b) (8 unless state_ok b s ∷ []) h in
       record { valid = accepted-valid b p.0; state = (verdict-told 8 (state_ok b s) [] p.1).0 }
+
+  pub state-ready : verdict (state_conditions b s) ≡ told tt → Sized b × (length s ≡ positions b)
+  state-ready h = let k = state-accepted h in (k.valid.sized, state-length b s k.state)
+
+  pub state-long : verdict (state_conditions b s) ≡ told tt → head_length ≤ length b
+  state-long h = (state-accepted h).valid.sized.headed.long
 
   module _ (r room : ℕ) where
     pub record ApplyAccepted : Type 0 where
@@ -47,3 +55,6 @@ module _ (b s : List ℕ) where
           rule = ltb-true r (rules b) p₉.0;
           room-left = leb-true (positions b) room (verdict-told 11 (leb (positions b) room) [] p₉.1).0;
         }
+
+-- what decides the conditions part by part, and what the parts say that are accepted
+pub ruleset checks = (verdict-behind, verdict-before, accepted-valid, state-accepted, state-long)

@@ -1,25 +1,25 @@
 -- Applying a rule, as a public call: `apply_rule` is the answer with the final contents of the lent buffer, for every
--- input, and `ApplicationKept` what the call promises. `application_of` gives the document's answer for each case of
--- the enum.
-use Rattle.std.specs.Prelude.{◌≡◌, ℕ, true, false, cond, List, [], ◌∷◌, ◌++◌, leb, ltb, length, take}
+-- input, and `ApplicationKept` what the call promises. `application_of` gives the document's answer for what the call
+-- returns.
+use Rattle.std.specs.Prelude.{◌≡◌, ℕ, Bool, true, false, cond, List, [], ◌∷◌, ◌++◌, leb, ltb, length, take}
+use Rattle.std.specs.Prelude.{Result, Ok, Err}
 use Rattle.basics.specs.Lists.{at_front}
 use Rattle.refusals.specs.Answers.{Answer, refused, told, Condition, ◌unless◌, verdict, Outcome, outcome, guarded}
 use Rattle.refusals.specs.Refusals.{refusal_number}
+use Rattle.refusals.specs.declared.Refusal.{Refusal}
 use Rattle.blocks.specs.Layout.{positions, rules}
 use Rattle.blocks.specs.States.{state_ok}
 use Rattle.psvn.specs.Rules.{applies, step}
 use Rattle.psvn_calls.specs.Checking.{state_conditions}
-use Rattle.psvn_calls.specs.declared.applying.Application.{Application}
-use Rattle.psvn_calls.specs.declared.applying.Application.TheVariants.{Done, DoesNotApply, Refused}
 
 -- 'done' or 'does not apply'
 pub data Applied : Type 0 where
   done does_not_apply : Applied
 
-abbrev pub application_of : Application → Answer Applied
-application_of Done = told done
-application_of DoesNotApply = told does_not_apply
-application_of (Refused refusal) = refused (refusal_number refusal)
+abbrev pub application_of : Result Bool Refusal → Answer Applied
+application_of (Ok true) = told done
+application_of (Ok false) = told does_not_apply
+application_of (Err refusal) = refused (refusal_number refusal)
 
 -- 3 to 8, then 9 and 11; `room` is the length of the buffer
 unfoldable pub apply_conditions : List ℕ → ℕ → List ℕ → ℕ → List Condition

@@ -1,24 +1,16 @@
 -- Relabelling a block, as a public call: `relabel_exercise` is the answer with the final contents of the lent buffer,
--- for every input, and `RelabellingKept` what the call promises. `relabelling_of` gives the document's answer for each
--- case of the enum.
+-- for every input, and `RelabellingKept` what the call promises.
 use Rattle.std.specs.Prelude.{◌≡◌, ℕ, List, [], ◌∷◌, ◌++◌, leb, length, take}
 use Rattle.basics.specs.Lists.{at_front}
 use Rattle.refusals.specs.Answers.{Answer, refused, told, Condition, ◌unless◌, verdict, Outcome, outcome, guarded}
-use Rattle.refusals.specs.Refusals.{refusal_number}
 use Rattle.blocks.specs.Validity.{block_conditions, Valid}
 use Rattle.psvn.specs.Relabelling.{relabel_block}
-use Rattle.psvn_calls.specs.declared.relabelling.Relabelling.{Relabelling}
-use Rattle.psvn_calls.specs.declared.relabelling.Relabelling.TheVariants.{Done, Refused}
-
--- the length of the relabelled block
-abbrev pub relabelling_of : Relabelling → Answer ℕ
-relabelling_of (Done bytes) = told bytes
-relabelling_of (Refused refusal) = refused (refusal_number refusal)
 
 -- 3 to 7, then 11, which measures the block to be written; `room` is the length of the buffer
 unfoldable pub relabel_conditions : List ℕ → ℕ → List Condition
 relabel_conditions b room = block_conditions b ++ (11 unless leb (length (relabel_block b)) room ∷ [])
 
+-- the length of the relabelled block is told
 unfoldable pub relabel_exercise : List ℕ → List ℕ → Outcome ℕ
 relabel_exercise b out =
     guarded (verdict (relabel_conditions b (length out))) out

@@ -6,8 +6,8 @@ mod checking;
 mod goals;
 mod relabelling;
 
-pub use applying::{Application, apply_rule, check_application};
+pub use applying::{apply_rule, check_application};
 pub use checking::{check_block, check_state};
-pub use goals::{GoalTest, test_goals};
+pub use goals::test_goals;
 pub use psvn::rules::NO_GOAL;
-pub use relabelling::{Relabelling, relabel_block};
+pub use relabelling::relabel_block;
