@@ -1,9 +1,10 @@
 -- What an accepting verdict on the conditions of a call says: on a block and a state (`state-accepted`), and on a rule
--- and the room for a state beside them (`apply-accepted`). `checks` are the lemmas that the checks of calls rest on.
+-- and the room for a state beside them (`apply-accepted`); and the parts of those of relabelling (`relabel-parts`).
+-- `checks` are the lemmas that the checks of calls rest on.
 -- All calls that take a state rest on these once they have refused what is to be refused.
-use mathlib.Core.Path.{◌≡◌}
+use mathlib.Core.Path.{◌≡◌, refl}
 use mathlib.Core.Bool.{true}
-use mathlib.Core.List.{List, [], ◌∷◌}
+use mathlib.Core.List.{List, [], ◌∷◌, ◌++◌}
 use Prim.Native.Nat.{ℕ, ◌≤◌, ◌<◌}
 use lib.Dec.{leb, ltb}
 use lib.ListN.{length}
@@ -16,7 +17,16 @@ use Rattle.blocks.specs.States.{state_ok}
 use Rattle.blocks.proofs.Accepted.{accepted-valid}
 use Rattle.blocks.proofs.StateLaws.{state-length}
 use Rattle.psvn_calls.specs.Checking.{state_conditions}
+use Rattle.psvn.specs.Relabelling.{relabel_block}
 use Rattle.psvn_calls.specs.Applying.{apply_conditions}
+use Rattle.psvn_calls.specs.Relabelling.{relabel_conditions}
+
+-- relabelling is turned back by the block, then by the room
+pub relabel-parts :
+    (b : List ℕ) (room : ℕ)
+    → relabel_conditions b room ≡ block_conditions b ++ (11 unless leb (length (relabel_block b)) room ∷ [])
+unfolding relabel_conditions
+relabel-parts b room = refl
 
 module _ (b s : List ℕ) where
   pub record StateAccepted : Type 0 where

@@ -1,7 +1,6 @@
 -- What the calls promise, from the values that they give: `application-kept`, `check-kept`, `goal-test-kept` and
--- `relabelling-kept`; and that a goal told is not the byte for none (`met-below`). `steps`, `relabels`, `blocks` and `goal_tests` are
--- the lemmas that the calls rest on.
--- The proofs of the calls rest on these for the second part of their contracts, and the C interface on the last.
+-- `relabelling-kept`; and that a goal told is not the byte for none (`met-below`). Behind them stand the lemmas that
+-- each call rests on. The C interface rests on the first five.
 use mathlib.Core.Path.{◌≡◌, refl, sym, subst}
 use mathlib.Core.Bool.{Bool, true, false, cond}
 use mathlib.Core.List.{List, [], ◌∷◌}
@@ -30,7 +29,7 @@ use Rattle.psvn_calls.specs.Applying.{Applied, done, does_not_apply, apply_condi
 use Rattle.psvn_calls.specs.Checking.{check_block, CheckKept, state_conditions}
 use Rattle.psvn_calls.specs.Goals.{test_goals, GoalTestKept}
 use Rattle.psvn_calls.specs.Relabelling.{relabel_conditions, relabel_exercise, RelabellingKept}
-use Rattle.psvn_calls.proofs.Conditions.{state-accepted, state-ready, apply-accepted}
+use Rattle.psvn_calls.proofs.Conditions.{relabel-parts, state-accepted, state-ready, apply-accepted}
 
 module _ (b : List ℕ) where
   pub check-kept : (a : Answer (Unit {0})) → a ≡ check_block b → CheckKept b a
@@ -110,15 +109,23 @@ module _ (b : List ℕ) where
     relabelling-kept e =
         subst (λ (o : Outcome ℕ). RelabellingKept o.answer o.out) (sym e) (relabelled-by _ refl)
 
--- for applying a rule
+-- what applying a rule rests on
 pub ruleset steps = (apply-accepted, state-length, stepped)
 
--- for relabelling
-pub ruleset relabels =
-    (verdict-behind, verdict-before, accepted-valid, relabelled-length, front-taken, relabelled_valid, relabel-twice)
+-- what relabelling rests on
+pub ruleset relabels = (
+  relabel-parts,
+  verdict-behind,
+  verdict-before,
+  accepted-valid,
+  relabelled-length,
+  front-taken,
+  relabelled_valid,
+  relabel-twice,
+)
 
--- for checking a block
-pub ruleset blocks = (check-kept)
+-- what checking a block rests on
+pub ruleset checked_blocks = (check-kept)
 
--- for the goal test
+-- what the goal test rests on
 pub ruleset goal_tests = (state-ready, goal-test-kept)

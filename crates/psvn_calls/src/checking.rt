@@ -7,7 +7,7 @@ ghost use Rattle.psvn_calls.specs.Checking.{check_block, CheckKept, state_condit
 use refusals::Refusal;
 
 // Checks a block: accepted, or refused with 3 to 7.
-#[tactic(auto, using(crate::proofs::Promises::blocks), unfolding(crate::specs::Checking::check_block))]
+#[tactic(auto, using(crate::proofs::Promises::checked_blocks), unfolding(crate::specs::Checking::check_block))]
 pub fn check_block(block: &[u8]) -> Result<(), Refusal>
     ensures result_value { answer_of result ≡ check_block block.now }
     ensures check_kept { CheckKept block.now (answer_of result) }

@@ -8,7 +8,7 @@ use refusals::Refusal;
 
 // Writes the relabelled block at the front of `out`, and tells its length. Refused with 3 to 7, 11; 11 measures the
 // relabelled block.
-#[tactic(auto, using(crate::proofs::Promises::relabels), unfolding(crate::specs::Relabelling::relabel_exercise, crate::specs::Relabelling::relabel_conditions))]
+#[tactic(auto, using(crate::proofs::Promises::relabels), unfolding(crate::specs::Relabelling::relabel_exercise))]
 pub fn relabel_block(block: &[u8], out: &mut [u8]) -> Result<usize, Refusal>
     ensures out_after { outcome (answer_of result) out.new ≡
         relabel_exercise block.now out.old }
