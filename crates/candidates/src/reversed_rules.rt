@@ -2,142 +2,128 @@
 // what the rule's result must show, and the reversed right side makes the predecessor, with 0 where the rule loses a
 // label; such labels then run through all values, a group of positions with one variable together. Nothing is proved
 // of a candidate: whoever takes one tests it by the rule itself.
-ghost use Rattle.std.specs.Prelude.{◌≡◌, ◌+◌, ◌≤◌, ◌<◌, length};
+ghost use Rattle.std.specs.Prelude.{◌≡◌, ◌≤◌, ◌<◌, length};
 ghost use Rattle.blocks.specs.Layout.{rules};
 ghost use Rattle.blocks.specs.Validity.{Sized};
-ghost use Rattle.words.specs.Code.{code_length};
 
-use basics::first_of;
 use basics::sets::lowest_of;
 use blocks::layout;
 use blocks::terms::{Term, decode, is_dash};
 use compiling::place_sides;
 use words::code::{COSTS, Code};
 
-// The two sides of a reversed rule, as terms, and where the right one stands.
+// The reversed sides of a rule one behind the other, as `place_sides` takes those of a block, and where the right one
+// begins.
 const SIDES: usize = 32;
-
-type Sides = [u8; SIDES];
 
 const RIGHT: usize = 16;
 
 // 1 at each of the sixteen positions.
-const ONES: u64 = 1229782938247303441;
+const ONES: u64 = 0x1111_1111_1111_1111;
 
-// The reversed left side's terms: the right side's, and the left side's where the label is kept.
-fn reverse_left(block: &[u8], left: usize, right: usize, n: usize, sides: &mut Sides)
-    requires { (n ≤ 16) × (left + n ≤ length block.now) × (right + n ≤ length block.now) }
-{
-    for i in 0..n {
-        let mut byte = block[right + i];
-        if is_dash(byte) {
-            byte = block[left + i];
-        }
-        sides[i] = byte;
-    }
+// The term of the reversed left side at a position with these terms on the left and on the right: the right side's, or
+// the left side's where the label is kept.
+fn term_asked(left: u8, right: u8) -> u8 {
+    if is_dash(right) { left } else { right }
 }
 
-// Whether a left term, at a position that the rule writes, tells nothing of what stood there.
-fn is_lost(sides: &Sides, n: usize, byte: u8) -> bool
-    requires { n ≤ 16 }
-{
-    let term = decode(byte);
-    match term {
-        Term::Label(_) => false,
-        Term::Variable(v) => first_of(sides, 0, n, v) == n,
-        Term::Dash => true,
-        Term::Refused => true,
-    }
+// The terms of a rule's two sides.
+#[derive(Drop)]
+struct Rule<'a> {
+    left: &'a [u8],
+    right: &'a [u8],
+    ghost few: { length left.now ≤ 16 },
+    ghost paired: { length right.now ≡ length left.now },
 }
 
-// The term of the reversed right side at a position with these terms on the left and on the right.
-fn reversed_term(sides: &Sides, n: usize, left: u8, right: u8) -> u8
-    requires { n ≤ 16 }
-{
-    if is_dash(right) {
-        return right;
-    }
-    if is_lost(sides, n, left) {
-        return 0;
-    }
-    left
-}
-
-// The reversed right side's terms.
-fn reverse_right(block: &[u8], left: usize, right: usize, n: usize, sides: &mut Sides)
-    requires { (n ≤ 16) × (left + n ≤ length block.now) × (right + n ≤ length block.now) }
-{
-    for i in 0..n {
-        let byte = reversed_term(sides, n, block[left + i], block[right + i]);
-        sides[RIGHT + i] = byte;
-    }
-}
-
-// The mask of the positions that hold the variable v on the side at `left`.
-fn mask_of(block: &[u8], left: usize, n: usize, v: u8) -> u64
-    requires { (n ≤ 16) × (left + n ≤ length block.now) }
-{
-    let mut mask: u64 = 0;
-    for j in 0..n {
-        if block[left + j] == v {
-            mask = mask | (15 << (4 * j));
+impl<'a> Rule<'a> {
+    // Whether the rule, where it writes, loses a label with this term on the left: nothing in its result tells it.
+    fn loses(&self, left: u8) -> bool {
+        match decode(left) {
+            Term::Label(_) => false,
+            Term::Variable(v) => self
+                .left
+                .iter()
+                .zip(self.right)
+                .all(|(l, r)| term_asked(*l, *r) != v),
+            Term::Dash | Term::Refused => true,
         }
     }
-    mask
-}
 
-// The mask of position i and of those that share its variable on the side at `left`.
-fn group_of(block: &[u8], left: usize, n: usize, i: usize) -> u64
-    requires { (n ≤ 16) × (i < n) × (left + n ≤ length block.now) }
-{
-    let term = decode(block[left + i]);
-    if let Term::Variable(v) = term {
-        return mask_of(block, left, n, v);
+    // The term of the reversed right side at a position with these terms on the left and on the right.
+    fn term_made(&self, left: u8, right: u8) -> u8 {
+        if is_dash(right) {
+            right
+        } else if self.loses(left) {
+            0
+        } else {
+            left
+        }
     }
-    15 << (4 * i)
-}
 
-// Whether position i is the first that holds its variable on the side at `left`.
-fn stands_first(block: &[u8], left: usize, n: usize, i: usize) -> bool
-    requires { (n ≤ 16) × (i < n) × (left + n ≤ length block.now) }
-{
-    let term = decode(block[left + i]);
-    if let Term::Variable(v) = term {
-        return first_of(block, left, n, v) == i;
+    // The reversed sides.
+    fn reversed(&self) -> [u8; SIDES] {
+        let mut sides = [0u8; SIDES];
+        for i in 0..self.left.len() {
+            let (left, right) = (self.left[i], self.right[i]);
+            sides[i] = term_asked(left, right);
+            sides[RIGHT + i] = self.term_made(left, right);
+        }
+        sides
     }
-    true
-}
 
-// Whether a group whose labels the rule loses begins at position i.
-fn begins_group(block: &[u8], left: usize, right: usize, n: usize, sides: &Sides, i: usize) -> bool
-    requires { (n ≤ 16) × (i < n) × (left + n ≤ length block.now) × (right + n ≤ length block.now) }
-{
-    if is_dash(block[right + i]) {
-        return false;
-    }
-    if is_lost(sides, n, block[left + i]) {
-        return stands_first(block, left, n, i);
-    }
-    false
-}
-
-// The groups whose labels a rule loses: the digit of each position in a group is the number of the group, from 1 on,
-// and 0 elsewhere. At most 15 groups have a number: only with one abstract label could there be more, and then no
-// label has another value.
-fn groups_of(block: &[u8], left: usize, right: usize, n: usize, sides: &Sides) -> u64
-    requires { (n ≤ 16) × (left + n ≤ length block.now) × (right + n ≤ length block.now) }
-{
-    let mut groups: u64 = 0;
-    let mut count: u64 = 0;
-    for i in 0..n {
-        if count < 15 {
-            if begins_group(block, left, right, n, sides, i) {
-                count += 1;
-                groups = groups | (group_of(block, left, n, i) & (count * ONES));
+    // The mask of the positions that hold the variable v on the left.
+    fn mask_of(&self, v: u8) -> u64 {
+        let mut mask: u64 = 0;
+        for (i, left) in self.left.iter().enumerate() {
+            if *left == v {
+                mask |= 15 << (4 * i);
             }
         }
+        mask
     }
-    groups
+
+    // The mask of position i and of those that share its variable on the left.
+    fn group_of(&self, i: usize) -> u64
+        requires { i < length self.now.left.now }
+    {
+        match decode(self.left[i]) {
+            Term::Variable(v) => self.mask_of(v),
+            _ => 15 << (4 * i),
+        }
+    }
+
+    // Whether position i is the first that holds its variable on the left.
+    fn stands_first(&self, i: usize) -> bool
+        requires { i < length self.now.left.now }
+    {
+        match decode(self.left[i]) {
+            Term::Variable(v) => !self.left[..i].contains(&v),
+            _ => true,
+        }
+    }
+
+    // Whether a group whose labels the rule loses begins at position i.
+    fn begins_group(&self, i: usize) -> bool
+        requires { i < length self.now.left.now }
+    {
+        !is_dash(self.right[i]) && self.loses(self.left[i]) && self.stands_first(i)
+    }
+
+    // The groups whose labels the rule loses: the digit of each position in a group is the number of the group, from 1
+    // on, and 0 elsewhere. At most 15 groups have a number: only with one abstract label could there be more, and then
+    // no label has another value.
+    fn groups(&self) -> u64 {
+        let mut groups: u64 = 0;
+        let mut count: u64 = 0;
+        for i in 0..self.left.len() {
+            if count < 15 && self.begins_group(i) {
+                count += 1;
+                groups |= self.group_of(i) & (count * ONES);
+            }
+        }
+        groups
+    }
 }
 
 // Compiles rule r backwards. A rule read backwards costs nothing: where its cost would stand its groups do.
@@ -147,19 +133,19 @@ fn reverse_rule(block: &[u8], r: usize, code: &mut Code)
     let n = layout::positions(block);
     let left = layout::left_at(block, r);
     let right = layout::right_at(block, r);
-    let mut sides = [0u8; SIDES];
-    reverse_left(block, left, right, n, &mut sides);
-    reverse_right(block, left, right, n, &mut sides);
-    place_sides(&sides, 0, RIGHT, n, code, r);
-    code[COSTS + r] = groups_of(block, left, right, n, &sides);
+    let rule = Rule {
+        left: &block[left..left + n],
+        right: &block[right..right + n],
+    };
+    place_sides(&rule.reversed(), 0, RIGHT, n, code, r);
+    code[COSTS + r] = rule.groups();
 }
 
 // Compiles all rules backwards.
 pub fn reverse_rules(block: &[u8], code: &mut Code)
     requires { Sized block.now }
 {
-    let rules = layout::rules(block);
-    for r in 0..rules {
+    for r in 0..layout::rules(block) {
         reverse_rule(block, r, code);
     }
 }
