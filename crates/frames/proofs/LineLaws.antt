@@ -3,14 +3,16 @@
 -- The loops of the reader and of `par` rest on these.
 use mathlib.Core.Path.{◌≡◌, refl, ap, ◌∙◌}
 use mathlib.Core.Logic.{⊎_elim}
-use mathlib.Core.Bool.{Bool, true, false}
+use mathlib.Core.Bool.{Bool, true, false, not, cond}
+use Rattle.std.specs.Prelude.{Option, Some, None, min, nat_lt}
+use Rattle.std.specs.List.{position, position_or_len}
 use mathlib.Core.List.{List, [], ◌∷◌}
 use Prim.Native.Nat.{ℕ, suc, ◌+◌, ◌≤◌, ◌<◌}
 use native.Mathlib.Omega.{arith}
 use lib.Dec.{eqb}
 use lib.ListN.{length, get_or, take, drop, length-take, length-drop, drop_of_length-le}
 use lib.Seq.{drop-cons, drop-drop}
-use borrow.Author.Tests.{eq-eqb, ne_eqb}
+use borrow.Author.Tests.{ltb-true, ltb-false, eq-eqb, ne_eqb}
 use Rattle.basics.proofs.Truth.{true-false}
 use Rattle.basics.proofs.Comparing.{below?, same?}
 use Rattle.frames.specs.Lines.{line_feed, in_front, lines_of, line_ok}
@@ -53,6 +55,35 @@ first_taken (c ∷ x) = go (first_taken x) (eqb c line_feed)
         → take (length (first_line (in_front t c (lines_of x)))) (c ∷ x) ≡ first_line (in_front t c (lines_of x))
     go ih true = refl
     go ih false = rw (front-first c (lines_of x)) (ap (λ (l : List ℕ). c ∷ l) ih)
+
+-- how long the first line is, by where the first line feed of a text stands
+abbrev pub up_to : List ℕ → Option ℕ → ℕ
+up_to x (Some i) = i + 1
+up_to x None = length x
+
+abbrev is_feed : ℕ → Bool
+is_feed c = eqb c line_feed
+
+first_long : (x : List ℕ) → length (first_line (lines_of x)) ≡ min (suc (position_or_len is_feed x)) (length x)
+first_long [] = refl
+first_long (c ∷ x) = go (first_long x) (eqb c line_feed)
+  where
+    go :
+        length (first_line (lines_of x)) ≡ min (suc (position_or_len is_feed x)) (length x)
+        → (t : Bool)
+        → length (first_line (in_front t c (lines_of x)))
+        ≡ min (suc (cond (not t) (1 + position_or_len is_feed x) 0)) (suc (length x))
+    go ih true = omega arith
+    go ih false = rw (front-first c (lines_of x)) (omega (arith, ih))
+
+pub first-long : (x : List ℕ) → length (first_line (lines_of x)) ≡ up_to x (position is_feed x)
+first-long x = go (nat_lt (position_or_len is_feed x) (length x)) refl
+  where
+    go :
+        (t : Bool) → nat_lt (position_or_len is_feed x) (length x) ≡ t
+        → length (first_line (lines_of x)) ≡ up_to x (cond t (Some (position_or_len is_feed x)) None)
+    go true h = omega (arith, first_long x, ltb-true (position_or_len is_feed x) (length x) h)
+    go false h = omega (arith, first_long x, ltb-false (position_or_len is_feed x) (length x) h)
 
 module _ (x : List ℕ) (at : ℕ) where
   -- behind the end there is no line

@@ -2,7 +2,7 @@
 -- `block-from`, and at the end `ok_end`, `fit-end`, `block-end`; the lines behind the first (`lines-tail`), and what
 -- decides the conditions on frames (`lines-refused`, `head-refused`, `frames-decided`).
 -- The functions that read an exercise rest on these.
-use mathlib.Core.Path.{◌≡◌, refl, ap, ap₂, ◌∙◌}
+use mathlib.Core.Path.{◌≡◌, refl, sym, ap, ap₂, ◌∙◌}
 use mathlib.Core.Bool.{Bool, true, false, ◌&&◌}
 use mathlib.Core.List.{List, [], ◌∷◌, ◌++◌, flat_map, tail}
 use Prim.Native.Nat.{ℕ, suc, ◌+◌, ◌≤◌, ◌<◌}
@@ -10,8 +10,8 @@ use native.Mathlib.Nat.{zero-add}
 use native.Mathlib.Omega.{arith}
 use lib.Dec.{leb, ltb, eqb}
 use lib.ListN.{length, drop, drop_of_length-le}
-use Rattle.refusals.specs.Answers.{refused, told, Condition, ◌unless◌, verdict}
-use Rattle.refusals.proofs.Verdicts.{verdict-told, verdict-behind, verdict-before}
+use Rattle.refusals.specs.Answers.{Answer, refused, told, Condition, ◌unless◌, verdict, answered}
+use Rattle.refusals.proofs.Verdicts.{told-refused, verdict-told, verdict-behind, verdict-before}
 use Rattle.blocks.specs.Layout.{block_length, frame_count, frame_length}
 use Rattle.blocks.specs.Validity.{head_ok}
 use Rattle.frames.specs.Lines.{lines_of, line_ok, line_bytes}
@@ -61,6 +61,16 @@ lines-tail [] = refl
 lines-tail (c ∷ x) =
     ap tail (lines_from (c ∷ x) 0 (omega arith))
     ∙ ap (λ (k : ℕ). lines_of (drop k (c ∷ x))) (zero-add (length (line_from (c ∷ x) 0)))
+
+-- what is told or refused behind a verdict
+pub answered-told :
+    {A : Type 0} (v : Answer (Unit {0})) (a b : A) → told a ≡ answered v b → (v ≡ told tt) × (a ≡ b)
+answered-told (refused n) a b e = absurd (told-refused refl e)
+answered-told (told u) a b e = (refl, cc)
+
+pub answered-refused : {A : Type 0} (v : Answer (Unit {0})) (k : ℕ) (b : A) → refused k ≡ answered v b → v ≡ refused k
+answered-refused (refused n) k b e = cc
+answered-refused (told u) k b e = absurd (told-refused refl (sym e))
 
 -- what an accepted head is
 pub head-accepted :

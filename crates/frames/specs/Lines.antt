@@ -1,7 +1,7 @@
 -- Text as lines (`lines_of`), and a line as bytes: whether it is pairs of digits with a line feed (`line_ok`), the
 -- bytes of its pairs (`line_bytes`), and the line that bytes are written as (`line_of`).
 -- The reader and all that `par` prints are stated with these.
-use Rattle.std.specs.Prelude.{ℕ, ◌+◌, ◌-◌, ◌*◌, ◌/◌, ◌%◌, Bool, true, false, cond, ◌&&◌, ◌||◌, List, [], ◌∷◌, ltb, eqb}
+use Rattle.std.specs.Prelude.{ℕ, ◌+◌, ◌-◌, ◌*◌, ◌/◌, ◌%◌, Bool, true, false, cond, ◌&&◌, ◌||◌, Option, Some, None, List, [], ◌∷◌, ltb, eqb}
 use Rattle.blocks.specs.Validity.{within}
 
 -- hexadecimal 0A
@@ -15,6 +15,10 @@ is_digit c = within 48 c 57 || within 65 c 70
 -- the value of a digit; 0 for any other character
 unfoldable pub digit_value : ℕ → ℕ
 digit_value c = cond (within 48 c 57) (c - 48) (cond (within 65 c 70) (c - 55) 0)
+
+-- a digit by its value; none for any other character
+abbrev pub digit : ℕ → Option ℕ
+digit c = cond (is_digit c) (Some (digit_value c)) None
 
 -- the digit of a value
 unfoldable pub digit_of : ℕ → ℕ

@@ -1,24 +1,16 @@
 -- Reading an exercise from its lines: `read_exercise` is the answer with the final contents of the lent buffer, for
--- every text. `read_conditions` are the numbers in the reader's order, over the text's lines; `reading_of` gives the
--- document's answer for each case of the enum. The public call of `text_calls`, and opening an exercise in `par`, are
--- stated so.
+-- every text. `read_conditions` are the numbers in the reader's order, over the text's lines. The public call of
+-- `text_calls`, and opening an exercise in `par`, are stated so.
 use Rattle.std.specs.Prelude.{◌≡◌, ℕ, suc, Bool, true, ◌&&◌, leb, ltb, eqb, length}
 use mathlib.Core.List.{List, [], ◌∷◌, ◌++◌, flat_map, tail}
 use Rattle.basics.specs.Lists.{at_front}
-use Rattle.refusals.specs.Answers.{Answer, refused, told, Condition, ◌unless◌, verdict, Outcome, outcome, guarded}
-use Rattle.refusals.specs.Refusals.{refusal_number, verdict_of}
+use Rattle.refusals.specs.Answers.{told, Condition, ◌unless◌, verdict, answered, Outcome, outcome, guarded}
+use Rattle.refusals.specs.Refusals.{answer_of}
 use Rattle.blocks.specs.Layout.{head_length, block_length, frame_count, frame_length}
 use Rattle.blocks.specs.Validity.{head_ok, content_conditions}
 use Rattle.frames.specs.Lines.{lines_of, line_ok, line_bytes}
 use Rattle.frames.specs.Places.{first_line}
 use Rattle.frames.specs.declared.reading.Heading.{Heading}
-use Rattle.frames.specs.declared.reading.Reading.{Reading}
-use Rattle.frames.specs.declared.reading.Reading.TheVariants.{Done, Refused}
-
--- the length of the block
-abbrev pub reading_of : Reading → Answer ℕ
-reading_of (Done bytes) = told bytes
-reading_of (Refused refusal) = refused (refusal_number refusal)
 
 -- "Head, map, each rule and each goal is one frame a line": the head, and the whole block
 abbrev pub head_of : List (List ℕ) → List ℕ
@@ -57,13 +49,11 @@ frame_conditions ls room =
 unfoldable pub read_conditions : List (List ℕ) → ℕ → List Condition
 read_conditions ls room = frame_conditions ls room ++ content_conditions (block_of ls)
 
--- what is told of the head line of some lines: whether it is right, how long it is, what turns the head back, and the
--- head where nothing does
+-- what is told of the head line of some lines: whether it is right, how long it is, and the head, or what turns it back
 pub record HeadRead (ls : List (List ℕ)) (r : Heading) : Type 0 where
   pub right : r.ok ≡ line_ok (first_line ls)
   pub onward : r.next ≡ length (first_line ls)
-  pub judged : verdict_of r.verdict ≡ verdict (head_conditions ls)
-  pub decoded : verdict (head_conditions ls) ≡ told tt → r.head ≡ head_of ls
+  pub judged : answer_of r.head ≡ answered (verdict (head_conditions ls)) (head_of ls)
 
 -- the block stands at the front of the buffer
 unfoldable pub read_exercise : List ℕ → List ℕ → Outcome ℕ

@@ -1,26 +1,15 @@
 // Hexadecimal digits: 0 to 9 and A to F.
-ghost use Rattle.std.specs.Prelude.{◌≡◌, ◌≤◌, ◌<◌};
-ghost use Rattle.frames.specs.Lines.{is_digit, digit_value, digit_of};
+ghost use Rattle.std.specs.Prelude.{◌≡◌, ◌<◌};
+ghost use Rattle.frames.specs.Lines.{digit, digit_of};
 
-// Whether a character is a digit.
-pub fn is_digit(c: u8) -> bool
-    ensures { result ≡ is_digit c }
+// The value of a digit; none for any other character.
+pub fn digit(c: u8) -> Option<u8>
+    ensures { result ≡ digit c }
 {
     match c {
-        b'0'..=b'9' => true,
-        b'A'..=b'F' => true,
-        _ => false,
-    }
-}
-
-// The value of a digit; 0 for any other character.
-pub fn digit_value(c: u8) -> u8
-    ensures { (result ≡ digit_value c) × (result ≤ 15) }
-{
-    match c {
-        b'0'..=b'9' => c - 48,
-        b'A'..=b'F' => c - 55,
-        _ => 0,
+        b'0'..=b'9' => Some(c - b'0'),
+        b'A'..=b'F' => Some(c - b'A' + 10),
+        _ => None,
     }
 }
 
@@ -30,7 +19,8 @@ pub fn digit_of(value: u8) -> u8
     ensures { result ≡ digit_of value }
 {
     if value < 10 {
-        return 48 + value;
+        b'0' + value
+    } else {
+        b'A' + (value - 10)
     }
-    55 + value
 }

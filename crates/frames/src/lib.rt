@@ -6,4 +6,4 @@ pub mod lines;
 pub mod reader;
 mod reading;
 
-pub use reading::{Heading, Reading, read_head, read_text};
+pub use reading::{Heading, read_head, read_text};

@@ -1,15 +1,14 @@
 // Lines of a text: where they end, whether they are pairs of digits with a line feed, and their bytes.
-ghost use Rattle.std.specs.Prelude.{◌≡◌, ◌+◌, ◌≤◌, length};
-ghost use Rattle.std.proofs.lemmas.List.Edits.{sets};
+ghost use Rattle.std.specs.Prelude.{◌≡◌, ◌+◌, ◌*◌, ◌≤◌, eqb, length};
+ghost use Rattle.std.specs.List.{list_all, position};
 ghost use Rattle.basics.specs.Lists.{at_front};
-ghost use Rattle.frames.specs.Lines.{line_ok, line_bytes, line_of};
+ghost use Rattle.frames.specs.Lines.{line_feed, is_digit, digit_value, line_ok, line_bytes, line_of};
 ghost use Rattle.frames.specs.Places.{line_from, line_at};
 
-use super::digits::{digit_of, digit_value, is_digit};
-use basics::and;
+use super::digits::{digit, digit_of};
 
 // The character that ends a line.
-const LINE_FEED: u8 = 10;
+const LINE_FEED: u8 = b'\n';
 
 // What stands at a place of a text: whether the line there is pairs of digits with a line feed, how many bytes its
 // pairs make, and the place behind it.
@@ -20,35 +19,41 @@ pub struct Line {
     pub next: usize,
 }
 
+// Where the first line feed of a text stands.
+fn feed_at(text: &[u8]) -> Option<usize>
+    ensures { result ≡ position (λ c. eqb c line_feed) text.now }
+{
+    text.iter().position(|c| *c == LINE_FEED)
+}
+
 // The place behind the line at `at`: behind its line feed, or the end of the text.
 pub fn line_end(text: &[u8], at: usize) -> usize
     ensures { result ≡ at + length (line_from text.now at) }
 {
-    let mut i = at;
-    while i < text.len() {
-        if text[i] == LINE_FEED {
-            return i + 1;
-        }
-        i += 1;
+    let rest = &text[at.min(text.len())..];
+    match feed_at(rest) {
+        Some(i) => at + i + 1,
+        None => at + rest.len(),
     }
-    i
+}
+
+// Whether all characters are digits.
+fn all_digits(characters: &[u8]) -> bool
+    ensures { result ≡ list_all is_digit characters.now }
+{
+    characters.iter().all(|c| digit(*c).is_some())
 }
 
 // Whether a line is pairs of digits with a line feed.
 fn line_ok(line: &[u8]) -> bool
     ensures { result ≡ line_ok line.now }
 {
-    let mut i: usize = 0;
-    while i + 1 < line.len() {
-        if !and(is_digit(line[i]), is_digit(line[i + 1])) {
-            return false;
+    match line.split_last() {
+        Some((last, digits)) => {
+            *last == LINE_FEED && digits.len() % 2 == 0 && all_digits(digits)
         }
-        i += 2;
+        None => false,
     }
-    if i < line.len() {
-        return line[i] == LINE_FEED;
-    }
-    false
 }
 
 // The line at `at`.
@@ -71,20 +76,24 @@ pub fn line_at(text: &[u8], at: usize) -> Line
     }
 }
 
-// Writes the bytes of a line from `to` on, and gives the place behind them.
-pub fn decode_line(line: &[u8], out: &mut [u8], to: usize) -> usize
-    requires { to + length (line_bytes line.now) ≤ length out.old }
-    ensures { (result ≡ to + length (line_bytes line.now))
-        × (out.new ≡ sets out.old to (line_bytes line.now)) }
+// The byte that two characters make, the higher digit first. A character that is no digit counts as 0.
+fn pair_byte(high: u8, low: u8) -> u8
+    ensures { result ≡ 16 * digit_value high + digit_value low }
 {
-    let mut at = to;
-    let mut i: usize = 0;
-    while i + 1 < line.len() {
-        out[at] = 16 * digit_value(line[i]) + digit_value(line[i + 1]);
-        at += 1;
-        i += 2;
+    16 * digit(high).unwrap_or(0) + digit(low).unwrap_or(0)
+}
+
+// Writes the bytes of a line at the front of `out`, and gives their number.
+pub fn decode_line(line: &[u8], out: &mut [u8]) -> usize
+    requires { length (line_bytes line.now) ≤ length out.old }
+    ensures { (result ≡ length (line_bytes line.now))
+        × (out.new ≡ at_front (line_bytes line.now) out.old) }
+{
+    let (pairs, _) = line.as_chunks::<2>();
+    for (i, [high, low]) in pairs.iter().enumerate() {
+        out[i] = pair_byte(*high, *low);
     }
-    at
+    pairs.len()
 }
 
 // Writes bytes as a line at the front of `out`, and gives its length.
@@ -93,13 +102,11 @@ pub fn encode_line(bytes: &[u8], out: &mut [u8]) -> usize
     ensures { (result ≡ length (line_of bytes.now))
         × (out.new ≡ at_front (line_of bytes.now) out.old) }
 {
-    let mut at: usize = 0;
-    for i in 0..bytes.len() {
-        let byte = bytes[i];
-        out[at] = digit_of(byte / 16);
-        out[at + 1] = digit_of(byte % 16);
-        at += 2;
+    for (i, byte) in bytes.iter().enumerate() {
+        out[2 * i] = digit_of(byte / 16);
+        out[2 * i + 1] = digit_of(byte % 16);
     }
-    out[at] = LINE_FEED;
-    at + 1
+    let end = 2 * bytes.len();
+    out[end] = LINE_FEED;
+    end + 1
 }

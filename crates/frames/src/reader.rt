@@ -11,20 +11,21 @@ pub struct Reader<'a> {
     pub at: usize,
 }
 
-// Takes the line at the reader's place: the reader then stands behind it, over the same text.
-pub fn next_line<'s, 'a>(reader: &'s mut Reader<'a>) -> Line
-    ensures { (result ≡ line_at reader.old.text.now reader.old.at)
-        × (reader.new.text ≡ reader.old.text) × (reader.new.at ≡ result.next) }
-{
-    let line = line_at(reader.text, reader.at);
-    reader.at = line.next;
-    line
+impl<'a> Reader<'a> {
+    // Takes the line at the reader's place: the reader then stands behind it, over the same text.
+    pub fn next_line(&mut self) -> Line
+        ensures { (result ≡ line_at self.old.text.now self.old.at)
+            × (self.new.text ≡ self.old.text) × (self.new.at ≡ result.next) }
+    {
+        let line = line_at(self.text, self.at);
+        self.at = line.next;
+        line
+    }
 }
 
 // The line that a reader takes once it has read a text up to `at`.
 pub fn read_line(text: &[u8], at: usize) -> Line
     ensures { result ≡ line_at text.now at }
 {
-    let mut reader = Reader { text, at };
-    next_line(&mut reader)
+    Reader { text, at }.next_line()
 }

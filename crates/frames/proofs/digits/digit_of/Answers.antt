@@ -7,5 +7,5 @@ use Rattle.frames.proofs.digits.digit_of.Goals as goal
 pub returns-then-value-lt10 : goal.returns-then-value-lt10
 returns-then-value-lt10 c = omega (arith, low_digit c.args.value (omega arith))
 
-pub returns : goal.returns
-returns c = omega (arith, high_digit c.args.value (omega arith))
+pub returns-else-value-lt10 : goal.returns-else-value-lt10
+returns-else-value-lt10 c = omega (arith, high_digit c.args.value (omega arith))

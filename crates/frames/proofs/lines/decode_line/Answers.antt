@@ -1,65 +1,55 @@
 -- `frames::lines::decode_line` meets its contract.
-use mathlib.Core.Path.{◌≡◌, refl, sym, ap, ap₂, ◌∙◌}
+use mathlib.Core.Path.{◌≡◌, sym, ap, ap₂, ◌∙◌}
 use mathlib.Core.List.{List, [], ◌∷◌}
-use Prim.Native.Nat.{ℕ, ◌+◌, ◌*◌, ◌<◌, ◌≤◌}
+use Prim.Native.Nat.{ℕ, ◌+◌, ◌*◌, ◌/◌, ◌<◌, ◌≤◌}
 use native.Mathlib.Omega.{arith}
 use native.Mathlib.Numerals.{add-one}
-use lib.ListN.{length, get_or, set, drop, length-set, length-drop}
+use lib.ListN.{length, get_or, set, drop, length-drop}
 use lib.Seq.{sets}
-use borrow.Author.Rules.{rules}
+use Rattle.std.specs.Simd.{first_chunks}
+use Rattle.basics.proofs.Lists.{sets-front}
 use Rattle.frames.specs.Lines.{digit_value, line_bytes}
-use Rattle.frames.proofs.PairLaws.{pair-bytes, no_bytes}
+use Rattle.frames.proofs.PairLaws.{half_length, pair-bytes, pair-here, no_bytes}
 use Rattle.frames.proofs.lines.decode_line.Goals as goal
 
-module _ (l : List ℕ) (i : ℕ) where
+module _ (l : List ℕ) (pairs : List (List ℕ)) (is : pairs ≡ first_chunks 2 (length l / 2) l) (i : ℕ) where
   -- the byte of this pair, in front of those that are left
   pair :
-      i + 1 < length l → {high low : ℕ} → high ≡ digit_value (get_or l i 0) → low ≡ digit_value (get_or l (i + 1) 0)
-      → line_bytes (drop i l) ≡ (16 * high + low) ∷ line_bytes (drop (i + 2) l)
-  pair h p q =
-      pair-bytes l i h ∙ ap₂ (λ (a b : ℕ). (16 * a + b) ∷ line_bytes (drop (i + 2) l)) (sym p) (sym q)
+      (b : ℕ) → i < length l / 2
+      → b ≡ 16 * digit_value (get_or (get_or pairs i []) 0 0) + digit_value (get_or (get_or pairs i []) 1 0)
+      → line_bytes (drop (2 * i) l) ≡ b ∷ line_bytes (drop (2 * (i + 1)) l)
+  pair b h e =
+      let here = ap (λ (p : List (List ℕ)). get_or p i []) is ∙ pair-here l (length l / 2) i (omega arith) h in
+      let next : 2 * i + 2 ≡ 2 * (i + 1) = omega arith in
+      pair-bytes l (2 * i) (omega arith)
+      ∙ ap₂ (λ (x : ℕ) (k : ℕ). x ∷ line_bytes (drop k l))
+      (sym (e ∙ ap (λ (p : List ℕ). 16 * digit_value (get_or p 0 0) + digit_value (get_or p 1 0)) here)) next
 
-  -- no byte is left
-  none : length l ≤ i + 1 → line_bytes (drop i l) ≡ []
-  none h = no_bytes (drop i l) (omega (arith, length-drop i l))
+-- no byte is left
+none : (l : List ℕ) (i : ℕ) → length l / 2 ≤ i → line_bytes (drop (2 * i) l) ≡ []
+none l i h = no_bytes (drop (2 * i) l) (omega (arith, length-drop (2 * i) l))
 
-pub loop-i-init : goal.loop-i-init
-loop-i-init c = (search rules, refl, refl, refl)
-
-pub bounds-out-at : goal.bounds-out-at
-bounds-out-at c =
-    let high = c.digit_value.ensures.0 in
-    let low = c.digit_value-in-loop-i.ensures.0 in
-    omega (arith, ap length (pair c.args.line.now c.loop-i.i c.loop-i-test.true high low))
-
-pub overflow_add-at : goal.overflow_add-at
-overflow_add-at c =
-    let high = c.digit_value.ensures.0 in
-    let low = c.digit_value-in-loop-i.ensures.0 in
-    omega (arith, ap length (pair c.args.line.now c.loop-i.i c.loop-i-test.true high low))
+pub bounds-out-i : goal.bounds-out-i
+bounds-out-i c =
+    omega (arith, half_length c.args.line.now, c.as_chunks.ensures.front_len)
 
 pub loop-i-preserved : goal.loop-i-preserved
 loop-i-preserved c =
     let l = c.args.line.now in
-    let loop = c.loop-i in
-    let high = c.digit_value.ensures.0 in
-    let low = c.digit_value-in-loop-i.ensures.0 in
-    let p = pair l loop.i c.loop-i-test.true high low in
-    let byte = 16 * c.digit_value.result + c.digit_value-in-loop-i.result in
-    let left = line_bytes (drop (loop.i + 2) l) in (
-      search rules,
-      length-set loop.out loop.at byte ∙ loop.invariant.1,
-      omega (arith, ap length p),
-      ap (λ (k : ℕ). sets (set loop.out loop.at byte) k left) (add-one loop.at)
-          ∙ ap (sets loop.out loop.at) (sym p)
-          ∙ loop.invariant.3,
-    )
-
-pub shape_of-out : goal.shape_of-out
-shape_of-out c = c.loop-i.invariant.1
+    let i = c.loop-i.i in
+    let out = c.loop-i.out in
+    let b = c.pair_byte.result in
+    let p = pair l _ c.as_chunks.ensures.front i b (omega (arith, c.as_chunks.ensures.front_len)) c.pair_byte.ensures in
+    ap (λ (k : ℕ). sets (set out i b) k (line_bytes (drop (2 * (i + 1)) l))) (add-one i)
+    ∙ ap (sets out i) (sym p)
+    ∙ c.loop-i.invariant
 
 pub returns : goal.returns
 returns c =
-    let loop = c.loop-i in
-    let n = none c.args.line.now loop.i c.loop-i-test.false in
-    (omega (arith, ap length n), ap (sets loop.out loop.at) (sym n) ∙ loop.invariant.3)
+    let l = c.args.line.now in
+    let half = half_length l in
+    let n = none l c.loop-i.i (omega (arith, c.as_chunks.ensures.front_len)) in (
+      omega (arith, half, c.as_chunks.ensures.front_len),
+      ap (sets c.loop-i.out c.loop-i.i) (sym n) ∙ c.loop-i.invariant
+          ∙ sets-front c.args.out.now (line_bytes l) c.requires,
+    )

@@ -1,45 +1,48 @@
 -- `frames::lines::line_ok` meets its contract.
-use mathlib.Core.Path.{◌≡◌, sym, ap, ap₂, ◌∙◌, refl}
-use mathlib.Core.Bool.{Bool, ◌&&◌}
-use mathlib.Core.List.{List}
-use Prim.Native.Nat.{ℕ, ◌+◌, ◌<◌}
-use native.Mathlib.Omega.{arith}
-use lib.ListN.{length, get_or, drop}
-use borrow.Author.Rules.{rules}
-use Rattle.frames.specs.Lines.{is_digit, line_ok}
-use Rattle.frames.proofs.PairLaws.{pair_ok, last_ok, none-ok}
+-- The last character is the line feed, and those before it are digits, even in number.
+use mathlib.Core.Path.{◌≡◌, sym, ap, ◌∙◌, refl, ap₂}
+use mathlib.Core.Bool.{Bool, true, false, ◌&&◌}
+use mathlib.Core.List.{List, [], ◌∷◌, ◌++◌}
+use Prim.Native.Nat.{ℕ, ◌%◌}
+use lib.Dec.{eqb}
+use lib.ListN.{length}
+use borrow.Author.Tests.{eq-eqb, ne_eqb}
+use Rattle.std.specs.List.{list_all}
+use Rattle.basics.proofs.Truth.{true-false}
+use Rattle.frames.specs.Lines.{line_feed, is_digit, line_ok}
+use Rattle.frames.proofs.PairLaws.{ended_ok}
+use Rattle.frames.proofs.lines.line_ok.Goals.{then-last-eq-LINE_FEED, else-last-eq-LINE_FEED}
 use Rattle.frames.proofs.lines.line_ok.Goals as goal
 
--- what is left of the line is right exactly where this pair and what is left behind it are
-turn :
-    (l : List ℕ) (i : ℕ) → i + 1 < length l → {high low both : Bool} → high ≡ is_digit (get_or l i 0)
-    → low ≡ is_digit (get_or l (i + 1) 0) → both ≡ (high && low) → (good : Bool) → both ≡ good
-    → line_ok (drop i l) ≡ (good && line_ok (drop (i + 2) l))
-turn l i h p q r good e =
-    pair_ok l i h ∙ ap (λ (t : Bool). t && line_ok (drop (i + 2) l)) (sym (r ∙ ap₂ ◌&&◌ p q) ∙ e)
+-- a line that ends so is as good as its tests
+tested :
+    (l digits : List ℕ) (last : ℕ) → l ≡ digits ++ (last ∷ []) → (feed even : Bool) → eqb last line_feed ≡ feed
+    → eqb (length digits % 2) 0 ≡ even → (feed && (even && list_all is_digit digits)) ≡ line_ok l
+tested l digits last e feed even p q =
+    ap₂ (λ (f n : Bool). f && (n && list_all is_digit digits)) (sym p) (sym q) ∙ sym (ap line_ok e ∙ ended_ok digits last)
 
-pub loop-i-init : goal.loop-i-init
-loop-i-init c = (search rules, refl)
-
-pub returns-then-not-and : goal.returns-then-not-and
-returns-then-not-and c =
+pub returns-then-digits-eq0 : goal.returns-then-digits-eq0
+returns-then-digits-eq0 c =
     let l = c.args.line.now in
-    let i = c.loop-i.i in
-    let t =
-    turn l i c.loop-i-test.true c.is_digit.ensures c.is_digit-in-loop-i.ensures c.and.ensures _ c.if-not-and.true in
-    sym (sym c.loop-i.invariant.1 ∙ t)
+    let e = c.in-Some.ensures.cases.0 in
+    elim c.if-last-eq-LINE_FEED.branch [
+      | then-last-eq-LINE_FEED w ↦
+          c.all_digits.ensures
+          ∙ tested l _ _ e true true (eq-eqb _ _ w.if-last-eq-LINE_FEED.true) (sym w.value-is ∙ c.if-digits-eq0.true)
+      | else-last-eq-LINE_FEED w ↦
+          absurd (true-false c.if-digits-eq0.true (w.value-is ∙ ne_eqb _ _ w.if-last-eq-LINE_FEED.false))
+    ]
 
-pub loop-i-preserved : goal.loop-i-preserved
-loop-i-preserved c =
+pub returns-else-digits-eq0 : goal.returns-else-digits-eq0
+returns-else-digits-eq0 c =
     let l = c.args.line.now in
-    let i = c.loop-i.i in
-    let t =
-    turn l i c.loop-i-test.true c.is_digit.ensures c.is_digit-in-loop-i.ensures c.and.ensures _
-    c.if-not-and.false in
-    (search rules, sym t ∙ c.loop-i.invariant.1)
-
-pub returns-then-i-line : goal.returns-then-i-line
-returns-then-i-line c = sym (sym c.loop-i.invariant.1 ∙ last_ok c.args.line.now c.loop-i.i (omega arith))
-
-pub returns : goal.returns
-returns c = sym (sym c.loop-i.invariant.1 ∙ none-ok c.args.line.now c.loop-i.i (omega arith))
+    let e = c.in-Some.ensures.cases.0 in
+    elim c.if-last-eq-LINE_FEED.branch [
+      | then-last-eq-LINE_FEED w ↦
+          c.if-digits-eq0.false
+          ∙ tested l _ _ e true false (eq-eqb _ _ w.if-last-eq-LINE_FEED.true) (sym w.value-is ∙ c.if-digits-eq0.false)
+      | else-last-eq-LINE_FEED w ↦
+          w.value-is
+          ∙ ne_eqb _ _ w.if-last-eq-LINE_FEED.false
+          ∙ tested l _ _ e false _ (ne_eqb _ _ w.if-last-eq-LINE_FEED.false) refl
+    ]

@@ -6,9 +6,10 @@ use mathlib.Core.List.{List}
 use Prim.Native.Nat.{ℕ, ◌+◌, ◌≤◌}
 use native.Mathlib.Omega.{arith}
 use lib.ListN.{length, take, replicate}
-use lib.Seq.{length-take-le, sets}
+use lib.Seq.{length-take-le}
 use borrow.Author.Tests.{eqb-true}
-use Rattle.basics.proofs.Lists.{sets-front, front-whole}
+use Rattle.basics.specs.Lists.{at_front}
+use Rattle.basics.proofs.Lists.{front-whole}
 use Rattle.blocks.specs.Layout.{head_length}
 use Rattle.frames.specs.Lines.{lines_of, line_bytes}
 use Rattle.frames.specs.Places.{line_from}
@@ -46,6 +47,5 @@ returns c =
     let x = c.args.text.now in
     let head = head_of (lines_of x) in
     c.decode_line.ensures.1
-    ∙ ap (sets (replicate 5 0) 0) (part x _ c.line_end-end.ensures)
-    ∙ sets-front (replicate 5 0) head (omega (arith, five x c.requires))
+    ∙ ap (λ (l : List ℕ). at_front l (replicate 5 0)) (part x _ c.line_end-end.ensures)
     ∙ front-whole head (replicate 5 0) (omega (arith, five x c.requires))

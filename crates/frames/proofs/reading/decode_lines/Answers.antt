@@ -1,11 +1,11 @@
 -- `frames::reading::decode_lines` meets its contract.
 use mathlib.Core.Path.{◌≡◌, refl, sym, ap, ◌∙◌}
-use mathlib.Core.List.{List}
+use mathlib.Core.List.{List, [], ◌++◌, append_assoc, append-nil}
 use Prim.Native.Nat.{ℕ, ◌+◌, ◌-◌, ◌≤◌, ◌<◌}
 use native.Mathlib.Omega.{arith}
-use lib.ListN.{length, take, drop, length-append}
-use lib.Seq.{sets}
-use Rattle.basics.proofs.Lists.{sets_behind, sets-front}
+use lib.ListN.{length, take, drop, length-append, length-drop}
+use Rattle.basics.specs.Lists.{at_front}
+use Rattle.basics.proofs.Lists.{front-behind, rest-whole}
 use Rattle.frames.specs.Lines.{lines_of, line_bytes}
 use Rattle.frames.specs.Places.{line_from}
 use Rattle.frames.specs.Reading.{block_of}
@@ -20,11 +20,6 @@ mine x at = line_bytes (line_from x at)
 abbrev rest : List ℕ → ℕ → List ℕ
 rest x at = block_of (behind x at)
 
-bytes-length :
-    (x : List ℕ) (at : ℕ) → at < length x
-    → length (block_of (lines_of (drop at x))) ≡ length (mine x at) + length (rest x at)
-bytes-length x at l = ap length (block-from x at l) ∙ length-append (mine x at) (rest x at)
-
 -- the next line begins at `next`
 module _ (x : List ℕ) (at next : ℕ) (onward : next ≡ at + length (line_from x at)) where
   inside : at < length x → next ≤ length x
@@ -36,8 +31,15 @@ module _ (x : List ℕ) (at next : ℕ) (onward : next ≡ at + length (line_fro
       let e : next - at ≡ length (line_from x at) = omega arith in
       ap (λ (k : ℕ). take k (drop at x)) e ∙ line-part x at
 
+-- all bytes are those that are written, those of the line there, and the rest
+all_bytes :
+    (front : List ℕ) (x : List ℕ) (at : ℕ) → at < length x
+    → front ++ block_of (lines_of (drop at x)) ≡ (front ++ mine x at) ++ rest x at
+all_bytes front x at l =
+    ap (λ (y : List ℕ). front ++ y) (block-from x at l) ∙ sym (append_assoc front (mine x at) (rest x at))
+
 pub loop-at-init : goal.loop-at-init
-loop-at-init c = (refl, omega arith, refl)
+loop-at-init c = ([], refl, refl, refl)
 
 pub slice_bounds-decode_line-count : goal.slice_bounds-decode_line-count
 slice_bounds-decode_line-count c = omega (arith, c.line_end-next.ensures)
@@ -54,8 +56,20 @@ pub decode_line-to-requires : goal.decode_line-to-requires
 decode_line-to-requires c =
     let x = c.args.text.now in
     let at = c.loop-at.at in
+    let front = c.loop-at.invariant.0 in
     let p = part x at _ c.line_end-next.ensures in
-    omega (arith, bytes-length x at c.loop-at-test.true, ap (λ (l : List ℕ). length (line_bytes l)) p)
+    let all = all_bytes front x at c.loop-at-test.true in
+    let out = c.loop-at.out in
+    omega (
+      arith,
+      ap (λ (l : List ℕ). length (line_bytes l)) p,
+      c.loop-at.invariant.1,
+      ap length (sym c.loop-at.invariant.3 ∙ all),
+      length-append (front ++ mine x at) (rest x at),
+      length-append front (mine x at),
+      ap length (rest-whole c.loop-at.to out),
+      length-drop c.loop-at.to out,
+    )
 
 pub loop-at-smaller : goal.loop-at-smaller
 loop-at-smaller c =
@@ -65,31 +79,27 @@ pub loop-at-preserved : goal.loop-at-preserved
 loop-at-preserved c =
     let x = c.args.text.now in
     let loop = c.loop-at in
+    let front = loop.invariant.0 in
     let call = c.decode_line-to in
     let onward = c.line_end-next.ensures in
-    let p = part x loop.at _ onward in
-    let placed : call.result ≡ loop.to + length (mine x loop.at) =
-    call.ensures.0 ∙ ap (λ (l : List ℕ). loop.to + length (line_bytes l)) p in
-    let written : call.new.out ≡ sets loop.out loop.to (mine x loop.at) =
-    call.ensures.1 ∙ ap (λ (l : List ℕ). sets loop.out loop.to (line_bytes l)) p in
-    let left : block_of (lines_of (drop c.line_end-next.result x)) ≡ rest x loop.at =
-    ap (λ (k : ℕ). block_of (lines_of (drop k x))) onward in (
-      call.auto.out ∙ loop.invariant.0,
-      omega (arith, placed, bytes-length x loop.at c.loop-at-test.true, ap length left),
-      ap (sets call.new.out call.result) left
-          ∙ sets_behind loop.out loop.to (mine x loop.at) (rest x loop.at) written placed refl
-          ∙ ap (sets loop.out loop.to) (sym (block-from x loop.at c.loop-at-test.true))
-          ∙ loop.invariant.2,
+    let p = ap line_bytes (part x loop.at _ onward) in
+    let bytes = ap length p in
+    let written = call.ensures.1 ∙ ap (λ (l : List ℕ). at_front l (take (length loop.out - loop.to) (drop loop.to loop.out))) p in
+    let left = ap (λ (k : ℕ). (front ++ mine x loop.at) ++ block_of (lines_of (drop k x))) onward in (
+      front ++ mine x loop.at,
+      omega (arith, call.ensures.0, bytes, loop.invariant.1, length-append front (mine x loop.at)),
+      front-behind front (mine x loop.at) c.args.out.now loop.invariant.1 loop.invariant.2 refl written,
+      left ∙ sym (all_bytes front x loop.at c.loop-at-test.true) ∙ loop.invariant.3,
     )
-
-pub shape_of-out : goal.shape_of-out
-shape_of-out c = c.loop-at.invariant.0
 
 pub returns : goal.returns
 returns c =
     let loop = c.loop-at in
-    let none = block-end c.args.text.now loop.at c.loop-at-test.false in (
-      omega (arith, ap length none),
-      ap (sets loop.out loop.to) (sym none) ∙ loop.invariant.2
-          ∙ sets-front c.args.out.now (block_of (lines_of c.args.text.now)) c.requires,
+    let front = loop.invariant.0 in
+    let all =
+    sym (append-nil front)
+    ∙ ap (λ (l : List ℕ). front ++ l) (sym (block-end c.args.text.now loop.at c.loop-at-test.false))
+    ∙ loop.invariant.3 in (
+      loop.invariant.1 ∙ ap length all,
+      loop.invariant.2 ∙ ap (λ (l : List ℕ). at_front l c.args.out.now) all,
     )

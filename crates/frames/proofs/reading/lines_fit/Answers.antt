@@ -1,21 +1,21 @@
 -- `frames::reading::lines_fit` meets its contract.
-use mathlib.Core.Path.{◌≡◌, refl, sym, ap, ap₂, ◌∙◌}
-use mathlib.Core.Bool.{Bool, ◌&&◌}
+use mathlib.Core.Path.{◌≡◌, refl, sym, ap₂, ◌∙◌}
+use mathlib.Core.Logic.{⊎_elim}
+use mathlib.Core.Bool.{Bool, false, ◌&&◌}
 use mathlib.Core.List.{List}
 use Prim.Native.Nat.{ℕ, suc, ◌+◌, ◌-◌, ◌/◌, ◌<◌}
 use native.Mathlib.Omega.{arith}
 use native.Mathlib.Numerals.{add-one}
-use lib.Dec.{ltb, eqb}
+use lib.Dec.{ltb, leb, eqb}
 use lib.ListN.{length, drop}
-use borrow.Author.Rules.{rules}
-use borrow.Author.Tests.{lt-ltb, le-ltb, eq-eqb, ne_eqb}
+use borrow.Author.Tests.{lt-ltb, le-ltb, lt-leb, le-leb, eq-eqb, ne_eqb}
+use Rattle.basics.proofs.Comparing.{below?}
 use Rattle.basics.proofs.Truth.{and-right-false}
 use Rattle.blocks.specs.Layout.{frame_count, frame_length}
 use Rattle.frames.specs.Lines.{lines_of, line_bytes}
 use Rattle.frames.specs.Places.{line_from}
 use Rattle.frames.specs.Reading.{lines_fit}
 use Rattle.frames.proofs.PairLaws.{half_length}
-use Rattle.frames.proofs.LineLaws.{line-some}
 use Rattle.frames.proofs.ReadingLaws.{behind, fit-from, fit-end}
 use Rattle.frames.proofs.reading.lines_fit.Goals as goal
 
@@ -36,56 +36,49 @@ module _ (head : List ℕ) (i : ℕ) (x : List ℕ) (at : ℕ) where
       → lines_fit head i (lines_of (drop at x)) ≡ tested few fits
   turn l few fits p q = fit-from x at l head i ∙ ap₂ tested p q
 
-pub loop-at-init : goal.loop-at-init
-loop-at-init c = (search rules, refl)
-
-pub returns-then-count-i : goal.returns-then-count-i
-returns-then-count-i c =
-    let head = c.args.head.now in
-    let loop = c.loop-at in
-    let none = le-ltb loop.i (frame_count head) (omega arith) in
-    sym (sym loop.invariant.1 ∙ turn head loop.i c.args.text.now loop.at c.loop-at-test.true _ _ none refl)
-
-pub overflow_sub-next : goal.overflow_sub-next
-overflow_sub-next c = omega (arith, c.line_end-next.ensures)
+  -- no frame is left
+  settled : i ≡ frame_count head → leb (length x) at ≡ lines_fit head i (lines_of (drop at x))
+  settled e =
+      ⊎_elim
+      (λ l. lt-leb (length x) at l ∙ sym (turn l false _ (le-ltb i (frame_count head) (omega arith)) refl))
+      (λ l. le-leb (length x) at l ∙ sym (fit-end x at l head i ∙ eq-eqb i (frame_count head) e)) (below? at (length x))
 
 pub returns-then-next-at : goal.returns-then-next-at
 returns-then-next-at c =
     let head = c.args.head.now in
     let x = c.args.text.now in
-    let loop = c.loop-at in
+    let loop = c.loop-i in
     let count = counted x loop.at _ c.line_end-next.ensures in
     let wrong =
     ne_eqb (many x loop.at) (frame_length head loop.i)
     (λ e. c.if-next-at.true (count ∙ e ∙ sym c.frame_length.ensures)) in
     sym
-    (sym loop.invariant.1
-    ∙ turn head loop.i x loop.at c.loop-at-test.true _ _ refl wrong
+    (sym loop.invariant
+    ∙ turn head loop.i x loop.at c.if-text-at.false _ _ refl wrong
     ∙ and-right-false (ltb loop.i (frame_count head)) _ refl)
 
-pub loop-at-smaller : goal.loop-at-smaller
-loop-at-smaller c =
-    omega (arith, c.line_end-next.ensures, line-some c.args.text.now c.loop-at.at c.loop-at-test.true)
-
-pub loop-at-preserved : goal.loop-at-preserved
-loop-at-preserved c =
+pub loop-i-preserved : goal.loop-i-preserved
+loop-i-preserved c =
     let head = c.args.head.now in
     let x = c.args.text.now in
-    let loop = c.loop-at in
+    let loop = c.loop-i in
     let onward = c.line_end-next.ensures in
     let few = lt-ltb loop.i (frame_count head) (omega arith) in
-    let count = counted x loop.at _ onward in
     let fits =
     eq-eqb (many x loop.at) (frame_length head loop.i)
-    (sym count ∙ c.if-next-at.false ∙ c.frame_length.ensures) in (
-      search rules,
-      ap₂ (λ (j k : ℕ). lines_fit head j (lines_of (drop k x))) (add-one loop.i) onward
-          ∙ sym (turn head loop.i x loop.at c.loop-at-test.true _ _ few fits)
-          ∙ loop.invariant.1,
-    )
+    (sym (counted x loop.at _ onward) ∙ c.if-next-at.false ∙ c.frame_length.ensures) in
+    ap₂ (λ (j k : ℕ). lines_fit head j (lines_of (drop k x))) (add-one loop.i) onward
+    ∙ sym (turn head loop.i x loop.at c.if-text-at.false _ _ few fits)
+    ∙ loop.invariant
+
+pub returns-then-text-at : goal.returns-then-text-at
+returns-then-text-at c =
+    let loop = c.loop-i in
+    let ended = fit-end c.args.text.now loop.at c.if-text-at.true c.args.head.now loop.i in
+    let missing = ne_eqb loop.i (frame_count c.args.head.now) (λ e. absurd (omega arith)) in
+    sym (sym loop.invariant ∙ ended ∙ missing)
 
 pub returns : goal.returns
 returns c =
-    let loop = c.loop-at in
-    let ended = fit-end c.args.text.now loop.at c.loop-at-test.false c.args.head.now loop.i in
-    ap (eqb loop.i) c.frame_count-count.ensures.0 ∙ sym (sym loop.invariant.1 ∙ ended)
+    let loop = c.loop-i in
+    settled c.args.head.now loop.i c.args.text.now loop.at (omega arith) ∙ loop.invariant

@@ -1,10 +1,11 @@
 -- `frames::reading::read_text` meets its contract.
 -- Refused with the buffer as it was, first by the frames and then by the content, or the block at its front.
 use mathlib.Core.Path.{◌≡◌, sym, ap, ap₂, ◌∙◌, subst}
-use mathlib.Core.List.{List}
+use mathlib.Core.List.{List, ◌++◌}
 use Prim.Native.Nat.{ℕ, ◌≤◌}
 use native.Mathlib.Omega.{arith}
-use lib.ListN.{length, take, replicate}
+use lib.ListN.{length, take, drop, replicate}
+use lib.Seq.{length-take-le}
 use Rattle.basics.specs.Lists.{at_front}
 use Rattle.basics.proofs.Lists.{front-taken}
 use Rattle.refusals.specs.Answers.{Answer, refused, told, verdict, Outcome, outcome, guarded}
@@ -14,6 +15,7 @@ use Rattle.blocks.proofs.Offsets.{block-short}
 use Rattle.frames.specs.Lines.{lines_of}
 use Rattle.frames.specs.Reading.{block_of, frame_conditions, read_conditions, read_exercise}
 use Rattle.frames.proofs.AcceptedText.{FramesAccepted, frames-accepted, block-length, block-sized}
+use Rattle.std.proofs.lemmas.Result.{err_from_is_err_and}
 use Rattle.frames.proofs.reading.read_text.Goals as goal
 
 -- the block of a text, and the verdicts for a buffer
@@ -77,34 +79,58 @@ module _ (x out : List ℕ) where
           ap₂ (λ (k : ℕ) (b : List ℕ). outcome (told k) b) len (e ∙ ap (λ (b : List ℕ). at_front b out) part)
           ∙ by-verdict (told tt) (content (told tt) h)
 
-pub returns-in-Refused : goal.returns-in-Refused
-returns-in-Refused c = frames-refuse c.args.text.now c.args.out.now _ c.in-Refused.ensures
+pub returns-in_err-check_lines : goal.returns-in_err-check_lines
+returns-in_err-check_lines c =
+    let p = err_from_is_err_and c.from_residual.result c.from_residual.ensures.1 in
+    rw (p.1, p.2) (frames-refuse c.args.text.now c.args.out.now _ c.in_err-check_lines.ensures)
 
 pub decode_lines-length-requires : goal.decode_lines-length-requires
-decode_lines-length-requires c = omega (arith, short c.args.text.now c.args.out.now c.in_default.ensures)
+decode_lines-length-requires c = omega (arith, short c.args.text.now c.args.out.now c.in_ok-check_lines.ensures)
 
-pub check_content-content-requires : goal.check_content-content-requires
-check_content-content-requires c =
+pub check_content-requires : goal.check_content-requires
+check_content-requires c =
     let e = c.decode_lines-length.ensures in
-    sized c.args.text.now c.args.out.now c.in_default.ensures _ e.0 _ e.1
+    sized c.args.text.now c.args.out.now c.in_ok-check_lines.ensures _ e.0 _ e.1
 
-pub returns-in-Refused-content : goal.returns-in-Refused-content
-returns-in-Refused-content c =
+pub returns-in_err-check_content : goal.returns-in_err-check_content
+returns-in_err-check_content c =
     let x = c.args.text.now in
     let out = c.args.out.now in
     let e = c.decode_lines-length.ensures in
-    by-verdict x out _ (content x out c.in_default.ensures _ e.0 _ e.1 _ c.in-Refused-content.ensures)
+    let r = c.from_residual-in_err-check_content in
+    let p = err_from_is_err_and r.result r.ensures.1 in
+    rw
+    (p.1, p.2)
+    (by-verdict x out _ (content x out c.in_ok-check_lines.ensures _ e.0 _ e.1 _ c.in_err-check_content.ensures))
 
-pub copy-requires : goal.copy-requires
-copy-requires c =
+pub slice_bounds-copy_from_slice-end : goal.slice_bounds-copy_from_slice-end
+slice_bounds-copy_from_slice-end c =
+    omega (arith, c.decode_lines-length.ensures.0, fits c.args.text.now c.args.out.now c.in_ok-check_lines.ensures)
+
+pub slice_bounds-copy_from_slice-end-2 : goal.slice_bounds-copy_from_slice-end-2
+slice_bounds-copy_from_slice-end-2 c =
+    let n = c.decode_lines-length.ensures.0 in
+    let l = fits c.args.text.now c.args.out.now c.in_ok-check_lines.ensures in
+    sym (length-take-le c.decode_lines-length.result c.args.out.now (omega (arith, n, l)))
+
+pub copy_from_slice-requires : goal.copy_from_slice-requires
+copy_from_slice-requires c =
     let x = c.args.text.now in
     let out = c.args.out.now in
-    let n = c.decode_lines-length.ensures.0 in (
-      omega (arith, n, short x out c.in_default.ensures),
-      omega (arith, n, fits x out c.in_default.ensures),
-    )
+    let e = c.decode_lines-length.ensures in
+    let l = fits x out c.in_ok-check_lines.ensures in
+    length-take-le c.decode_lines-length.result out (omega (arith, e.0, l))
+    ∙ e.0
+    ∙ sym (ap length (part x out c.in_ok-check_lines.ensures _ e.0 _ e.1))
 
 pub returns : goal.returns
 returns c =
+    let x = c.args.text.now in
+    let out = c.args.out.now in
+    let n = c.decode_lines-length.result in
     let e = c.decode_lines-length.ensures in
-    read c.args.text.now c.args.out.now c.in_default.ensures _ e.0 _ e.1 _ c.in_default-content.ensures c.copy.ensures
+    let framed = c.in_ok-check_lines.ensures in
+    let long = e.0 ∙ sym (ap length (part x out framed n e.0 _ e.1)) in
+    let copied =
+    ap₂ (λ (l : List ℕ) (k : ℕ). l ++ drop k out) c.copy_from_slice.ensures.after long in
+    read x out framed n e.0 _ e.1 _ c.in_ok-check_content.ensures copied
