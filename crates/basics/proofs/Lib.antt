@@ -3,6 +3,7 @@
 pub mod Truth
 pub mod Bounded
 pub mod Found
+pub mod Chains
 pub mod Lists
 pub mod Placing
 pub mod Sums
