@@ -1,4 +1,4 @@
--- What reading an exercise promises, from the value that it gives: `reading-kept`.
+-- What reading an exercise promises, from the value that it gives: `reading_kept`.
 -- The proof of the call rests on this for the second part of its contract.
 use mathlib.Core.Path.{◌≡◌, refl, sym, subst}
 use mathlib.Core.List.{List}
@@ -24,6 +24,6 @@ module _ (x out : List ℕ) where
       let b = block_of (lines_of x) in
       rw (front-taken b out (length b) refl) (refl, read-valid (lines_of x) (length out) h)
 
-  pub reading-kept : {a : Answer ℕ} {out' : List ℕ} → outcome a out' ≡ read_exercise x out → ReadingKept a out'
+  pub reading_kept : {a : Answer ℕ} {out' : List ℕ} → outcome a out' ≡ read_exercise x out → ReadingKept a out'
   unfolding read_exercise
-  reading-kept e = subst (λ (o : Outcome ℕ). ReadingKept o.answer o.out) (sym e) (read_by _ refl)
+  reading_kept e = subst (λ (o : Outcome ℕ). ReadingKept o.answer o.out) (sym e) (read_by _ refl)

@@ -3,5 +3,4 @@
 
 mod reading;
 
-pub use frames::Reading;
 pub use reading::read_exercise;
