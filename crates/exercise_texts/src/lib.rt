@@ -1,31 +1,35 @@
 // The exercises of an input, for programs that try many of them: texts with an empty line behind each.
 #![tactic(auto)]
 
-ghost use Rattle.std.specs.Prelude.{◌≤◌, length};
+ghost use Rattle.std.specs.Prelude.{◌≡◌, ◌+◌, length, take, drop, MatchOption};
+ghost use Rattle.std.specs.Iterator.{at_most};
 
-const LINE_FEED: u8 = 10;
-
-// Where the text at a place ends: behind the first of two line feeds in a row, or where the input ends.
-pub fn text_end(input: &[u8], from: usize) -> usize
-    requires { from ≤ length input.now }
-    ensures { (from ≤ result) × (result ≤ length input.now) }
-{
-    let mut at = from;
-    while at + 1 < input.len() {
-        if input[at] == LINE_FEED {
-            if input[at + 1] == LINE_FEED {
-                return at + 1;
-            }
-        }
-        at += 1;
-    }
-    input.len()
+// The texts of an input that are still to come.
+#[derive(Drop)]
+pub struct Texts<'a> {
+    pub rest: &'a [u8],
 }
 
-// The front of a buffer, or all of it where that is shorter.
-pub fn front(buffer: &[u8], length: usize) -> &[u8] {
-    if length <= buffer.len() {
-        return &buffer[..length];
+impl<'a> Iterator for Texts<'a> {
+    type Item = &'a [u8];
+
+    ghost next_gives = { λ s r t. MatchOption r (length s.rest.now ≡ 0)
+        (λ text. (text.now ≡ take (length text.now) s.rest.now)
+        × (t.rest.now ≡ drop (length text.now + 1) s.rest.now)) };
+
+    ghost remaining = { λ s. at_most (length s.rest.now) };
+
+    // A text ends behind the first of two line feeds in a row, or where the input ends.
+    fn next(&mut self) -> Option<&'a [u8]> {
+        if self.rest.is_empty() {
+            return None;
+        }
+        let rest = self.rest;
+        let end = match rest.windows(2).position(|pair| pair == b"\n\n".as_slice()) {
+            Some(i) => i + 1,
+            None => rest.len(),
+        };
+        self.rest = rest.get(end + 1..).unwrap_or(&[]);
+        Some(&rest[..end])
     }
-    buffer
 }

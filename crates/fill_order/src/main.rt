@@ -4,17 +4,21 @@
 #![tactic(auto)]
 
 mod fills;
-mod texts;
 
+use exercise_texts::Texts;
 use inputs::read_full;
 use std::io;
 
 // Room for all exercises that are tried.
 const INPUT_ROOM: usize = 65536;
 
+// Prints how the exercises of the input were filled, a line for each.
 fn main(rt: HostRuntime) -> io::Result<()> {
     let mut input = [0u8; INPUT_ROOM];
     let received = read_full(&mut rt.stdin(), &mut input);
     received.outcome?;
-    texts::print_fills(&rt, &input[..received.read])
+    for text in (Texts { rest: &input[..received.read] }) {
+        fills::print_fill(&rt, text)?;
+    }
+    Ok(())
 }
