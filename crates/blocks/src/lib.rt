@@ -1,6 +1,7 @@
 // The exercise block: labels and terms, the layout and its accessors, validity, states.
 #![tactic(auto)]
 
+pub mod exercise;
 pub mod labels;
 pub mod layout;
 pub mod remapping;
