@@ -2,10 +2,11 @@
 -- to s settles the answer (`candidate-settles`). The least labels make one for 'first' (`completed-candidate`), the
 -- earlier state raised at its last possible position the next (`raised-candidate`); where no position can be raised
 -- there is none further (`no-candidate`). As the code finds a rule: `first-settles`, `next-settles`, `next-none`.
+use Rattle.std.specs.Prelude.{Some, None}
 use mathlib.Core.Path.{◌≡◌, refl, sym, ap, ap₂, ◌∙◌, subst}
 use mathlib.Core.Bool.{Bool, true, false, cond}
 use mathlib.Core.List.{List}
-use Prim.Native.Nat.{ℕ, suc, ◌≤◌, ◌<◌}
+use Prim.Native.Nat.{ℕ, ◌≤◌, ◌<◌}
 use native.Mathlib.Omega.{arith}
 use lib.ListN.{length, get_or}
 use Rattle.basics.specs.Bounded.{last}
@@ -18,8 +19,7 @@ use Rattle.blocks.proofs.StateLaws.{labelled-intro, state-length, state-label}
 use Rattle.psvn.specs.Rules.{leads}
 use Rattle.psvn.specs.Ranks.{state_rank}
 use Rattle.psvn.proofs.RankLaws.{before-state-rank, state-rank-before}
-use Rattle.backward.specs.Choices.{choice, choices_at, least_of, raisable_at, Completed, Raised}
-use Rattle.backward.specs.declared.choices.Choice.{Choice}
+use Rattle.backward.specs.Choices.{Choice, choice, choices_at, least_of, raisable_at, Completed, Raised}
 use Rattle.backward.specs.Predecessors.{Earlier, from_first, after, from_rank, found, none_further, step_back}
 use Rattle.backward.specs.Predecessors.{settled}
 use Rattle.backward.proofs.Leading.{leads_by_lem}
@@ -104,7 +104,7 @@ module _ (b : List ℕ) (va : Valid b) (r : ℕ) (lr : r < rules b) (s : List �
   module _ (e : List ℕ) (eo : state_ok b e ≡ true) where
     pub raised-candidate :
         (u : List ℕ) (i : ℕ) → length u ≡ positions b → last (positions b) (raisable_at (label_count b) choices e)
-        ≡ suc i
+        ≡ Some i
         → Raised choices (positions b) i e u → Candidate (after e) u
     raised-candidate u i lu h t =
         let n = positions b in
@@ -125,7 +125,7 @@ module _ (b : List ℕ) (va : Valid b) (r : ℕ) (lr : r < rules b) (s : List �
         }
 
     pub no-candidate :
-        last (positions b) (raisable_at (label_count b) choices e) ≡ 0 → step_back b r s (after e) ≡ none_further
+        last (positions b) (raisable_at (label_count b) choices e) ≡ None → step_back b r s (after e) ≡ none_further
     no-candidate h =
         let n = positions b in
         none_found b va.sized.headed r s (after e) (λ v vo k a.
@@ -159,7 +159,7 @@ module _ (b : List ℕ) (va : Valid b) (r : ℕ) (lr : r < rules b) (s : List �
     module _ (e : List ℕ) (eo : state_ok b e ≡ true) where
       pub next-settles :
           (u : List ℕ) (i : ℕ) → length u ≡ length s
-          → last (length s) (raisable_at (label_count b) found-choices e) ≡ suc i
+          → last (length s) (raisable_at (label_count b) found-choices e) ≡ Some i
           → Raised found-choices (length s) i e u → step_back b r s (after e) ≡ settled b r s u
       next-settles u i lu h t =
           candidate-settles (after e) u
@@ -170,7 +170,8 @@ module _ (b : List ℕ) (va : Valid b) (r : ℕ) (lr : r < rules b) (s : List �
           (subst (λ (w : List ℕ → ℕ → Choice). Raised w (length s) i e u) same-choices t)))
 
       pub next-none :
-          last (length s) (raisable_at (label_count b) found-choices e) ≡ 0 → step_back b r s (after e) ≡ none_further
+          last (length s) (raisable_at (label_count b) found-choices e) ≡ None
+          → step_back b r s (after e) ≡ none_further
       next-none h =
           no-candidate e eo
           (sym (ap₂ (λ (w : List ℕ → ℕ → Choice) (n : ℕ). last n (raisable_at (label_count b) w e)) same-choices long)

@@ -16,7 +16,7 @@ use Rattle.blocks.proofs.TermCases.{View, label, variable, dash, refused, view, 
 use Rattle.blocks.proofs.TermCases.{is-refused, dash-byte}
 use Rattle.backward.specs.Reversible.{shows}
 use Rattle.backward.specs.Choices.{only, variable_choice, term_choice, choice}
-use Rattle.backward.specs.declared.choices.Choice.TheVariants.{Any}
+use Rattle.std.proofs.Common.{None}
 use Rattle.backward.proofs.Choosing.{Near}
 
 -- position i: its right term is a dash; or its left term is a constant, a variable that the new state shows, one that
@@ -76,7 +76,7 @@ module _ (n : ℕ) (left right : ℕ → ℕ) (s u : List ℕ) (i : ℕ) where
 
     pub variable-new :
         (j : ℕ) → j ≡ first n (shows left right v) → n ≤ j → (k : ℕ) → k ≡ first n (λ j. eqb (left j) v) → i ≤ k
-        → variable_choice n left right s u i v ≡ Any
+        → variable_choice n left right s u i v ≡ None
     variable-new j e l k f m = rw (← e, ← f) (rw (le-ltb j n l, le-ltb k i m))
 
   -- the cases
@@ -109,13 +109,13 @@ module _ (n : ℕ) (left right : ℕ → ℕ) (s u : List ℕ) (i : ℕ) where
             → choice n left right s u i ≡ only (get_or u (first n (λ j. eqb (left j) (left i))) 0)
         choice-again l = choice-variable ∙ variable-again (left i) _ refl nowhere _ refl l
 
-        pub choice-new : i ≤ first n (λ j. eqb (left j) (left i)) → choice n left right s u i ≡ Any
+        pub choice-new : i ≤ first n (λ j. eqb (left j) (left i)) → choice n left right s u i ≡ None
         choice-new l = choice-variable ∙ variable-new (left i) _ refl nowhere _ refl l
 
-    pub choice-other : 32 ≤ left i → choice n left right s u i ≡ Any
+    pub choice-other : 32 ≤ left i → choice n left right s u i ≡ None
     choice-other a = no-dash ∙ go (view (left i))
       where
-        go : View (left i) → term_choice n left right s u i (term_of (left i)) ≡ Any
+        go : View (left i) → term_choice n left right s u i (term_of (left i)) ≡ None
         go (label b) = absurd (omega arith)
         go (variable b c) = absurd (omega arith)
         go (dash e) = ap (term_choice n left right s u i) (is_dash_lem (left i) e)

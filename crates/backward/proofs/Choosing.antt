@@ -5,8 +5,7 @@ use mathlib.Core.Bool.{true}
 use mathlib.Core.List.{List}
 use Prim.Native.Nat.{ℕ, ◌<◌}
 use lib.ListN.{get_or}
-use Rattle.backward.specs.Choices.{keeps_of}
-use Rattle.backward.specs.declared.choices.Choice.{Choice}
+use Rattle.backward.specs.Choices.{Choice, keeps_of}
 
 -- u keeps to the choices at each of the n positions
 abbrev pub Keeps : ℕ → (List ℕ → ℕ → Choice) → List ℕ → Type 0

@@ -1,4 +1,5 @@
 -- One turn of the loops of `complete` and `pivot`. The proofs of these two functions rest on it.
+use Rattle.std.specs.Prelude.{Option, Some}
 use mathlib.Core.Path.{◌≡◌, refl, sym, ap, ◌∙◌, subst}
 use mathlib.Core.Bool.{Bool, true, false, ◌&&◌}
 use mathlib.Core.List.{List}
@@ -10,8 +11,7 @@ use lib.Seq.{get_or-set_same, get_or-set_other}
 use borrow.Author.Count.{below_more}
 use Rattle.basics.specs.Bounded.{last}
 use Rattle.basics.proofs.Bounded.{all-false, last-past}
-use Rattle.backward.specs.Choices.{least_of, rises_of, keeps_of, kept_to, raisable_at}
-use Rattle.backward.specs.declared.choices.Choice.{Choice}
+use Rattle.backward.specs.Choices.{Choice, least_of, rises_of, keeps_of, kept_to, raisable_at}
 use Rattle.backward.proofs.Choosing.{Near}
 
 -- the least label set at position i
@@ -40,11 +40,12 @@ module _
 module _ (count : ℕ → ℕ) (choices : List ℕ → ℕ → Choice) (e : List ℕ) (i : ℕ) where
   pub rises-last :
       kept_to choices e i ≡ true → rises_of (count i) (choices e i) (get_or e i 0) ≡ true
-      → i + 1 ≡ last (i + 1) (raisable_at count choices e)
+      → Some i ≡ last (i + 1) (raisable_at count choices e)
   rises-last a r = rw (add-one i, a, r)
 
   pub stays-last :
-      (best : ℕ) → rises_of (count i) (choices e i) (get_or e i 0) ≡ false → best ≡ last i (raisable_at count choices e)
+      (best : Option ℕ) → rises_of (count i) (choices e i) (get_or e i 0) ≡ false
+      → best ≡ last i (raisable_at count choices e)
       → best ≡ last (i + 1) (raisable_at count choices e)
   stays-last best r h =
       h ∙ go (kept_to choices e i) refl ∙ ap (λ (m : ℕ). last m (raisable_at count choices e)) (sym (add-one i))

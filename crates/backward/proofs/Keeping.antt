@@ -24,9 +24,8 @@ use Rattle.psvn.specs.Meaning.{Matched}
 use Rattle.psvn.proofs.MatchingLaws.{matched}
 use Rattle.psvn.proofs.Stepping.{count-alike}
 use Rattle.backward.specs.Reversible.{shows}
-use Rattle.backward.specs.Choices.{only, choice, least_of, keeps_of}
-use Rattle.backward.specs.declared.choices.Choice.{Choice}
-use Rattle.backward.specs.declared.choices.Choice.TheVariants.{Any}
+use Rattle.backward.specs.Choices.{Choice, only, choice, least_of, keeps_of}
+use Rattle.std.proofs.Common.{None}
 use Rattle.backward.proofs.Choosing.{Keeps}
 use Rattle.backward.proofs.Leading.{leads_by, leads-matches, made, making}
 use Rattle.backward.proofs.ChoiceCases.{Case, kept, constant, shown, again, new, other, case, choice-dash}
@@ -35,7 +34,7 @@ use Rattle.backward.proofs.ChoiceCases.{choice-label, choice-shown, choice-again
 keeps-only : {w : Choice} (y x : ℕ) → w ≡ only y → x ≡ y → keeps_of w x ≡ true
 keeps-only y x e h = rw e (eq-eqb x y h)
 
-keeps-any : {w : Choice} (x : ℕ) → w ≡ Any → keeps_of w x ≡ true
+keeps-any : {w : Choice} (x : ℕ) → w ≡ None → keeps_of w x ≡ true
 keeps-any x e = rw e
 
 only_keeps : {w : Choice} (y x : ℕ) → w ≡ only y → keeps_of w x ≡ true → x ≡ y
@@ -247,7 +246,7 @@ module _
   below-only : {w : Choice} (y i : ℕ) → w ≡ only y → y < count i → least_of w < count i
   below-only y i e h = rw e h
 
-  below-any : {w : Choice} (i : ℕ) → w ≡ Any → least_of w < count i
+  below-any : {w : Choice} (i : ℕ) → w ≡ None → least_of w < count i
   below-any i e = rw e (proper.some_label i)
 
   pub choice-below :

@@ -13,43 +13,43 @@ use lib.Dec.{ltb}
 use lib.ListN.{get_or}
 use borrow.Author.Tests.{eqb-true, ltb-true, ltb-false, lt-ltb, eq-eqb}
 use Rattle.basics.specs.Bounded.{last}
-use Rattle.basics.proofs.Truth.{and-true, and_intro}
-use Rattle.basics.proofs.Bounded.{all-at, all-intro, last-above, last-holds}
+use Rattle.basics.proofs.Truth.{true-false, and-true, and_intro}
+use Rattle.basics.proofs.Bounded.{all-at, all-intro, last-above, last-none, last-holds}
 use Rattle.basics.proofs.Order.{Before}
 use Rattle.basics.proofs.Comparing.{trichotomy}
-use Rattle.backward.specs.Choices.{least_of, raised_of, rises_of, keeps_of, kept_to, raisable_at, Completed, Raised}
-use Rattle.backward.specs.declared.choices.Choice.{Choice}
-use Rattle.backward.specs.declared.choices.Choice.TheVariants.{Only, Any}
+use Rattle.backward.specs.Choices.{Choice, least_of, raised_of, rises_of, keeps_of, kept_to, raisable_at}
+use Rattle.backward.specs.Choices.{Completed, Raised}
+use Rattle.std.proofs.Common.{Some, None}
 use Rattle.backward.proofs.Choosing.{Keeps, Near}
 
 -- one choice
 least-keeps : (w : Choice) → keeps_of w (least_of w) ≡ true
-least-keeps (Only label) = eq-eqb label.0 label.0 refl
-least-keeps Any = refl
+least-keeps (Some label) = eq-eqb label.0 label.0 refl
+least-keeps None = refl
 
 least-least : (w : Choice) (z : ℕ) → keeps_of w z ≡ true → least_of w ≤ z
-least-least (Only label) z h = let e : z ≡ label.0 = eqb-true _ _ h in omega arith
-least-least Any z h = omega arith
+least-least (Some label) z h = let e : z ≡ label.0 = eqb-true _ _ h in omega arith
+least-least None z h = omega arith
 
 raised-kept : (w : Choice) (x : ℕ) → keeps_of w (raised_of w x) ≡ true
-raised-kept (Only label) x = eq-eqb label.0 label.0 refl
-raised-kept Any x = refl
+raised-kept (Some label) x = eq-eqb label.0 label.0 refl
+raised-kept None x = refl
 
 raised-higher : (count : ℕ) (w : Choice) (x : ℕ) → rises_of count w x ≡ true → x < raised_of w x
-raised-higher count (Only label) x h = ltb-true _ _ h
-raised-higher count Any x h = omega arith
+raised-higher count (Some label) x h = ltb-true _ _ h
+raised-higher count None x h = omega arith
 
 raised-small : (count : ℕ) (w : Choice) (x : ℕ) → rises_of count w x ≡ true → least_of w < count → raised_of w x < count
-raised-small count (Only label) x h l = l
-raised-small count Any x h l = ltb-true _ _ h
+raised-small count (Some label) x h l = l
+raised-small count None x h l = ltb-true _ _ h
 
 raised-lowest : (w : Choice) (x z : ℕ) → keeps_of w z ≡ true → x < z → raised_of w x ≤ z
-raised-lowest (Only label) x z h l = let e : z ≡ label.0 = eqb-true _ _ h in omega arith
-raised-lowest Any x z h l = omega arith
+raised-lowest (Some label) x z h l = let e : z ≡ label.0 = eqb-true _ _ h in omega arith
+raised-lowest None x z h l = omega arith
 
 rises-to : (count : ℕ) (w : Choice) (x z : ℕ) → keeps_of w z ≡ true → x < z → z < count → rises_of count w x ≡ true
-rises-to count (Only label) x z h l b = let e : z ≡ label.0 = eqb-true _ _ h in lt-ltb x label.0 (omega arith)
-rises-to count Any x z h l b = lt-ltb (x + 1) count (omega arith)
+rises-to count (Some label) x z h l b = let e : z ≡ label.0 = eqb-true _ _ h in lt-ltb x label.0 (omega arith)
+rises-to count None x z h l b = lt-ltb (x + 1) count (omega arith)
 
 -- n positions with `count i` labels at position i, and a choice at each that goes by the labels before it
 module _
@@ -111,14 +111,12 @@ module _
         (rises-to (count b.place) (choices e b.place) (get_or e b.place 0) (get_or v b.place 0)
         (rw (near e v b.place b.agree) (kv b.place b.within)) b.lower (bv b.place b.within))
 
-    pub none_after : last n (raisable_at count choices e) ≡ 0 → ⊥
-    none_after h =
-        let x = last-above (raisable_at count choices e) n b.place b.within raisable-there in
-        omega arith
+    pub none_after : last n (raisable_at count choices e) ≡ None → ⊥
+    none_after h = true-false raisable-there (last-none (raisable_at count choices e) n b.place h b.within)
 
   -- e raised at the last position where that can be done
   module _
-      (e u : List ℕ) (i : ℕ) (be : Below e) (h : last n (raisable_at count choices e) ≡ suc i)
+      (e u : List ℕ) (i : ℕ) (be : Below e) (h : last n (raisable_at count choices e) ≡ Some i)
       (t : Raised choices n i e u) where
     within : i < n
     within = (last-holds (raisable_at count choices e) n i h).0
@@ -165,10 +163,8 @@ module _
 
     -- no list v that keeps to the choices lies between e and u: b says where e and v part, c where v and u do
     module _ (v : List ℕ) (kv : Keeps n choices v) (bv : Below v) (b : Before n e v) (c : Before n v u) where
-      reach : b.place < suc i
-      reach =
-          subst (λ (m : ℕ). b.place < m) h
-          (last-above (raisable_at count choices e) n b.place b.within (raisable-there e v kv bv b))
+      reach : b.place ≤ i
+      reach = last-above (raisable_at count choices e) n i b.place h b.within (raisable-there e v kv bv b)
 
       -- e and v part before position i
       early : b.place < i → (c.place < b.place) ⊎ ((c.place ≡ b.place) ⊎ (b.place < c.place)) → ⊥
@@ -207,4 +203,4 @@ module _
       pub raised-least : ⊥
       raised-least =
           ⊎_elim (λ q. late q (trichotomy c.place i)) (λ l. early l (trichotomy c.place b.place))
-          (eq-or-lt_of_le (le_of_suc-le-suc reach))
+          (eq-or-lt_of_le reach)

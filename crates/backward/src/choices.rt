@@ -1,135 +1,95 @@
-// What a state that a rule takes to a given one may hold at a position.
-ghost use Rattle.std.specs.Prelude.{◌≡◌, ◌+◌, ◌≤◌, ◌<◌, length};
-ghost use Rattle.basics.specs.Bounded.{first};
-ghost use Rattle.blocks.specs.Layout.{side_at};
-ghost use Rattle.backward.specs.Reversible.{shows};
+// What a state that a rule takes to a given one may hold at a position: the only label that may stand there, or none
+// where any may.
+ghost use Rattle.std.specs.Prelude.{◌≡◌, ◌<◌, length};
+ghost use Rattle.blocks.specs.Layout.{positions, rules, left_at, right_at, side_at};
+ghost use Rattle.blocks.specs.Validity.{Sized};
 ghost use Rattle.backward.specs.Choices.{variable_choice, choices_at, least_of, raised_of, rises_of, keeps_of};
 
-use basics::{and, first_of, wide};
+use super::sides::Sides;
+use basics::first_of;
 use blocks::labels::ConcreteLabel;
 use blocks::terms::{Term, decode, is_dash};
 
-// One label only, or any.
+// A rule stepped back: its sides, and the state that it takes others to.
 #[derive(Clone, Copy)]
-pub enum Choice {
-    Only(ConcreteLabel),
-    Any,
+pub struct Reversal<'a> {
+    pub sides: Sides<'a>,
+    pub state: &'a [u8],
+    ghost whole: { length state.now ≡ sides.n },
 }
 
-// Whether the new state shows the variable v at position j.
-fn shows(block: &[u8], left: usize, right: usize, v: u8, j: usize) -> bool
-    requires { (left + j < length block.now) × (right + j < length block.now) }
-    ensures { result ≡ shows (side_at block.now left) (side_at block.now right) v j }
-{
-    let byte = block[right + j];
-    if byte == v {
-        return true;
+impl<'a> Reversal<'a> {
+    // Rule r, stepped back from `state`.
+    pub fn of(block: &'a [u8], r: usize, state: &'a [u8]) -> Self
+        requires { Sized block.now × (r < rules block.now) × (length state.now ≡ positions block.now) }
+        ensures { (result.sides.block.now ≡ block.now) × (result.sides.left ≡ left_at block.now r) ×
+            (result.sides.right ≡ right_at block.now r) × (result.sides.n ≡ positions block.now) ×
+            (result.state.now ≡ state.now) }
+    {
+        let sides = Sides::of(block, r);
+        Reversal { sides, state }
     }
-    and(block[left + j] == v, is_dash(byte))
-}
 
-// The first of the n positions where the new state shows the variable v, or n.
-pub fn first_shown(block: &[u8], left: usize, right: usize, n: usize, v: u8) -> usize
-    requires { (left + n ≤ length block.now) × (right + n ≤ length block.now) }
-    ensures { result ≡ first n (shows (side_at block.now left) (side_at block.now right) v) }
-{
-    for j in 0..n {
-        if shows(block, left, right, v, j) {
-            return j;
+    // What position i may hold, where the variable v stands on the left.
+    fn variable_choice(&self, begun: &[u8], i: usize, v: u8) -> Option<ConcreteLabel>
+        requires { (length begun.now ≡ self.now.sides.n) × (i < self.now.sides.n) }
+        ensures { result ≡ variable_choice (length self.now.state.now)
+            (side_at self.now.sides.block.now self.now.sides.left)
+            (side_at self.now.sides.block.now self.now.sides.right) self.now.state.now begun.now i v }
+    {
+        let sides = &self.sides;
+        if let Some(shown) = sides.first_shown(v) {
+            return Some(ConcreteLabel(self.state[shown]));
+        }
+        match first_of(sides.block, sides.left, sides.n, v) {
+            Some(first) if first < i => Some(ConcreteLabel(begun[first])),
+            _ => None,
         }
     }
-    n
-}
 
-// What position i may hold, where the variable v stands on the left.
-fn variable_choice(
-    block: &[u8],
-    left: usize,
-    right: usize,
-    state: &[u8],
-    begun: &[u8],
-    i: usize,
-    v: u8,
-) -> Choice
-    requires { (left + length state.now ≤ length block.now) × (right + length state.now ≤ length block.now) ×
-        (length begun.now ≡ length state.now) × (i < length state.now) }
-    ensures { result ≡ variable_choice (length state.now) (side_at block.now left)
-        (side_at block.now right) state.now begun.now i v }
-{
-    let n = state.len();
-    let shown = first_shown(block, left, right, n, v);
-    if shown < n {
-        return Choice::Only(ConcreteLabel(state[shown]));
-    }
-    let first = first_of(block, left, n, v);
-    if first < i {
-        return Choice::Only(ConcreteLabel(begun[first]));
-    }
-    Choice::Any
-}
-
-// What position i may hold in a state that begins as `begun` does and that the rule takes to `state`.
-pub fn choice_at(
-    block: &[u8],
-    left: usize,
-    right: usize,
-    state: &[u8],
-    begun: &[u8],
-    i: usize,
-) -> Choice
-    requires { (left + length state.now ≤ length block.now) × (right + length state.now ≤ length block.now) ×
-        (length begun.now ≡ length state.now) × (i < length state.now) }
-    ensures { result ≡ choices_at block.now left right state.now begun.now i }
-{
-    if is_dash(block[right + i]) {
-        return Choice::Only(ConcreteLabel(state[i]));
-    }
-    let term = decode(block[left + i]);
-    match term {
-        Term::Label(label) => Choice::Only(label),
-        Term::Variable(v) => variable_choice(block, left, right, state, begun, i, v),
-        Term::Dash => Choice::Any,
-        Term::Refused => Choice::Any,
+    // What position i may hold in a state that begins as `begun` does and that the rule takes to `state`.
+    pub fn choice_at(&self, begun: &[u8], i: usize) -> Option<ConcreteLabel>
+        requires { (length begun.now ≡ self.now.sides.n) × (i < self.now.sides.n) }
+        ensures { result ≡ choices_at self.now.sides.block.now self.now.sides.left
+            self.now.sides.right self.now.state.now begun.now i }
+    {
+        let sides = &self.sides;
+        if is_dash(sides.block[sides.right + i]) {
+            return Some(ConcreteLabel(self.state[i]));
+        }
+        match decode(sides.block[sides.left + i]) {
+            Term::Label(label) => Some(label),
+            Term::Variable(v) => self.variable_choice(begun, i, v),
+            Term::Dash | Term::Refused => None,
+        }
     }
 }
 
 // The least label that may stand there.
-pub fn least(choice: Choice) -> u8
+pub fn least(choice: Option<ConcreteLabel>) -> u8
     ensures { result ≡ least_of choice }
 {
-    match choice {
-        Choice::Only(label) => label.0,
-        Choice::Any => 0,
-    }
+    choice.map_or(0, |label| label.0)
 }
 
 // The least label above x that may stand there.
-pub fn raised(choice: Choice, x: u8) -> u8
+pub fn raised(choice: Option<ConcreteLabel>, x: u8) -> u8
     requires { x < 255 }
     ensures { result ≡ raised_of choice x }
 {
-    match choice {
-        Choice::Only(label) => label.0,
-        Choice::Any => x + 1,
-    }
+    choice.map_or(x + 1, |label| label.0)
 }
 
 // Whether a label above x, below the count, may stand there.
-pub fn rises(count: usize, choice: Choice, x: u8) -> bool
+pub fn rises(count: usize, choice: Option<ConcreteLabel>, x: u8) -> bool
     ensures { result ≡ rises_of count choice x }
 {
-    match choice {
-        Choice::Only(label) => x < label.0,
-        Choice::Any => wide(x) + 1 < count,
-    }
+    choice.map_or(usize::from(x) + 1 < count, |label| x < label.0)
 }
 
 // Whether the label x may stand there.
-pub fn keeps(choice: Choice, x: u8) -> bool
+pub fn keeps(choice: Option<ConcreteLabel>, x: u8) -> bool
     ensures { result ≡ keeps_of choice x }
 {
-    match choice {
-        Choice::Only(label) => x == label.0,
-        Choice::Any => true,
-    }
+    choice.is_none_or(|label| x == label.0)
 }

@@ -4,3 +4,4 @@
 mod choices;
 pub mod predecessors;
 pub mod reversible;
+mod sides;

@@ -1,27 +1,25 @@
 // Reversible by form.
-ghost use Rattle.std.specs.Prelude.{◌≡◌, ◌+◌, ◌≤◌, ◌<◌, length};
+ghost use Rattle.std.specs.Prelude.{◌≡◌, ◌<◌};
 ghost use Rattle.blocks.specs.Layout.{rules, side_at};
 ghost use Rattle.blocks.specs.Validity.{Sized};
 ghost use Rattle.backward.specs.Reversible.{form_at, reversible};
 
-use super::choices::first_shown;
-use blocks::layout;
+use super::sides::Sides;
 use blocks::terms::{Term, decode, is_dash};
 
 // Whether the right term at position i is a dash, or the left term's label is not lost.
-fn form_at(block: &[u8], left: usize, right: usize, n: usize, i: usize) -> bool
-    requires { (left + n ≤ length block.now) × (right + n ≤ length block.now) × (i < n) }
-    ensures { result ≡ form_at n (side_at block.now left) (side_at block.now right) i }
+fn form_at(sides: &Sides, i: usize) -> bool
+    requires { i < sides.now.n }
+    ensures { result ≡ form_at sides.now.n (side_at sides.now.block.now sides.now.left)
+        (side_at sides.now.block.now sides.now.right) i }
 {
-    if is_dash(block[right + i]) {
+    if is_dash(sides.block[sides.right + i]) {
         return true;
     }
-    let term = decode(block[left + i]);
-    match term {
+    match decode(sides.block[sides.left + i]) {
         Term::Label(_) => true,
-        Term::Variable(v) => first_shown(block, left, right, n, v) < n,
-        Term::Dash => false,
-        Term::Refused => false,
+        Term::Variable(v) => sides.first_shown(v).is_some(),
+        Term::Dash | Term::Refused => false,
     }
 }
 
@@ -30,13 +28,6 @@ pub fn reversible(block: &[u8], r: usize) -> bool
     requires { Sized block.now × (r < rules block.now) }
     ensures { result ≡ reversible block.now r }
 {
-    let n = layout::positions(block);
-    let left = layout::left_at(block, r);
-    let right = layout::right_at(block, r);
-    for i in 0..n {
-        if !form_at(block, left, right, n, i) {
-            return false;
-        }
-    }
-    true
+    let sides = Sides::of(block, r);
+    (0..sides.n).all(|i| form_at(&sides, i))
 }

@@ -197,24 +197,30 @@ module _ (f : ℕ → Bool) where
   pub find-missing : (n : ℕ) → find n f ≡ None → first n f ≡ n
   find-missing n h = first-passed n n (omega arith) (find-fails n h)
 
-  -- the last is not before a number at which the test holds, and the test holds at it
-  pub last-above : (n k : ℕ) → k < n → f k ≡ true → k < last n f
-  last-above zero k l h = absurd (not-suc-le-zero l)
-  last-above (suc n) k l h = go (λ m. last-above n k m h) (f n) refl
+  -- the last is not before a number at which the test holds, there is none only where it holds nowhere, and it holds
+  -- at the last
+  pub last-above : (n i k : ℕ) → last n f ≡ Some i → k < n → f k ≡ true → k ≤ i
+  last-above zero i k e l h = absurd (not-suc-le-zero l)
+  last-above (suc n) i k e l h = go (last-above n i k) (f n) refl
     where
-      go : (k < n → k < last n f) → (t : Bool) → f n ≡ t → k < last (suc n) f
-      go ih true e = rw e l
-      go ih false e = rw e (⊎_elim (λ q. absurd (true-false h (rw (← q) at e))) ih (below l))
+      go : (last n f ≡ Some i → k < n → f k ≡ true → k ≤ i) → (t : Bool) → f n ≡ t → k ≤ i
+      go ih true q = let m : n ≡ i = same_Some n i (rw q at e) in omega arith
+      go ih false q = ⊎_elim (λ p. absurd (true-false h (rw (← p) at q))) (λ m. ih (rw q at e) m h) (below l)
 
-  pub last-holds : (n i : ℕ) → last n f ≡ suc i → (i < n) × (f i ≡ true)
-  last-holds zero i h = absurd (omega arith)
+  pub last-none : (n k : ℕ) → last n f ≡ None → k < n → f k ≡ false
+  last-none zero k e l = absurd (not-suc-le-zero l)
+  last-none (suc n) k e l = go (last-none n k) (f n) refl
+    where
+      go : (last n f ≡ None → k < n → f k ≡ false) → (t : Bool) → f n ≡ t → f k ≡ false
+      go ih true q = absurd (none-some n (sym (rw q at e)))
+      go ih false q = ⊎_elim (λ p. rw p q) (λ m. ih (rw q at e) m) (below l)
+
+  pub last-holds : (n i : ℕ) → last n f ≡ Some i → (i < n) × (f i ≡ true)
+  last-holds zero i h = absurd (none-some i h)
   last-holds (suc n) i h = go (last-holds n i) (f n) refl
     where
-      go : (last n f ≡ suc i → (i < n) × (f i ≡ true)) → (t : Bool) → f n ≡ t → (i < suc n) × (f i ≡ true)
-      go ih true e =
-          let k : suc n ≡ suc i = rw e at h in
-          let m : i ≡ n = omega arith in
-          (omega arith, rw m e)
+      go : (last n f ≡ Some i → (i < n) × (f i ≡ true)) → (t : Bool) → f n ≡ t → (i < suc n) × (f i ≡ true)
+      go ih true e = let m : i ≡ n = sym (same_Some n i (rw e at h)) in (omega arith, rw m e)
       go ih false e = let k = ih (rw e at h) in (let j = k.0 in omega arith, k.1)
 
   -- numbers at which the test fails do not matter
@@ -222,7 +228,7 @@ module _ (f : ℕ → Bool) where
   last-past m zero h = ap (λ (k : ℕ). last k f) (add-zero m)
   last-past m (suc d) h =
       ap (λ (k : ℕ). last k f) (add-suc m d)
-      ∙ ap (λ (t : Bool). cond t (suc (m + d)) (last (m + d) f)) (h (m + d) (omega arith) (omega arith))
+      ∙ ap (λ (t : Bool). cond t (Some (m + d)) (last (m + d) f)) (h (m + d) (omega arith) (omega arith))
       ∙ last-past m d (λ k a b. h k a (omega arith))
 
 module _ (f g : ℕ → Bool) where

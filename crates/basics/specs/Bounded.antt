@@ -1,5 +1,5 @@
--- Tests over the numbers below a bound: each of them (`all`), some of them (`some`), the first and the last of them
--- (`first`, `last`), and the first if there is one (`find`). Validity, matching, goals and predecessors are stated with
+-- Tests over the numbers below a bound: each of them (`all`), some of them (`some`), the first of them (`first`), and
+-- the first and the last if there is one (`find`, `last`). Validity, matching, goals and predecessors are stated with
 -- these.
 use Rattle.std.specs.Prelude.{ℕ, zero, suc, Bool, true, false, cond, ◌&&◌, ◌||◌, Option, None, Some}
 
@@ -22,7 +22,7 @@ first (suc n) f = cond (some n f) (first n f) (cond (f n) n (suc n))
 abbrev pub find : ℕ → (ℕ → Bool) → Option ℕ
 find n f = cond (some n f) (Some (first n f)) None
 
--- one more than the greatest number below n at which the test holds, or 0
-abbrev pub last : ℕ → (ℕ → Bool) → ℕ
-last zero f = zero
-last (suc n) f = cond (f n) (suc n) (last n f)
+-- the greatest number below n at which the test holds, or none
+abbrev pub last : ℕ → (ℕ → Bool) → Option ℕ
+last zero f = None
+last (suc n) f = cond (f n) (Some n) (last n f)

@@ -1,26 +1,27 @@
 -- `backward::predecessors::first_predecessor` meets its contract.
--- The candidate's room is the front of a local array, which has room for the state.
-use Rattle.std.proofs.Common.{sym, ◌∙◌, length, arith}
+-- The candidate with the least labels settles the answer.
+use Rattle.std.proofs.Common.{sym, ◌∙◌, length, subst, arith}
 use lib.Seq.{length-take-le}
 use Rattle.blocks.proofs.StateLaws.{state-length}
+use Rattle.backward.specs.Predecessors.{NextState, Answered}
+use Rattle.backward.proofs.Candidates.{first-settles}
 use Rattle.backward.proofs.predecessors.first_predecessor.Goals as goal
 
-pub slice_bounds-candidate-end : goal.slice_bounds-candidate-end
-slice_bounds-candidate-end c =
+pub of-reversal-requires : goal.of-reversal-requires
+of-reversal-requires c =
     let h = c.requires in
-    let long = state-length c.args.block.now c.args.state.now h.2 in
-    omega (arith, long, h.0.sized.headed.sizes.n_high)
+    (h.0.sized, h.1, state-length c.args.block.now c.args.state.now h.2)
 
-pub slice_bounds-first_in-end : goal.slice_bounds-first_in-end
-slice_bounds-first_in-end c =
+pub returns : goal.returns
+returns c =
+    let a = c.args in
     let h = c.requires in
-    let long = state-length c.args.block.now c.args.state.now h.2 in
-    sym (length-take-le (length c.args.state.now) _ (omega (arith, long, h.0.sized.headed.sizes.n_high)))
-
-pub first_in-requires : goal.first_in-requires
-first_in-requires c =
-    let h = c.requires in
-    let long = state-length c.args.block.now c.args.state.now h.2 in
-    let room =
-    length-take-le (length c.args.state.now) _ (omega (arith, long, h.0.sized.headed.sizes.n_high)) in
-    (h.0, h.1, h.2, room ∙ long, h.3)
+    let b = a.block.now in
+    let s = a.state.now in
+    let e = c.of-reversal.ensures in
+    let room = length-take-le (length s) _ (omega (arith, state-length b s h.2, h.0.sized.headed.sizes.n_high)) in
+    let settles =
+    first-settles b h.0 a.r h.1 s h.2 _ _ e.1 e.2 _ c.complete.new.candidate
+    (c.complete.auto.candidate ∙ room) (rw (e.0, e.4) at c.complete.ensures) in
+    subst (λ (next : NextState). Answered next c.settle.result a.out.now c.settle.new.out)
+    (sym settles) c.settle.ensures

@@ -1,26 +1,66 @@
 -- `backward::predecessors::next_predecessor` meets its contract.
--- The candidate's room is the front of a local array, which has room for the state.
-use Rattle.std.proofs.Common.{sym, ◌∙◌, length, arith}
+-- The earlier state, raised at the last position where that can be done, settles the answer.
+use Rattle.std.proofs.Common.{refl, sym, ◌∙◌, length, subst, arith}
 use lib.Seq.{length-take-le}
-use Rattle.blocks.proofs.StateLaws.{state-length}
+use Rattle.basics.proofs.Bounded.{last-holds}
+use Rattle.blocks.specs.Layout.{label_count}
+use Rattle.blocks.proofs.StateLaws.{state-length, label-below}
+use Rattle.backward.specs.Choices.{choices_at, raisable_at}
+use Rattle.backward.specs.Predecessors.{NextState, Answered}
+use Rattle.backward.proofs.Candidates.{next-settles, next-none}
 use Rattle.backward.proofs.predecessors.next_predecessor.Goals as goal
 
-pub slice_bounds-candidate-end : goal.slice_bounds-candidate-end
-slice_bounds-candidate-end c =
+pub of-reversal-requires : goal.of-reversal-requires
+of-reversal-requires c =
     let h = c.requires in
-    let long = state-length c.args.block.now c.args.state.now h.2 in
-    omega (arith, long, h.0.sized.headed.sizes.n_high)
+    (h.0.sized, h.1, state-length c.args.block.now c.args.state.now h.2)
 
-pub slice_bounds-next_in-end : goal.slice_bounds-next_in-end
-slice_bounds-next_in-end c =
-    let h = c.requires in
-    let long = state-length c.args.block.now c.args.state.now h.2 in
-    sym (length-take-le (length c.args.state.now) _ (omega (arith, long, h.0.sized.headed.sizes.n_high)))
+pub pivot-requires : goal.pivot-requires
+pivot-requires c =
+    let e = c.of-reversal.ensures in
+    rw e.0 (c.requires.0.sized.headed, e.3, state-length c.args.block.now c.args.earlier.now c.requires.3 ∙ sym e.3)
 
-pub next_in-requires : goal.next_in-requires
-next_in-requires c =
+pub returns-in_default : goal.returns-in_default
+returns-in_default c =
+    let a = c.args in
     let h = c.requires in
-    let long = state-length c.args.block.now c.args.state.now h.2 in
-    let room =
-    length-take-le (length c.args.state.now) _ (omega (arith, long, h.0.sized.headed.sizes.n_high)) in
-    (h.0, h.1, h.2, h.3, room ∙ long, h.4)
+    let e = c.of-reversal.ensures in
+    let none =
+    next-none a.block.now h.0 a.r h.1 a.state.now h.2 _ _ e.1 e.2 a.earlier.now h.3
+    (rw (e.0, e.4) at (sym c.in_default.ensures)) in
+    rw none (refl, refl)
+
+pub raise-requires : goal.raise-requires
+raise-requires c =
+    let a = c.args in
+    let h = c.requires in
+    let b = a.block.now in
+    let s = a.state.now in
+    let e = c.of-reversal.ensures in
+    let r = c.of-reversal.result in
+    let long = state-length b s h.2 in
+    let raisable =
+    raisable_at (label_count r.sides.block.now)
+    (choices_at r.sides.block.now r.sides.left r.sides.right r.state.now) a.earlier.now in
+    let low = (last-holds raisable (length r.state.now) c.in-Some.place (sym c.in-Some.ensures)).0 in
+    let x =
+    label-below b h.0.sized.headed a.earlier.now h.3 c.in-Some.place (omega (arith, low, r.whole, e.3)) in (
+      state-length b a.earlier.now h.3 ∙ sym e.3,
+      length-take-le (length s) _ (omega (arith, long, h.0.sized.headed.sizes.n_high)) ∙ long ∙ sym e.3,
+      omega (arith, low, r.whole),
+      omega (arith, x),
+    )
+
+pub returns : goal.returns
+returns c =
+    let a = c.args in
+    let h = c.requires in
+    let b = a.block.now in
+    let s = a.state.now in
+    let e = c.of-reversal.ensures in
+    let room = length-take-le (length s) _ (omega (arith, state-length b s h.2, h.0.sized.headed.sizes.n_high)) in
+    let settles =
+    next-settles b h.0 a.r h.1 s h.2 _ _ e.1 e.2 a.earlier.now h.3 c.raise.new.candidate c.in-Some.place
+    (c.raise.auto.candidate ∙ room) (rw (e.0, e.4) at (sym c.in-Some.ensures)) (rw (e.0, e.4) at c.raise.ensures) in
+    subst (λ (next : NextState). Answered next c.settle.result a.out.now c.settle.new.out)
+    (sym settles) c.settle.ensures

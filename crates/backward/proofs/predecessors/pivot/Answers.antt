@@ -2,8 +2,7 @@
 use Rattle.std.proofs.Common.{◌≡◌, ℕ, ◌+◌, sym, ap, ap₂, ◌∙◌, length, get_or, arith}
 use Rattle.basics.specs.Bounded.{last}
 use Rattle.blocks.specs.Layout.{label_count}
-use Rattle.backward.specs.Choices.{choices_at, rises_of, keeps_of, raisable_at}
-use Rattle.backward.specs.declared.choices.Choice.{Choice}
+use Rattle.backward.specs.Choices.{Choice, choices_at, rises_of, keeps_of, raisable_at}
 use Rattle.backward.proofs.Completing.{rises-last, stays-last, stop-last}
 use Rattle.backward.proofs.predecessors.pivot.Goals as goal
 use Rattle.backward.proofs.predecessors.pivot.Goals.{Then-not-keeps, then-rises, else-rises}
@@ -12,14 +11,15 @@ use Rattle.backward.proofs.predecessors.pivot.Goals.{Then-not-keeps, then-rises,
 best-last :
     (c : Then-not-keeps)
     →
-    let a = c.args in
-    let choices = choices_at a.block.now a.left a.right a.state.now in
-    c.if-rises.best ≡ last (c.loop-i.i + 1) (raisable_at (label_count a.block.now) choices a.earlier.now)
+    let r = c.args.reversal.now in
+    let choices = choices_at r.sides.block.now r.sides.left r.sides.right r.state.now in
+    c.if-rises.best
+    ≡ last (c.loop-i.i + 1) (raisable_at (label_count r.sides.block.now) choices c.args.earlier.now)
 best-last c =
-    let a = c.args in
-    let e = a.earlier.now in
-    let count = label_count a.block.now in
-    let choices = choices_at a.block.now a.left a.right a.state.now in
+    let r = c.args.reversal.now in
+    let e = c.args.earlier.now in
+    let count = label_count r.sides.block.now in
+    let choices = choices_at r.sides.block.now r.sides.left r.sides.right r.state.now in
     let l = c.loop-i in
     let rises : c.rises.result ≡ rises_of (count l.i) (choices e l.i) (get_or e l.i 0) =
     c.rises.ensures
@@ -27,18 +27,19 @@ best-last c =
     c.choice_at-choice.ensures in
     elim c.if-rises.branch [
       | then-rises w ↦
-          w.best-is ∙ rises-last count choices e l.i l.invariant.2 (sym rises ∙ w.if-rises.true)
+          w.best-is ∙ rises-last count choices e l.i l.invariant.0 (sym rises ∙ w.if-rises.true)
       | else-rises w ↦
-          w.best-is ∙ stays-last count choices e l.i l.best (sym rises ∙ w.if-rises.false) l.invariant.3
+          w.best-is ∙ stays-last count choices e l.i l.best (sym rises ∙ w.if-rises.false) l.invariant.1
     ]
 
 pub returns-then-not-keeps : goal.returns-then-not-keeps
 returns-then-not-keeps c =
-    let a = c.args in
-    let e = a.earlier.now in
+    let r = c.args.reversal.now in
+    let e = c.args.earlier.now in
     let i = c.loop-i.i in
     best-last c
-    ∙ stop-last (label_count a.block.now) (choices_at a.block.now a.left a.right a.state.now) e i
-    (length a.state.now) (omega arith)
+    ∙ stop-last (label_count r.sides.block.now)
+    (choices_at r.sides.block.now r.sides.left r.sides.right r.state.now) e i
+    (length r.state.now) (omega (arith, r.whole))
     (ap (λ (choice : Choice). keeps_of choice (get_or e i 0)) (sym c.choice_at-choice.ensures)
     ∙ sym c.keeps.ensures ∙ c.if-not-keeps.true)

@@ -1,8 +1,8 @@
--- `backward::choices::choice_at` meets its contract.
+-- `backward::choices::Reversal::choice_at` meets its contract.
 -- By whether the right term is a dash, then by the left term decoded.
 use Rattle.std.proofs.Common.{rules}
 use Rattle.backward.specs.Choices.{choice}
-use Rattle.backward.proofs.choices.choice_at.Goals as goal
+use Rattle.backward.proofs.choices.Reversal.choice_at.Goals as goal
 
 pub returns-then-is_dash : goal.returns-then-is_dash
 unfolding choice
@@ -19,7 +19,3 @@ returns-in-Variable c = search rules
 pub returns-in-Dash : goal.returns-in-Dash
 unfolding choice
 returns-in-Dash c = search rules
-
-pub returns-in-Refused : goal.returns-in-Refused
-unfolding choice
-returns-in-Refused c = search rules
