@@ -1,6 +1,6 @@
 -- A side whose n positions are compiled, once its six elements are stored, is `Sided`, and a left side `Tested`
 -- (`side-placed`). Placing a side rests on this; the counts are stored likewise (`counts-placed`).
-use mathlib.Core.Path.{◌≡◌, refl, sym, ap, ◌∙◌, subst}
+use mathlib.Core.Path.{◌≡◌, sym, ap, ◌∙◌, subst}
 use mathlib.Core.Bool.{true}
 use mathlib.Core.List.{List}
 use Prim.Native.Nat.{ℕ, ◌+◌, ◌*◌, ◌≤◌, ◌<◌}
@@ -10,6 +10,7 @@ use lib.Dec.{eqb, lit<}
 use lib.ListN.{length, get_or, set, length-set}
 use lib.Seq.{get_or-set_same, get_or-set_other}
 use borrow.Author.Tests.{eq-eqb}
+use Rattle.basics.specs.Bounded.{all}
 use Rattle.basics.specs.Parts.{Outside}
 use Rattle.basics.proofs.Parts.{outside-none}
 use Rattle.basics.proofs.Lists.{tabulate-ext}
@@ -20,7 +21,7 @@ use Rattle.psvn.specs.TwoParts.{variables_agree}
 use Rattle.words.specs.Packing.{digit, unpack}
 use Rattle.words.specs.Code.{code_length}
 use Rattle.words.specs.Sides.{mask_at, value_at, keep_at, count_at, from_at, to_at, join_moves, rewritten_word}
-use Rattle.words.specs.Sides.{mask_allows}
+use Rattle.words.specs.Sides.{mask_allows, move_agrees}
 use Rattle.words.specs.Sides.{variables_word}
 use Rattle.words.specs.Compiled.{Sided, Tested}
 use Rattle.compiling.specs.PlacingSides.{made_by, Begun, SidePlaced, CountsPlaced}
@@ -29,21 +30,22 @@ use Rattle.words.proofs.WordDigits.{digit-high}
 
 -- nothing compiled yet
 pub begun-none :
-    (n : ℕ) (left side : ℕ → ℕ)
-    → Begun n left side (record { mask = 0; value = 0; keep = 0; count = 0; from = 0; to = 0 }) 0
+    (n : ℕ) (left side : ℕ → ℕ) (s : Side)
+    → (s.mask ≡ 0) × ((s.value ≡ 0) × ((s.keep ≡ 0) × ((s.count ≡ 0) × ((s.from ≡ 0) × (s.to ≡ 0)))))
+    → Begun n left side s 0
 unfolding made_by join_moves
-begun-none n left side =
+begun-none n left side s (mask, (value, (keep, (count, (from, to))))) =
     record {
       makes = λ w k l. absurd (omega arith);
       constants = λ k y l. absurd (omega arith);
-      variables = λ e w. refl;
-      small = λ w. rw (or_zero_r (bit_and w 0), and_zero_r w) (lit< tt);
-      small_mask = lit< tt;
-      small_value = lit< tt;
-      small_keep = lit< tt;
-      small_from = lit< tt;
-      small_to = lit< tt;
-      few = omega arith;
+      variables = λ e w. ap (λ (c : ℕ). all c (move_agrees w s.from s.to)) count;
+      small = λ w. rw (count, keep, value, or_zero_r (bit_and w 0), and_zero_r w) (lit< tt);
+      small_mask = rw mask (lit< tt);
+      small_value = rw value (lit< tt);
+      small_keep = rw keep (lit< tt);
+      small_from = rw (from, count) (lit< tt);
+      small_to = rw (to, count) (lit< tt);
+      few = omega (arith, count);
     }
 
 -- the elements of place x are those of the side s

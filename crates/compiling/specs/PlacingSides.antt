@@ -52,9 +52,9 @@ pub record WithConstant (i : ℕ) (label : ConcreteLabel) (s t : Side) : Type 0 
       (n : ℕ) (left side : ℕ → ℕ) → i < n → n ≤ 16 → term_of (side i) ≡ Label label
       → Begun n left side s i → Begun n left side t (i + 1)
 
-pub record WithSource (n i from : ℕ) (s t : Side) : Type 0 where
+pub record WithSource (i from : ℕ) (s t : Side) : Type 0 where
   pub begun :
-      (left side : ℕ → ℕ) → TakenFrom n left side i from
+      (n : ℕ) (left side : ℕ → ℕ) → i < n → n ≤ 16 → from < n → TakenFrom n left side i from
       → Begun n left side s i → Begun n left side t (i + 1)
 
 -- a side at place x: what it makes, and, where it is a left side, what it tests

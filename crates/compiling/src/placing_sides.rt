@@ -7,7 +7,7 @@ ghost use Rattle.words.specs.Code.{code_length};
 ghost use Rattle.compiling.specs.PlacingSides.{Begun, WithConstant, WithSource, SidePlaced, SidesPlaced};
 ghost use Rattle.compiling.specs.PlacingSides.{RulePlaced, RulesPlaced, GoalsPlaced, CountsPlaced};
 
-use basics::wide;
+use basics::first_of;
 use blocks::labels::ConcreteLabel;
 use blocks::layout;
 use blocks::terms::{Term, decode};
@@ -17,7 +17,7 @@ use words::code::{
 
 // A side on the way, its first positions compiled: the masks, the value, how many moves it has, and the positions
 // that these read and write, as the digits of two words.
-#[derive(Drop)]
+#[derive(Clone, Copy, Default)]
 struct Side {
     mask: u64,
     value: u64,
@@ -27,53 +27,55 @@ struct Side {
     to: u64,
 }
 
-// A side with a constant at position i.
-fn with_constant(made: Side, i: usize, label: ConcreteLabel) -> Side
-    requires { i < 16 }
-    ensures { WithConstant i label made result }
-{
-    let mut next = made;
-    next.mask = next.mask | (15 << (4 * i));
-    next.value = next.value | ((label.0 as u64) << (4 * i));
-    next
-}
-
-// A side with a term at position i that takes its label from position `from`: its own label is kept, another one
-// below n is a move, and from n on there is none, which gives 0.
-fn with_source(made: Side, n: usize, i: usize, from: usize) -> Side
-    requires { (n ≤ 16) × (i < n) × (made.count ≤ i) }
-    ensures { WithSource n i from made result }
-{
-    let mut next = made;
-    if from == i {
-        next.keep = next.keep | (15 << (4 * i));
-        return next;
-    }
-    if from < n {
-        let count = next.count;
-        next.from = next.from | ((from as u64) << (4 * count));
-        next.to = next.to | ((i as u64) << (4 * count));
-        next.count = count + 1;
-    }
-    next
-}
-
-// The side that begins at `side`, its first i positions made, with its term at position i, under the left side that
-// begins at `left`.
-fn with_term(bytes: &[u8], left: usize, side: usize, n: usize, made: Side, i: usize) -> Side
-    requires n_in_bounds { (left + n ≤ length bytes.now) × (side + n ≤ length bytes.now) × (n ≤ 16) × (i < n) }
-    requires begun { Begun n (side_at bytes.now left) (side_at bytes.now side) made i }
-    ensures { Begun n (side_at bytes.now left) (side_at bytes.now side) result (i + 1) }
-{
-    let term = decode(bytes[side + i]);
-    match term {
-        Term::Label(label) => with_constant(made, i, label),
-        Term::Variable(v) => {
-            let from = basics::first_of(bytes, left, n, v);
-            with_source(made, n, i, from)
+impl Side {
+    // The side with a constant at position i.
+    fn with_constant(self, i: usize, label: ConcreteLabel) -> Self
+        requires { i < 16 }
+        ensures { WithConstant i label self result }
+    {
+        Side {
+            mask: self.mask | (15 << (4 * i)),
+            value: self.value | (u64::from(label.0) << (4 * i)),
+            ..self
         }
-        Term::Dash => with_source(made, n, i, i),
-        Term::Refused => with_source(made, n, i, i),
+    }
+
+    // The side with a term at position i that takes its label from position `from`: its own label is kept, another one
+    // is a move.
+    fn with_source(self, i: usize, from: usize) -> Self
+        requires { (i < 16) × (from < 16) × (self.count ≤ i) }
+        ensures { WithSource i from self result }
+    {
+        if from == i {
+            Side {
+                keep: self.keep | (15 << (4 * i)),
+                ..self
+            }
+        } else {
+            Side {
+                count: self.count + 1,
+                from: self.from | ((from as u64) << (4 * self.count)),
+                to: self.to | ((i as u64) << (4 * self.count)),
+                ..self
+            }
+        }
+    }
+
+    // The side that begins at `side`, its first i positions made, with its term at position i, under the left side that
+    // begins at `left`. A variable that stands nowhere on the left gives 0.
+    fn with_term(self, bytes: &[u8], left: usize, side: usize, n: usize, i: usize) -> Self
+        requires n_in_bounds { (left + n ≤ length bytes.now) × (side + n ≤ length bytes.now) × (n ≤ 16) × (i < n) }
+        requires begun { Begun n (side_at bytes.now left) (side_at bytes.now side) self i }
+        ensures { Begun n (side_at bytes.now left) (side_at bytes.now side) result (i + 1) }
+    {
+        match decode(bytes[side + i]) {
+            Term::Label(label) => self.with_constant(i, label),
+            Term::Variable(v) => match first_of(bytes, left, n, v) {
+                Some(from) => self.with_source(i, from),
+                None => self,
+            },
+            Term::Dash | Term::Refused => self.with_source(i, i),
+        }
     }
 }
 
@@ -82,16 +84,9 @@ fn make_side(bytes: &[u8], left: usize, side: usize, n: usize) -> Side
     requires { (left + n ≤ length bytes.now) × (side + n ≤ length bytes.now) × (n ≤ 16) }
     ensures { Begun n (side_at bytes.now left) (side_at bytes.now side) result n }
 {
-    let mut made = Side {
-        mask: 0,
-        value: 0,
-        keep: 0,
-        count: 0,
-        from: 0,
-        to: 0,
-    };
+    let mut made = Side::default();
     for i in 0..n {
-        made = with_term(bytes, left, side, n, made, i);
+        made = made.with_term(bytes, left, side, n, i);
     }
     made
 }
@@ -131,7 +126,7 @@ fn place_rule(block: &[u8], r: usize, code: &mut Code)
     let left = layout::left_at(block, r);
     let right = layout::right_at(block, r);
     place_sides(block, left, right, n, code, r);
-    code[COSTS + r] = wide(layout::cost(block, r)) as u64;
+    code[COSTS + r] = u64::from(layout::cost(block, r));
 }
 
 // Compiles the rules.

@@ -6,7 +6,6 @@ ghost use Rattle.blocks.specs.Validity.{Valid};
 ghost use Rattle.words.specs.Compiled.{Weighted};
 ghost use Rattle.compiling.specs.PlacingWeights.{RowPlaced, SinglesPlaced, PairsPlaced};
 
-use basics::wide;
 use blocks::labels::{ConcreteLabel, byte_of};
 use blocks::layout;
 use words::ranking::Weights;
@@ -24,7 +23,7 @@ fn place_row(block: &[u8], i: usize, p: usize, singles: &mut Singles)
     let count = layout::label_count(block, i);
     for x in 0..count {
         let label = ConcreteLabel(x as u8);
-        let y = wide(byte_of(layout::abstract_label(block, i, label)));
+        let y = usize::from(byte_of(layout::abstract_label(block, i, label)));
         singles[16 * i + x] = (y * p) as u16;
     }
 }
@@ -36,11 +35,9 @@ pub fn place_singles(block: &[u8], singles: &mut Singles)
     ensures { SinglesPlaced block.now singles.new }
 {
     let mut p: usize = 1;
-    let mut i = layout::positions(block);
-    while i > 0 {
-        i -= 1;
+    for i in (0..layout::positions(block)).rev() {
         place_row(block, i, p, singles);
-        p = p * layout::abstract_count(block, i);
+        p *= layout::abstract_count(block, i);
     }
 }
 

@@ -9,7 +9,7 @@ use borrow.Author.Rules.{rules}
 use Rattle.compiling.proofs.placing_sides.make_side.Goals as goal
 
 pub loop-i-init : goal.loop-i-init
-loop-i-init c = (search rules, begun-none c.args.n _ _)
+loop-i-init c = (search rules, begun-none c.args.n _ _ c.default-made.result c.default-made.ensures)
 
 pub loop-i-preserved : goal.loop-i-preserved
 loop-i-preserved c = (search rules, c.with_term-made.ensures)

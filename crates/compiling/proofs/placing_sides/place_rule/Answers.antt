@@ -25,6 +25,6 @@ returns c =
     let left = c.left_at-left.ensures.0 in
     let right = c.right_at-right.ensures.0 in
     let few : c.args.r < 64 = omega (arith, c.requires.1, c.requires.0.headed.sizes.r_high) in
-    rule-placed b c.args.r c.wide.result few (omega arith)
+    rule-placed b c.args.r c.from.result few (omega arith)
     (sides-as b n left right c.place_sides.ensures)
-    (c.wide.ensures.0 ∙ c.cost.ensures) c.wide.ensures.1
+    (c.from.ensures ∙ c.cost.ensures) (omega arith)

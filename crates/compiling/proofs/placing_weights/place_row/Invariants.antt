@@ -10,7 +10,7 @@ use Rattle.compiling.proofs.placing_weights.place_row.Given as goal
 
 abbrev pub invariant-loop-x : goal.invariant-loop-x
 invariant-loop-x l =
-    (l.count ≡ label_count l.block l.i) × (l.count ≤ 16) × (l.x ≤ l.count)
+    (l.count ≡ label_count l.block l.i) × (l.count ≤ 16)
     × Outside (16 * l.i) (16 * l.i + 16) l.initial.singles l.singles
     × ((k : ℕ) → k < l.x → get_or l.singles (16 * l.i + k) 0 ≡ map_at l.block l.i k * l.p)
     × (((k : ℕ) → get_or l.initial.singles k 0 ≤ 16384) → (k : ℕ) → get_or l.singles k 0 ≤ 16384)

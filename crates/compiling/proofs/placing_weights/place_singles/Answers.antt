@@ -1,9 +1,11 @@
 -- `compiling::placing_weights::place_singles` meets its contract.
 use mathlib.Core.Path.{◌≡◌, sym, ap, ◌∙◌}
-use Prim.Native.Nat.{ℕ, suc, ◌≤◌, ◌-◌, ◌*◌}
+use mathlib.Core.List.{List}
+use Prim.Native.Nat.{ℕ, suc, ◌<◌, ◌≤◌, ◌-◌, ◌*◌}
 use native.Mathlib.Nat.{mul_comm}
 use native.Mathlib.Omega.{arith}
 use Rattle.blocks.specs.Layout.{positions, abstract_count}
+use Rattle.blocks.specs.Validity.{Headed}
 use Rattle.blocks.proofs.StateLaws.{some-abstract}
 use Rattle.psvn.proofs.RankLaws.{states-span}
 use Rattle.words.specs.Ranking.{place_value}
@@ -11,7 +13,28 @@ use Rattle.words.proofs.WordRanks.{place-more, place-last, place-below}
 use Rattle.compiling.proofs.WeightsPlaced.{rows_more}
 use borrow.Author.Rules.{rules}
 use Rattle.compiling.proofs.placing_weights.place_singles.Goals as goal
-use Rattle.compiling.proofs.placing_weights.place_singles.Goals.{After-abstract_count-p, After-place_row-arg-1}
+
+-- the place value behind position i - 1, and with its base that at i - 1
+behind :
+    (b : List ℕ) (i p : ℕ) → 0 < i → p ≡ place_value (abstract_count b) i (positions b - i)
+    → p ≡ place_value (abstract_count b) (suc (i - 1)) (positions b - suc (i - 1))
+behind b i p some e =
+    let back : i ≡ suc (i - 1) = omega arith in
+    e ∙ ap (λ (i : ℕ). place_value (abstract_count b) i (positions b - i)) back
+
+counted :
+    (b : List ℕ) (i p : ℕ) → 0 < i → i ≤ positions b → p ≡ place_value (abstract_count b) i (positions b - i)
+    → abstract_count b (i - 1) * p ≡ place_value (abstract_count b) (i - 1) (positions b - (i - 1))
+counted b i p some low e =
+    ap (λ (p : ℕ). abstract_count b (i - 1) * p) (behind b i p some e)
+    ∙ sym (place-more (abstract_count b) (positions b) (i - 1) (omega arith))
+
+-- no place value is above 16384
+few :
+    (b : List ℕ) (i : ℕ) → Headed b → i ≤ positions b → place_value (abstract_count b) i (positions b - i) ≤ 16384
+few b i h l =
+    let below = place-below (abstract_count b) (some-abstract b h) (positions b) i l in
+    omega (arith, states-span b, h.few)
 
 pub loop-i-init : goal.loop-i-init
 loop-i-init c =
@@ -24,105 +47,39 @@ loop-i-init c =
       λ k. omega (arith, c.requires.1 k),
     )
 
--- p is the place value behind position i, and with its base that at i
-behind :
-    (c : After-place_row-arg-1)
-    → let b = c.args.block.now in
-    let i = c.loop-i.i - 1 in
-    c.loop-i.p ≡ place_value (abstract_count b) (suc i) (positions b - suc i)
-behind c =
-    let b = c.args.block.now in
-    let e : c.loop-i.i ≡ suc (c.loop-i.i - 1) = omega arith in
-    c.loop-i.invariant.1 ∙ ap (λ (i : ℕ). place_value (abstract_count b) i (positions b - i)) e
-
-counted :
-    (c : After-place_row-arg-1)
-    → let b = c.args.block.now in
-    let i = c.loop-i.i - 1 in
-    abstract_count b i * c.loop-i.p ≡ place_value (abstract_count b) i (positions b - i)
-counted c =
-    let b = c.args.block.now in
-    let i = c.loop-i.i - 1 in
-    ap (λ (p : ℕ). abstract_count b i * p) (behind c)
-    ∙ sym (place-more (abstract_count b) (positions b) i (omega arith))
-
-few :
-    (c : After-place_row-arg-1)
-    → let b = c.args.block.now in
-    let i = c.loop-i.i - 1 in
-    place_value (abstract_count b) i (positions b - i) ≤ 16384
-few c =
-    let b = c.args.block.now in
-    let h = c.requires.0.sized.headed in
-    let below =
-    place-below (abstract_count b) (some-abstract b h) (positions b) (c.loop-i.i - 1) (omega arith) in
-    omega (arith, states-span b, h.few)
-
 pub place_row-requires : goal.place_row-requires
-place_row-requires c = (
-  c.requires.0,
-  omega arith,
-  omega (arith, counted c, few c),
-)
+place_row-requires c =
+    let b = c.args.block.now in
+    let l = c.loop-i in
+    let at = counted b l.i l.p (omega arith) l.invariant.0 l.invariant.1 in
+    (c.requires.0, omega arith, omega (arith, at, few b (l.i - 1) c.requires.0.sized.headed (omega arith)))
 
 pub abstract_count-p-requires : goal.abstract_count-p-requires
 abstract_count-p-requires c = (c.requires.0.sized.headed, omega arith)
 
-few-2 :
-    (c : After-abstract_count-p)
-    → let b = c.args.block.now in
-    let i = c.loop-i.i - 1 in
-    place_value (abstract_count b) i (positions b - i) ≤ 16384
-few-2 c =
-    let b = c.args.block.now in
-    let h = c.requires.0.sized.headed in
-    let below =
-    place-below (abstract_count b) (some-abstract b h) (positions b) (c.loop-i.i - 1) (omega arith) in
-    omega (arith, states-span b, h.few)
-
--- p is the place value behind position i, and with its base that at i
-behind-2 :
-    (c : After-abstract_count-p)
-    → let b = c.args.block.now in
-    let i = c.loop-i.i - 1 in
-    c.loop-i.p ≡ place_value (abstract_count b) (suc i) (positions b - suc i)
-behind-2 c =
-    let b = c.args.block.now in
-    let e : c.loop-i.i ≡ suc (c.loop-i.i - 1) = omega arith in
-    c.loop-i.invariant.1 ∙ ap (λ (i : ℕ). place_value (abstract_count b) i (positions b - i)) e
-
-counted-2 :
-    (c : After-abstract_count-p)
-    → let b = c.args.block.now in
-    let i = c.loop-i.i - 1 in
-    abstract_count b i * c.loop-i.p ≡ place_value (abstract_count b) i (positions b - i)
-counted-2 c =
-    let b = c.args.block.now in
-    let i = c.loop-i.i - 1 in
-    ap (λ (p : ℕ). abstract_count b i * p) (behind-2 c)
-    ∙ sym (place-more (abstract_count b) (positions b) i (omega arith))
-
-product :
-    (c : After-abstract_count-p)
-    → let b = c.args.block.now in
-    let i = c.loop-i.i - 1 in
-    c.loop-i.p * c.abstract_count-p.result ≡ place_value (abstract_count b) i (positions b - i)
-product c =
-    let l = c.loop-i in
-    mul_comm l.p c.abstract_count-p.result ∙ ap (λ (k : ℕ). k * l.p) c.abstract_count-p.ensures.0
-    ∙ counted-2 c
+-- the next place value
+next :
+    (b : List ℕ) (i p base : ℕ) → 0 < i → i ≤ positions b → p ≡ place_value (abstract_count b) i (positions b - i)
+    → base ≡ abstract_count b (i - 1) → p * base ≡ place_value (abstract_count b) (i - 1) (positions b - (i - 1))
+next b i p base some low e f =
+    mul_comm p base ∙ ap (λ (k : ℕ). k * p) f ∙ counted b i p some low e
 
 pub overflow_mul-p : goal.overflow_mul-p
-overflow_mul-p c = omega (arith, product c, few-2 c)
+overflow_mul-p c =
+    let b = c.args.block.now in
+    let l = c.loop-i in
+    let at = next b l.i l.p _ (omega arith) l.invariant.0 l.invariant.1 c.abstract_count-p.ensures.0 in
+    omega (arith, at, few b (l.i - 1) c.requires.0.sized.headed (omega arith))
 
 pub loop-i-preserved : goal.loop-i-preserved
 loop-i-preserved c =
+    let b = c.args.block.now in
     let l = c.loop-i in
     let i = l.i - 1 in
     let row = c.place_row.ensures in (
       omega arith,
-      product c,
-      rows_more i (behind-2 c) row (λ j x a. l.invariant.2 j x (omega arith)),
+      next b l.i l.p _ (omega arith) l.invariant.0 l.invariant.1 c.abstract_count-p.ensures.0,
+      rows_more i (behind b l.i l.p (omega arith) l.invariant.1) row (λ j x a. l.invariant.2 j x (omega arith)),
       λ k m. row.singles.behind k (omega arith) ∙ l.invariant.3 k m,
       row.low l.invariant.4,
     )

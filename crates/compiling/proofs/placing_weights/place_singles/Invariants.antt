@@ -14,6 +14,3 @@ invariant-loop-i l =
     × ((j x : ℕ) → l.i ≤ j → j < positions l.block → x < label_count l.block j
     → get_or l.singles (16 * j + x) 0 ≡ weight_of l.block j x)
     × ((k : ℕ) → 16 * positions l.block ≤ k → get_or l.singles k 0 ≡ 0) × ((k : ℕ) → get_or l.singles k 0 ≤ 16384)
-
-abbrev pub decreases-loop-i : goal.decreases-loop-i
-decreases-loop-i l = l.i
