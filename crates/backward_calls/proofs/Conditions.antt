@@ -1,5 +1,5 @@
 -- What an accepting verdict on the conditions of stepping back says (`step-back-accepted`), and that stepping back from
--- 'first' is refused as applying the rule is (`first-conditions`).
+-- 'first' is refused as applying the rule is (`first-conditions`). `checks` are the lemmas that the check rests on.
 -- The calls of stepping back rest on these once they have refused what is to be refused.
 use mathlib.Core.Path.{◌≡◌}
 use mathlib.Core.Bool.{true}
@@ -8,14 +8,14 @@ use Prim.Native.Nat.{ℕ, ◌≤◌, ◌<◌}
 use lib.Dec.{leb, ltb}
 use borrow.Author.Tests.{leb-true, ltb-true}
 use Rattle.refusals.specs.Answers.{told, verdict, ◌unless◌}
-use Rattle.refusals.proofs.Verdicts.{verdict-told, verdict-parts, verdict-skip}
+use Rattle.refusals.proofs.Verdicts.{verdict-told, verdict-parts, verdict-skip, verdict-behind, verdict-before}
 use Rattle.blocks.specs.Layout.{positions, rules}
 use Rattle.blocks.specs.Validity.{Valid}
 use Rattle.blocks.specs.States.{state_ok}
 use Rattle.backward.specs.Predecessors.{Earlier, from_first}
 use Rattle.psvn_calls.specs.Checking.{state_conditions}
 use Rattle.psvn_calls.specs.Applying.{apply_conditions}
-use Rattle.psvn_calls.proofs.Conditions.{state-accepted}
+use Rattle.psvn_calls.proofs.Conditions.{state-accepted, state-headed, state-long}
 use Rattle.backward_calls.specs.Predecessors.{earlier_ok, step_back_conditions}
 
 module _ (b s : List ℕ) (r room : ℕ) where
@@ -49,3 +49,6 @@ module _ (b s : List ℕ) (r room : ℕ) where
           rule = ltb-true r (rules b) p₉.0;
           room-left = leb-true (positions b) room (verdict-told 11 (leb (positions b) room) [] p₉.1).0;
         }
+
+-- what decides the conditions part by part, and what the parts say that are accepted
+pub ruleset checks = (verdict-behind, verdict-before, state-headed, state-long)

@@ -1,22 +1,13 @@
 -- Stepping back, as two public calls, from 'first' and after an earlier state: `step_back_from` is the answer with the
--- final contents of the lent buffer, for every input, and `PredecessorKept` what the calls promise. `predecessor_of`
--- gives the document's answer for each case of the enum.
+-- final contents of the lent buffer, for every input, and `PredecessorKept` what the calls promise. What is told is
+-- whether a state was found; 'none further' is false.
 use Rattle.std.specs.Prelude.{ℕ, Bool, true, false, List, [], ◌∷◌, ◌++◌, leb, ltb, length, take}
 use Rattle.refusals.specs.Answers.{Answer, refused, told, Condition, ◌unless◌, verdict, Outcome, outcome, guarded}
-use Rattle.refusals.specs.Refusals.{refusal_number}
 use Rattle.blocks.specs.Layout.{positions, rules}
 use Rattle.blocks.specs.States.{state_ok}
 use Rattle.backward.specs.Predecessors.{Earlier, from_first, after, is_found, written_out, step_back}
 use Rattle.backward.specs.Predecessors.{NextPredecessor, NoPredecessor}
 use Rattle.psvn_calls.specs.Checking.{state_conditions}
-use Rattle.backward_calls.specs.declared.predecessors.Predecessor.{Predecessor}
-use Rattle.backward_calls.specs.declared.predecessors.Predecessor.TheVariants.{Found, NoneFurther, Refused}
-
--- whether one was found, or 'none further'
-abbrev pub predecessor_of : Predecessor → Answer Bool
-predecessor_of Found = told true
-predecessor_of NoneFurther = told false
-predecessor_of (Refused refusal) = refused (refusal_number refusal)
 
 -- 'first' is always right; an earlier state is any state
 abbrev pub earlier_ok : List ℕ → Earlier → Bool

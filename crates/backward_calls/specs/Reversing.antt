@@ -1,19 +1,10 @@
--- Reversible by form, as a public call: `test_reversible`, for every input, and `ReversibilityKept`, what the call
--- promises. `reversibility_of` gives the document's answer for each case of the enum.
+-- Reversible by form, as a public call: `test_reversible` is the answer, yes or no, for every input, and
+-- `ReversibilityKept` what the call promises.
 use Rattle.std.specs.Prelude.{ℕ, ◌≤◌, Bool, true, false, List, [], ◌∷◌, ◌++◌, ltb}
 use Rattle.refusals.specs.Answers.{Answer, refused, told, Condition, ◌unless◌, verdict, answered}
-use Rattle.refusals.specs.Refusals.{refusal_number}
 use Rattle.blocks.specs.Layout.{labels, rules}
 use Rattle.blocks.specs.Validity.{block_conditions}
 use Rattle.backward.specs.Reversible.{reversible, OneToOne}
-use Rattle.backward_calls.specs.declared.reversing.Reversibility.{Reversibility}
-use Rattle.backward_calls.specs.declared.reversing.Reversibility.TheVariants.{Reversible, NotReversible, Refused}
-
--- yes or no
-abbrev pub reversibility_of : Reversibility → Answer Bool
-reversibility_of Reversible = told true
-reversibility_of NotReversible = told false
-reversibility_of (Refused refusal) = refused (refusal_number refusal)
 
 -- 3 to 7, then 9
 unfoldable pub reversible_conditions : List ℕ → ℕ → List Condition

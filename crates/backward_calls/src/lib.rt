@@ -4,5 +4,5 @@
 mod predecessors;
 mod reversing;
 
-pub use predecessors::{Predecessor, first_predecessor, next_predecessor};
-pub use reversing::{Reversibility, test_reversible};
+pub use predecessors::{first_predecessor, next_predecessor};
+pub use reversing::test_reversible;

@@ -1,82 +1,73 @@
 // Stepping back.
 ghost use Rattle.std.specs.Prelude.{◌≡◌};
 ghost use Rattle.refusals.specs.Answers.{verdict, outcome};
-ghost use Rattle.refusals.specs.Refusals.{verdict_of};
+ghost use Rattle.refusals.specs.Refusals.{answer_of};
 ghost use Rattle.backward.specs.Predecessors.{from_first, after};
-ghost use Rattle.backward_calls.specs.Predecessors.{predecessor_of, step_back_conditions, step_back_from};
-ghost use Rattle.backward_calls.specs.Predecessors.{PredecessorKept};
+ghost use Rattle.backward_calls.specs.Predecessors.{step_back_conditions, step_back_from, PredecessorKept};
 
+use backward::predecessors;
 use psvn_calls::{check_application, check_state};
-use refusals::{Refusal, Verdict};
-
-// What stepping back answers.
-#[derive(Drop)]
-pub enum Predecessor {
-    Found,
-    NoneFurther,
-    Refused(Refusal),
-}
+use refusals::Refusal;
 
 // Checks what stepping back after an earlier state is handed; `room` is the length of the buffer.
-fn check_step_back(block: &[u8], rule: usize, state: &[u8], earlier: &[u8], room: usize) -> Verdict
-    ensures { verdict_of result ≡ verdict
+#[tactic(auto, using(crate::proofs::Conditions::checks), unfolding(crate::specs::Predecessors::step_back_conditions))]
+fn check_step_back(
+    block: &[u8],
+    rule: usize,
+    state: &[u8],
+    earlier: &[u8],
+    room: usize,
+) -> Result<(), Refusal>
+    ensures { answer_of result ≡ verdict
         (step_back_conditions block.now rule state.now (after earlier.now) room) }
 {
-    let checked = check_state(block, state);
-    if let Verdict::Refused(refusal) = checked {
-        return Verdict::Refused(refusal);
-    }
+    check_state(block, state)?;
     if !blocks::states::state_ok(block, earlier) {
-        return Verdict::Refused(Refusal::State);
+        return Err(Refusal::State);
     }
     if blocks::layout::rules(block) <= rule {
-        return Verdict::Refused(Refusal::Rule);
+        return Err(Refusal::Rule);
     }
     if room < blocks::layout::positions(block) {
-        return Verdict::Refused(Refusal::Buffer);
+        return Err(Refusal::Buffer);
     }
-    Verdict::Accepted
+    Ok(())
 }
 
-// Steps back from 'first': writes the first state in rank order that the rule takes to `state` at the front of `out`,
-// or there is none and nothing is written. Refused with 3 to 7, 8, 9, 11.
-pub fn first_predecessor(block: &[u8], rule: usize, state: &[u8], out: &mut [u8]) -> Predecessor
-    ensures out_after { outcome (predecessor_of result) out.new ≡
+// Steps back from 'first': writes the first state in rank order that the rule takes to `state` at the front of `out`
+// and tells that one was found, or there is none and nothing is written. Refused with 3 to 7, 8, 9, 11.
+#[tactic(auto, using(crate::proofs::Promises::steps_back), unfolding(crate::specs::Predecessors::step_back_from))]
+pub fn first_predecessor(
+    block: &[u8],
+    rule: usize,
+    state: &[u8],
+    out: &mut [u8],
+) -> Result<bool, Refusal>
+    ensures out_after { outcome (answer_of result) out.new ≡
         step_back_from block.now rule state.now from_first out.old }
     ensures predecessor_kept { PredecessorKept block.now rule state.now from_first
-        (predecessor_of result) out.new }
+        (answer_of result) out.new }
 {
-    let checked = check_application(block, rule, state, out.len());
-    if let Verdict::Refused(refusal) = checked {
-        return Predecessor::Refused(refusal);
-    }
-    if backward::predecessors::first_predecessor(block, rule, state, out) {
-        return Predecessor::Found;
-    }
-    Predecessor::NoneFurther
+    check_application(block, rule, state, out.len())?;
+    Ok(predecessors::first_predecessor(block, rule, state, out))
 }
 
 // Steps back after an earlier state, which may be any state: writes the next one in rank order that the rule takes to
-// `state` at the front of `out`, or there is none further and nothing is written. Refused with 3 to 7, 8 (for both
-// states), 9, 11.
+// `state` at the front of `out` and tells that one was found, or there is none further and nothing is written. Refused
+// with 3 to 7, 8 (for both states), 9, 11.
+#[tactic(auto, using(crate::proofs::Promises::steps_back), unfolding(crate::specs::Predecessors::step_back_from))]
 pub fn next_predecessor(
     block: &[u8],
     rule: usize,
     state: &[u8],
     earlier: &[u8],
     out: &mut [u8],
-) -> Predecessor
-    ensures out_after { outcome (predecessor_of result) out.new ≡ step_back_from
+) -> Result<bool, Refusal>
+    ensures out_after { outcome (answer_of result) out.new ≡ step_back_from
         block.now rule state.now (after earlier.now) out.old }
     ensures predecessor_kept { PredecessorKept block.now rule state.now (after earlier.now)
-        (predecessor_of result) out.new }
+        (answer_of result) out.new }
 {
-    let checked = check_step_back(block, rule, state, earlier, out.len());
-    if let Verdict::Refused(refusal) = checked {
-        return Predecessor::Refused(refusal);
-    }
-    if backward::predecessors::next_predecessor(block, rule, state, earlier, out) {
-        return Predecessor::Found;
-    }
-    Predecessor::NoneFurther
+    check_step_back(block, rule, state, earlier, out.len())?;
+    Ok(predecessors::next_predecessor(block, rule, state, earlier, out))
 }

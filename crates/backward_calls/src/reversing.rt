@@ -1,31 +1,19 @@
 // Reversible by form.
 ghost use Rattle.std.specs.Prelude.{◌≡◌};
-ghost use Rattle.backward_calls.specs.Reversing.{reversibility_of, test_reversible, ReversibilityKept};
+ghost use Rattle.refusals.specs.Refusals.{answer_of};
+ghost use Rattle.backward_calls.specs.Reversing.{test_reversible, ReversibilityKept};
 
-use refusals::{Refusal, Verdict};
-
-// Whether a rule is reversible by form.
-#[derive(Drop)]
-pub enum Reversibility {
-    Reversible,
-    NotReversible,
-    Refused(Refusal),
-}
+use refusals::Refusal;
 
 // Whether a rule is reversible by form. Refused with 3 to 7, 9.
-pub fn test_reversible(block: &[u8], rule: usize) -> Reversibility
-    ensures result_value { reversibility_of result ≡ test_reversible block.now rule }
-    ensures reversibility_kept { ReversibilityKept block.now rule (reversibility_of result) }
+#[tactic(auto, using(crate::proofs::Promises::forms), unfolding(crate::specs::Reversing::test_reversible, crate::specs::Reversing::reversible_conditions))]
+pub fn test_reversible(block: &[u8], rule: usize) -> Result<bool, Refusal>
+    ensures result_value { answer_of result ≡ test_reversible block.now rule }
+    ensures reversibility_kept { ReversibilityKept block.now rule (answer_of result) }
 {
-    let checked = blocks::validity::check(block);
-    if let Verdict::Refused(refusal) = checked {
-        return Reversibility::Refused(refusal);
-    }
+    blocks::validity::check(block)?;
     if blocks::layout::rules(block) <= rule {
-        return Reversibility::Refused(Refusal::Rule);
+        return Err(Refusal::Rule);
     }
-    if backward::reversible::reversible(block, rule) {
-        return Reversibility::Reversible;
-    }
-    Reversibility::NotReversible
+    Ok(backward::reversible::reversible(block, rule))
 }

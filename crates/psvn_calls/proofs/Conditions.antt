@@ -12,7 +12,7 @@ use borrow.Author.Tests.{leb-true, ltb-true}
 use Rattle.refusals.specs.Answers.{told, verdict, ◌unless◌}
 use Rattle.refusals.proofs.Verdicts.{verdict-told, verdict-parts, verdict-behind, verdict-before}
 use Rattle.blocks.specs.Layout.{head_length, positions, rules}
-use Rattle.blocks.specs.Validity.{block_conditions, Sized, Valid}
+use Rattle.blocks.specs.Validity.{block_conditions, Headed, Sized, Valid}
 use Rattle.blocks.specs.States.{state_ok}
 use Rattle.blocks.proofs.Accepted.{accepted-valid}
 use Rattle.blocks.proofs.StateLaws.{state-length}
@@ -41,6 +41,9 @@ module _ (b s : List ℕ) where
 
   pub state-ready : verdict (state_conditions b s) ≡ told tt → Sized b × (length s ≡ positions b)
   state-ready h = let k = state-accepted h in (k.valid.sized, state-length b s k.state)
+
+  pub state-headed : verdict (state_conditions b s) ≡ told tt → Headed b
+  state-headed h = (state-accepted h).valid.sized.headed
 
   pub state-long : verdict (state_conditions b s) ≡ told tt → head_length ≤ length b
   state-long h = (state-accepted h).valid.sized.headed.long
