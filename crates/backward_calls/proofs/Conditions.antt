@@ -1,22 +1,30 @@
 -- What an accepting verdict on the conditions of stepping back says (`step-back-accepted`), and that stepping back from
--- 'first' is refused as applying the rule is (`first-conditions`). `checks` are the lemmas that the check rests on.
+-- 'first' is refused as applying the rule is (`first-conditions`); and the parts of those of the test of a rule's form
+-- (`reversible-parts`). `checks` are the lemmas that the check rests on.
 -- The calls of stepping back rest on these once they have refused what is to be refused.
-use mathlib.Core.Path.{◌≡◌}
+use mathlib.Core.Path.{◌≡◌, refl}
 use mathlib.Core.Bool.{true}
-use mathlib.Core.List.{List, [], ◌∷◌}
+use mathlib.Core.List.{List, [], ◌∷◌, ◌++◌}
 use Prim.Native.Nat.{ℕ, ◌≤◌, ◌<◌}
 use lib.Dec.{leb, ltb}
 use borrow.Author.Tests.{leb-true, ltb-true}
 use Rattle.refusals.specs.Answers.{told, verdict, ◌unless◌}
 use Rattle.refusals.proofs.Verdicts.{verdict-told, verdict-parts, verdict-skip, verdict-behind, verdict-before}
 use Rattle.blocks.specs.Layout.{positions, rules}
-use Rattle.blocks.specs.Validity.{Valid}
+use Rattle.blocks.specs.Validity.{block_conditions, Valid}
 use Rattle.blocks.specs.States.{state_ok}
 use Rattle.backward.specs.Predecessors.{Earlier, from_first}
 use Rattle.psvn_calls.specs.Checking.{state_conditions}
 use Rattle.psvn_calls.specs.Applying.{apply_conditions}
 use Rattle.psvn_calls.proofs.Conditions.{state-accepted, state-headed, state-long}
+use Rattle.backward_calls.specs.Reversing.{reversible_conditions}
 use Rattle.backward_calls.specs.Predecessors.{earlier_ok, step_back_conditions}
+
+-- the test of a rule's form is turned back by the block, then by the rule number
+pub reversible-parts :
+    (b : List ℕ) (r : ℕ) → reversible_conditions b r ≡ block_conditions b ++ (9 unless ltb r (rules b) ∷ [])
+unfolding reversible_conditions
+reversible-parts b r = refl
 
 module _ (b s : List ℕ) (r room : ℕ) where
   -- from 'first' there is no earlier state to refuse

@@ -25,7 +25,7 @@ use Rattle.psvn_calls.specs.Applying.{apply_conditions}
 use Rattle.psvn_calls.proofs.Conditions.{apply-accepted}
 use Rattle.backward_calls.specs.Predecessors.{step_back_conditions, step_back_from, PredecessorKept}
 use Rattle.backward_calls.specs.Reversing.{reversible_conditions, test_reversible, ReversibilityKept}
-use Rattle.backward_calls.proofs.Conditions.{first-conditions, step-back-accepted}
+use Rattle.backward_calls.proofs.Conditions.{reversible-parts, first-conditions, step-back-accepted}
 
 module _ (b : List ℕ) (r : ℕ) where
   module _ (s : List ℕ) (earlier : Earlier) (out : List ℕ) where
@@ -95,4 +95,4 @@ module _ (b : List ℕ) (r : ℕ) where
 -- what stepping back rests on, and what the test of a rule's form rests on
 pub ruleset steps_back = (first-conditions, step-back-accepted, apply-accepted, stepped-kept, first-kept)
 
-pub ruleset forms = (verdict-behind, verdict-before, accepted-valid, reversing-kept)
+pub ruleset forms = (reversible-parts, verdict-behind, verdict-before, accepted-valid, reversing-kept)
