@@ -5,3 +5,4 @@ pub mod Layout
 pub mod Validity
 pub mod States
 pub mod Remapping
+pub mod Sides

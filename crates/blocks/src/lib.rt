@@ -5,6 +5,7 @@ pub mod exercise;
 pub mod labels;
 pub mod layout;
 pub mod remapping;
+pub mod sides;
 pub mod states;
 pub mod terms;
 pub mod validity;

@@ -8,6 +8,7 @@ ghost use Rattle.blocks.specs.Validity.{Sized};
 
 use basics::sets::lowest_of;
 use blocks::layout;
+use blocks::sides::Sides;
 use blocks::terms::{Term, decode, is_dash};
 use compiling::place_sides;
 use words::code::{COSTS, Code};
@@ -137,7 +138,14 @@ fn reverse_rule(block: &[u8], r: usize, code: &mut Code)
         left: &block[left..left + n],
         right: &block[right..right + n],
     };
-    place_sides(&rule.reversed(), 0, RIGHT, n, code, r);
+    let reversed = rule.reversed();
+    let sides = Sides {
+        bytes: &reversed,
+        left: 0,
+        right: RIGHT,
+        n,
+    };
+    place_sides(&sides, code, r);
     code[COSTS + r] = rule.groups();
 }
 

@@ -1,7 +1,7 @@
 -- Rules and goals placed one after another: the two sides of a rule (`sides-placed`), a rule with its cost, which keeps
 -- the rules before it (`rule-placed`), a goal, which keeps those before it (`goal-kept`), and the whole (`compiled`).
 -- The loops over rules and goals, and compiling a block, rest on these; what is said of sides carries over to their
--- numbers' other names (`named`).
+-- other names (`named`).
 use mathlib.Core.Path.{◌≡◌, refl, ap, ◌∙◌, subst}
 use mathlib.Core.List.{List}
 use Prim.Native.Nat.{ℕ, ◌+◌, ◌*◌, ◌%◌, ◌≤◌, ◌<◌}
@@ -10,7 +10,7 @@ use native.Mathlib.Omega.{arith}
 use lib.ListN.{length, get_or, set}
 use lib.Seq.{get_or-set_same, get_or-set_other}
 use Rattle.basics.proofs.Parts.{outside-then, outside-within}
-use Rattle.blocks.specs.Layout.{positions, cost_of, side_at, left_of, right_of}
+use Rattle.blocks.specs.Layout.{positions, cost_of, left_of, right_of}
 use Rattle.blocks.specs.Validity.{Valid}
 use Rattle.words.specs.Sides.{left_place, right_place, goal_place, cost_word}
 use Rattle.words.specs.Compiled.{Tested, Compiled}
@@ -33,22 +33,21 @@ sides-placed {n} {left} {right} {code₀} {code₁} {code₂} r p q =
           (outside-within (12 * r) (12 * r + 12) (omega arith) (omega arith) q.code);
     }
 
--- what is said of sides, their numbers by other names
+-- what is said of sides, by other names
 pub named :
-    {n n' l l' s s' : ℕ} (P : ℕ → (ℕ → ℕ) → (ℕ → ℕ) → Type 0) (b : List ℕ) → n ≡ n' → l ≡ l' → s ≡ s'
-    → P n (side_at b l) (side_at b s) → P n' (side_at b l') (side_at b s')
-named {n} {n'} {l} {l'} {s} {s'} P b e f g p =
-    subst (λ (k : ℕ). P n' (side_at b l') (side_at b k)) g
-    (subst (λ (k : ℕ). P n' (side_at b k) (side_at b s)) f (subst (λ (k : ℕ). P k (side_at b l) (side_at b s)) e p))
+    {n n' : ℕ} {l l' s s' : ℕ → ℕ} (P : ℕ → (ℕ → ℕ) → (ℕ → ℕ) → Type 0) → n ≡ n' → l ≡ l' → s ≡ s'
+    → P n l s → P n' l' s'
+named {n} {n'} {l} {l'} {s} {s'} P e f g p =
+    subst (λ (s : ℕ → ℕ). P n' l' s) g (subst (λ (l : ℕ → ℕ). P n' l s) f (subst (λ (k : ℕ). P k l s) e p))
 
 pub placed-as :
-    {n n' l l' s s' x : ℕ} {code code' : List ℕ} (b : List ℕ) → n ≡ n' → l ≡ l' → s ≡ s'
-    → SidePlaced n (side_at b l) (side_at b s) x code code' → SidePlaced n' (side_at b l') (side_at b s') x code code'
+    {n n' x : ℕ} {l l' s s' : ℕ → ℕ} {code code' : List ℕ} → n ≡ n' → l ≡ l' → s ≡ s'
+    → SidePlaced n l s x code code' → SidePlaced n' l' s' x code code'
 placed-as {x = x} {code = code} {code' = code'} = named (λ n l s. SidePlaced n l s x code code')
 
 pub sides-as :
-    {n n' l l' s s' r : ℕ} {code code' : List ℕ} (b : List ℕ) → n ≡ n' → l ≡ l' → s ≡ s'
-    → SidesPlaced n (side_at b l) (side_at b s) r code code' → SidesPlaced n' (side_at b l') (side_at b s') r code code'
+    {n n' r : ℕ} {l l' s s' : ℕ → ℕ} {code code' : List ℕ} → n ≡ n' → l ≡ l' → s ≡ s'
+    → SidesPlaced n l s r code code' → SidesPlaced n' l' s' r code code'
 sides-as {r = r} {code = code} {code' = code'} = named (λ n l s. SidesPlaced n l s r code code')
 
 -- both sides placed, and the cost stored

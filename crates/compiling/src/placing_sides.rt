@@ -1,7 +1,8 @@
 // Compiles the sides of rules and goals to the places that functions on words read (see `words::sides`), with the
 // rules' costs.
 ghost use Rattle.std.specs.Prelude.{◌≡◌, ◌+◌, ◌*◌, ◌≤◌, ◌<◌, length};
-ghost use Rattle.blocks.specs.Layout.{head_length, rules, side_at};
+ghost use Rattle.blocks.specs.Layout.{head_length, rules};
+ghost use Rattle.blocks.specs.Sides.{left_terms, right_terms};
 ghost use Rattle.blocks.specs.Validity.{Sized};
 ghost use Rattle.words.specs.Code.{code_length};
 ghost use Rattle.compiling.specs.PlacingSides.{Begun, WithConstant, WithSource, SidePlaced, SidesPlaced};
@@ -10,6 +11,7 @@ ghost use Rattle.compiling.specs.PlacingSides.{RulePlaced, RulesPlaced, GoalsPla
 use basics::first_of;
 use blocks::labels::ConcreteLabel;
 use blocks::layout;
+use blocks::sides::Sides;
 use blocks::terms::{Term, decode};
 use words::code::{
     COSTS, Code, FIRST_GOAL, FROM, GOALS, KEEP, MOVES, POSITIONS, RULES, SIDE, TO, VALUE,
@@ -61,16 +63,17 @@ impl Side {
         }
     }
 
-    // The side that begins at `side`, its first i positions made, with its term at position i, under the left side that
-    // begins at `left`. A variable that stands nowhere on the left gives 0.
-    fn with_term(self, bytes: &[u8], left: usize, side: usize, n: usize, i: usize) -> Self
-        requires n_in_bounds { (left + n ≤ length bytes.now) × (side + n ≤ length bytes.now) × (n ≤ 16) × (i < n) }
-        requires begun { Begun n (side_at bytes.now left) (side_at bytes.now side) self i }
-        ensures { Begun n (side_at bytes.now left) (side_at bytes.now side) result (i + 1) }
+    // The right one of two sides, its first i positions made, with its term at position i. A variable that stands
+    // nowhere on the left gives 0.
+    fn with_term(self, sides: &Sides, i: usize) -> Self
+        requires i_in_bounds { i < sides.now.n }
+        requires begun { Begun sides.now.n (left_terms sides.now) (right_terms sides.now) self i }
+        ensures { Begun sides.now.n (left_terms sides.now) (right_terms sides.now)
+            result (i + 1) }
     {
-        match decode(bytes[side + i]) {
+        match decode(sides.bytes[sides.right + i]) {
             Term::Label(label) => self.with_constant(i, label),
-            Term::Variable(v) => match first_of(bytes, left, n, v) {
+            Term::Variable(v) => match first_of(sides.bytes, sides.left, sides.n, v) {
                 Some(from) => self.with_source(i, from),
                 None => self,
             },
@@ -79,25 +82,24 @@ impl Side {
     }
 }
 
-// The side that begins at `side`, under the left side that begins at `left`.
-fn make_side(bytes: &[u8], left: usize, side: usize, n: usize) -> Side
-    requires { (left + n ≤ length bytes.now) × (side + n ≤ length bytes.now) × (n ≤ 16) }
-    ensures { Begun n (side_at bytes.now left) (side_at bytes.now side) result n }
+// The right one of two sides, under the left one.
+fn make_side(sides: &Sides) -> Side
+    ensures { Begun sides.now.n (left_terms sides.now) (right_terms sides.now) result sides.now.n }
 {
     let mut made = Side::default();
-    for i in 0..n {
-        made = made.with_term(bytes, left, side, n, i);
+    for i in 0..sides.n {
+        made = made.with_term(sides, i);
     }
     made
 }
 
-// Compiles the side that begins at `side`, under the left side that begins at `left`, to place x.
-fn place_side(bytes: &[u8], left: usize, side: usize, n: usize, code: &mut Code, x: usize)
-    requires { (left + n ≤ length bytes.now) × (side + n ≤ length bytes.now) × (n ≤ 16) × (x < 136) }
-    ensures { SidePlaced n (side_at bytes.now left) (side_at bytes.now side) x
+// Compiles the right one of two sides, under the left one, to place x.
+fn place_side(sides: &Sides, code: &mut Code, x: usize)
+    requires { x < 136 }
+    ensures { SidePlaced sides.now.n (left_terms sides.now) (right_terms sides.now) x
         code.old code.new }
 {
-    let made = make_side(bytes, left, side, n);
+    let made = make_side(sides);
     let at = SIDE * x;
     code[at] = made.mask;
     code[at + VALUE] = made.value;
@@ -107,14 +109,14 @@ fn place_side(bytes: &[u8], left: usize, side: usize, n: usize, code: &mut Code,
     code[at + TO] = made.to;
 }
 
-// Compiles the two sides of rule r, which begin at `left` and at `right`.
-pub fn place_sides(bytes: &[u8], left: usize, right: usize, n: usize, code: &mut Code, r: usize)
-    requires { (left + n ≤ length bytes.now) × (right + n ≤ length bytes.now) × (n ≤ 16) × (r < 64) }
-    ensures { SidesPlaced n (side_at bytes.now left) (side_at bytes.now right) r
+// Compiles the two sides of rule r.
+pub fn place_sides(sides: &Sides, code: &mut Code, r: usize)
+    requires { r < 64 }
+    ensures { SidesPlaced sides.now.n (left_terms sides.now) (right_terms sides.now) r
         code.old code.new }
 {
-    place_side(bytes, left, left, n, code, 2 * r);
-    place_side(bytes, left, right, n, code, 2 * r + 1);
+    place_side(&sides.left_twice(), code, 2 * r);
+    place_side(sides, code, 2 * r + 1);
 }
 
 // Compiles rule r: its sides, and its cost.
@@ -122,10 +124,7 @@ fn place_rule(block: &[u8], r: usize, code: &mut Code)
     requires { Sized block.now × (r < rules block.now) }
     ensures { RulePlaced block.now r code.old code.new }
 {
-    let n = layout::positions(block);
-    let left = layout::left_at(block, r);
-    let right = layout::right_at(block, r);
-    place_sides(block, left, right, n, code, r);
+    place_sides(&Sides::of(block, r), code, r);
     code[COSTS + r] = u64::from(layout::cost(block, r));
 }
 
@@ -145,11 +144,9 @@ pub fn place_goals(block: &[u8], code: &mut Code)
     requires { Sized block.now }
     ensures { GoalsPlaced block.now code.old code.new }
 {
-    let n = layout::positions(block);
     let count = layout::goals(block);
     for g in 0..count {
-        let at = layout::goal_at(block, g);
-        place_side(block, at, at, n, code, FIRST_GOAL + g);
+        place_side(&Sides::goal(block, g), code, FIRST_GOAL + g);
     }
 }
 

@@ -7,5 +7,5 @@ use Rattle.compiling.proofs.placing_sides.place_side.Goals as goal
 pub returns : goal.returns
 returns c =
     let a = c.args in
-    let h = c.requires in
-    side-placed a.code.now a.x c.make_side-made.result (omega arith) a.n _ _ h.2 c.make_side-made.ensures
+    side-placed a.code.now a.x c.make_side-made.result (omega arith) a.sides.now.n _ _ (omega arith)
+    c.make_side-made.ensures
