@@ -1,12 +1,14 @@
 // Blocks by what is known of them: a right head (`Head`), the right length too (`Block`), and all of it (`Exercise`).
 // Whoever is handed one need not ask again. Contracts see each of them as the list of its bytes.
-ghost use Rattle.std.specs.Prelude.{◌≡◌, cond, List, ℕ, ◌+◌, ◌≤◌, ◌<◌, length, Some, None};
+ghost use Rattle.std.specs.Prelude.{◌≡◌, cond, List, ℕ, ◌+◌, ◌≤◌, ◌<◌, true, length, Some, None};
 ghost use Rattle.refusals.specs.Answers.{verdict, answered};
 ghost use Rattle.refusals.specs.Refusals.{answer_of};
 ghost use Rattle.blocks.specs.Layout.{positions, labels, abstracts, rules, goals, label_count, abstract_count};
 ghost use Rattle.blocks.specs.Layout.{abstract_states, left_at, right_at, goal_at, block_length, frame_count};
 ghost use Rattle.blocks.specs.Layout.{frame_length, relabelled_length, map_byte, map_at, cost_of};
-ghost use Rattle.blocks.specs.Validity.{head_ok, shape_conditions, block_conditions, Headed, Sized, Valid};
+ghost use Rattle.blocks.specs.Layout.{side_at, relabel_head};
+ghost use Rattle.std.proofs.lemmas.List.Edits.{sets};
+ghost use Rattle.blocks.specs.Validity.{side_ok, head_ok, shape_conditions, block_conditions, Headed, Sized, Valid};
 ghost use Rattle.blocks.specs.States.{state_ok};
 
 use super::labels::{AbstractLabel, ConcreteLabel};
@@ -154,30 +156,6 @@ impl<'a> Head<'a> {
         layout::abstract_states(self.bytes)
     }
 
-    // Where the left side of rule r begins.
-    pub fn left_at(&self, r: usize) -> usize
-        requires { r ≤ rules self.now }
-        ensures { (result ≡ left_at self.now r) × (result ≤ 2134) }
-    {
-        layout::left_at(self.bytes, r)
-    }
-
-    // Where the right side of rule r begins.
-    pub fn right_at(&self, r: usize) -> usize
-        requires { r ≤ rules self.now }
-        ensures { (result ≡ right_at self.now r) × (result ≤ 2150) }
-    {
-        layout::right_at(self.bytes, r)
-    }
-
-    // Where goal g begins; behind the last goal, where the block ends.
-    pub fn goal_at(&self, g: usize) -> usize
-        requires { g ≤ goals self.now }
-        ensures { (result ≡ goal_at self.now g) × (result ≤ 2261) }
-    {
-        layout::goal_at(self.bytes, g)
-    }
-
     // How long the head demands the block to be.
     pub fn block_length(&self) -> usize
         ensures { (result ≡ block_length self.now) × (result ≤ 2261) }
@@ -204,6 +182,15 @@ impl<'a> Head<'a> {
         ensures { (result ≡ relabelled_length self.now) × (result ≤ 2261) }
     {
         layout::relabelled_length(self.bytes)
+    }
+
+    // Writes the head and the map of the relabelled block at the front, and gives the place behind them.
+    pub fn relabel_head(&self, out: &mut [u8]) -> usize
+        requires { length (relabel_head self.now) ≤ length out.old }
+        ensures value { result ≡ length (relabel_head self.now) }
+        ensures out_after { out.new ≡ sets out.old 0 (relabel_head self.now) }
+    {
+        layout::relabel_head(self.bytes, out)
     }
 
     // Condition 8: whether the bytes are a state of the block.
@@ -257,6 +244,33 @@ impl<'a> Block<'a> {
         layout::abstract_label(self.head.bytes, i, label)
     }
 
+    // Where the left side of rule r begins.
+    pub fn left_at(&self, r: usize) -> usize
+        requires { r < rules self.now }
+        ensures place { result ≡ left_at self.now r }
+        ensures inside { result + positions self.now ≤ length self.now }
+    {
+        layout::left_at(self.bytes(), r)
+    }
+
+    // Where the right side of rule r begins.
+    pub fn right_at(&self, r: usize) -> usize
+        requires { r < rules self.now }
+        ensures place { result ≡ right_at self.now r }
+        ensures inside { result + positions self.now ≤ length self.now }
+    {
+        layout::right_at(self.bytes(), r)
+    }
+
+    // Where goal g begins.
+    pub fn goal_at(&self, g: usize) -> usize
+        requires { g < goals self.now }
+        ensures place { result ≡ goal_at self.now g }
+        ensures inside { result + positions self.now ≤ length self.now }
+    {
+        layout::goal_at(self.bytes(), g)
+    }
+
     // The cost of rule r.
     pub fn cost(&self, r: usize) -> u8
         requires { r < rules self.now }
@@ -283,5 +297,43 @@ impl<'a> Exercise<'a> {
     {
         validity::check(bytes)?;
         Ok(Exercise::new(bytes))
+    }
+
+    // Its bytes.
+    pub fn bytes(&self) -> &'a [u8]
+        ensures same { result.now ≡ self.now }
+        ensures valid { Valid self.now }
+    {
+        self.block.head.bytes
+    }
+
+    // Where the left side of rule r begins, a side of terms.
+    pub fn left_at(&self, r: usize) -> usize
+        requires { r < rules self.now }
+        ensures place { result ≡ left_at self.now r }
+        ensures inside { result + positions self.now ≤ length self.now }
+        ensures terms { side_ok self.now (side_at self.now result) ≡ true }
+    {
+        layout::left_at(self.bytes(), r)
+    }
+
+    // Where the right side of rule r begins, a side of terms.
+    pub fn right_at(&self, r: usize) -> usize
+        requires { r < rules self.now }
+        ensures place { result ≡ right_at self.now r }
+        ensures inside { result + positions self.now ≤ length self.now }
+        ensures terms { side_ok self.now (side_at self.now result) ≡ true }
+    {
+        layout::right_at(self.bytes(), r)
+    }
+
+    // Where goal g begins, a side of terms.
+    pub fn goal_at(&self, g: usize) -> usize
+        requires { g < goals self.now }
+        ensures place { result ≡ goal_at self.now g }
+        ensures inside { result + positions self.now ≤ length self.now }
+        ensures terms { side_ok self.now (side_at self.now result) ≡ true }
+    {
+        layout::goal_at(self.bytes(), g)
     }
 }
