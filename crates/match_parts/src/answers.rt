@@ -1,43 +1,27 @@
 // The matches of a state with the sides of a block, two characters for each side: the position that the first part
 // tells, or '-' for none, and '+' where the state matches, '.' where it does not. The left sides of the rules come
 // first, then the goals.
-ghost use Rattle.std.specs.Prelude.{◌≡◌, true, ◌+◌, ◌≤◌, ◌<◌, length};
+ghost use Rattle.std.specs.Prelude.{◌≡◌, true, ℕ, ◌+◌, ◌≤◌, ◌<◌, length};
 ghost use Rattle.blocks.specs.Layout.{positions, rules, goals};
 ghost use Rattle.blocks.specs.States.{state_ok};
 ghost use Rattle.blocks.specs.Validity.{Sized, Valid};
 
 use blocks::layout;
+use blocks::layout::BLOCK_ROOM;
 use compiling::compile;
-use exercise_texts::front;
-use psvn::matching::{Mismatch, constant_mismatch, side_matches};
+use psvn::matching::{constant_mismatch, side_matches};
 use std::io;
 use words::code::{CODE, Code, FIRST_GOAL};
 use words::matching::{matches_word, mismatch_word};
 use words::packing::pack;
 
-// Room for two characters of each side of 64 rules and 8 goals.
-const LINE: usize = 144;
-
-// The character of a position, or '-'.
-fn position_of(mismatch: Mismatch) -> u8 {
-    match mismatch {
-        Mismatch::Nowhere => 45,
-        Mismatch::At(i) => {
-            if i < 10 {
-                48 + i as u8
-            } else {
-                55 + (i % 16) as u8
-            }
-        }
-    }
-}
-
-// The character of a match.
-fn sign_of(matches: bool) -> u8 {
-    if matches {
-        return 43;
-    }
-    46
+// The characters of one side.
+fn characters(mismatch: Option<usize>, matches: bool) -> [u8; 2] {
+    let position = match mismatch {
+        Some(i) => b"0123456789ABCDEF"[i % 16],
+        None => b'-',
+    };
+    [position, if matches { b'+' } else { b'.' }]
 }
 
 // Where side k of a block begins.
@@ -47,48 +31,40 @@ fn side_at(block: &[u8], k: usize) -> usize
 {
     let rules = layout::rules(block);
     if k < rules {
-        return layout::left_at(block, k);
+        layout::left_at(block, k)
+    } else {
+        layout::goal_at(block, k - rules)
     }
-    layout::goal_at(block, k - rules)
 }
 
-// The matches of a state on bytes.
-fn by_bytes(block: &[u8], state: &[u8], line: &mut [u8; LINE])
-    requires { Sized block.now × (length state.now ≡ positions block.now) }
+// A state and side k, on bytes.
+fn on_bytes(block: &[u8], state: &[u8], k: usize) -> [u8; 2]
+    requires { Sized block.now × (length state.now ≡ positions block.now) ×
+        (k < rules block.now + goals block.now) }
 {
-    let count = layout::rules(block) + layout::goals(block);
-    for k in 0..count {
-        let at = side_at(block, k);
-        line[2 * k] = position_of(constant_mismatch(block, at, state));
-        line[2 * k + 1] = sign_of(side_matches(block, at, state));
-    }
+    let at = side_at(block, k);
+    characters(constant_mismatch(block, at, state), side_matches(block, at, state))
 }
 
-// The place of side k in a block with so many rules.
-fn place_of(rules: usize, k: usize) -> usize
+// The same for its word and the place of the side in a compiled block with so many rules.
+fn on_words(code: &Code, rules: usize, word: u64, k: usize) -> [u8; 2]
     requires { (rules ≤ 64) × (k < rules + 8) }
-    ensures { result < 136 }
 {
-    if k < rules {
-        return 2 * k;
-    }
-    FIRST_GOAL + (k - rules)
+    let x = if k < rules {
+        2 * k
+    } else {
+        FIRST_GOAL + (k - rules)
+    };
+    characters(mismatch_word(code, x, word), matches_word(code, x, word))
 }
 
-// The matches of a word.
-fn by_words(code: &Code, rules: usize, count: usize, word: u64, line: &mut [u8; LINE])
-    requires { (rules ≤ 64) × (count ≤ rules + 8) }
+// Prints the characters of so many sides as a line.
+fn print_sides<F: Fn(usize) -> [u8; 2]>(rt: &impl Print, count: usize, side: F) -> io::Result<()>
+    requires { (k : ℕ) → k < count → F.pre side k }
 {
     for k in 0..count {
-        let x = place_of(rules, k);
-        line[2 * k] = position_of(mismatch_word(code, x, word));
-        line[2 * k + 1] = sign_of(matches_word(code, x, word));
+        rt.write_all(&side(k))?;
     }
-}
-
-// Prints the first `length` characters of a line.
-fn print_line(rt: &impl Print, line: &[u8], length: usize) -> io::Result<()> {
-    rt.write_all(front(line, length))?;
     rt.write_all(b"\n")
 }
 
@@ -98,11 +74,9 @@ fn print_state(rt: &impl Print, block: &[u8], code: &Code, state: &[u8]) -> io::
 {
     let rules = layout::rules(block);
     let count = rules + layout::goals(block);
-    let mut line = [0u8; LINE];
-    by_bytes(block, state, &mut line);
-    print_line(rt, &line, 2 * count)?;
-    by_words(code, rules, count, pack(state), &mut line);
-    print_line(rt, &line, 2 * count)
+    print_sides(rt, count, |k| on_bytes(block, state, k))?;
+    let word = pack(state);
+    print_sides(rt, count, |k| on_words(code, rules, word, k))
 }
 
 // Prints the matches of goal g, where it is a state.
@@ -110,8 +84,7 @@ fn print_goal(rt: &impl Print, block: &[u8], code: &Code, g: usize) -> io::Resul
     requires { Sized block.now × (g < goals block.now) }
 {
     let at = layout::goal_at(block, g);
-    let n = layout::positions(block);
-    let state = &block[at..at + n];
+    let state = &block[at..at + layout::positions(block)];
     if blocks::states::state_ok(block, state) {
         print_state(rt, block, code, state)?;
     }
@@ -119,14 +92,22 @@ fn print_goal(rt: &impl Print, block: &[u8], code: &Code, g: usize) -> io::Resul
 }
 
 // Prints the matches of each goal of a block that is a state.
-pub fn print_states(rt: &impl Print, block: &[u8]) -> io::Result<()>
+fn print_goals(rt: &impl Print, block: &[u8]) -> io::Result<()>
     requires { Valid block.now }
 {
     let mut code = [0u64; CODE];
     compile(block, &mut code);
-    let goals = layout::goals(block);
-    for g in 0..goals {
+    for g in 0..layout::goals(block) {
         print_goal(rt, block, &code, g)?;
     }
     Ok(())
+}
+
+// Reads an exercise and prints its matches.
+pub fn print_matches(rt: &impl Print, text: &[u8]) -> io::Result<()> {
+    let mut block = [0u8; BLOCK_ROOM];
+    match text_calls::read_exercise(text, &mut block) {
+        Ok(length) => print_goals(rt, &block[..length]),
+        Err(_) => Ok(()),
+    }
 }

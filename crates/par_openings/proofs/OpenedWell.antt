@@ -17,8 +17,9 @@ use Rattle.frames.specs.Lines.{lines_of}
 use Rattle.frames.specs.Reading.{read_conditions}
 use Rattle.frames.proofs.AcceptedText.{read-valid}
 use Rattle.par_openings.specs.Openings.{longest_input, block_room, exercise_lines, exercise_end, exercise_block}
-use Rattle.par_openings.specs.Openings.{open_conditions, Exercise, exercise, OpenOutcome, open_outcome, opened_for}
+use Rattle.par_openings.specs.Openings.{open_conditions, opened, OpenOutcome, open_outcome, opened_for}
 use Rattle.par_openings.specs.Openings.{open_exercise, FilledFront}
+use Rattle.par_openings.specs.declared.opening.Opened.{Opened}
 
 pub record OpenedWell (x block table : List ℕ) (bytes queries_at : ℕ) : Type 0 where
   pub accepted : verdict (open_conditions x) ≡ told tt
@@ -40,7 +41,7 @@ module _ (x block table block' table' : List ℕ) (k : ℕ) where
   refused-with :
       (v : Answer (Unit {0})) → open_outcome (refused k) block' table' ≡ opened_for v x block table → v ≡ refused k
   refused-with (refused n) e =
-      let answers : ◌≡◌ {A = Answer Exercise} (refused k) (refused n) = ap (λ (s : OpenOutcome). s.answer) e in
+      let answers : ◌≡◌ {A = Answer Opened} (refused k) (refused n) = ap (λ (s : OpenOutcome). s.answer) e in
       cc
   refused-with (told u) e =
       let answers = ap (λ (s : OpenOutcome). s.answer) e in
@@ -53,26 +54,26 @@ module _ (x block table block' table' : List ℕ) (k : ℕ) where
 
 module _ (x block table block' table' : List ℕ) (bytes queries_at : ℕ) where
   -- what is told of the exercise, and what is so
-  abbrev given : Exercise
-  given = exercise bytes queries_at
+  abbrev given : Opened
+  given = opened bytes queries_at
 
-  abbrev due : Exercise
-  due = exercise (length (exercise_block x)) (exercise_end x)
+  abbrev due : Opened
+  due = opened (length (exercise_block x)) (exercise_end x)
 
   by-verdict :
       (v : Answer (Unit {0})) → verdict (open_conditions x) ≡ v
       → open_outcome (told given) block' table' ≡ opened_for v x block table
       → OpenedWell x block' table' bytes queries_at
   by-verdict (refused k) h e =
-      let answers : ◌≡◌ {A = Answer Exercise} (told given) (refused k) = ap (λ (s : OpenOutcome). s.answer) e in
+      let answers : ◌≡◌ {A = Answer Opened} (told given) (refused k) = ap (λ (s : OpenOutcome). s.answer) e in
       absurd (told-refused refl answers)
   by-verdict (told u) h e =
       let b = exercise_block x in
-      let fields : ◌≡◌ {A = Answer Exercise} (told given) (told due) = ap (λ (s : OpenOutcome). s.answer) e in
+      let fields : ◌≡◌ {A = Answer Opened} (told given) (told due) = ap (λ (s : OpenOutcome). s.answer) e in
       let same : given ≡ due = cc in
       let left : block' ≡ at_front b block = ap (λ (s : OpenOutcome). s.block) e in
       let filled_in : table' ≡ at_front (filled b) table = ap (λ (s : OpenOutcome). s.table) e in
-      let long : bytes ≡ length b = ap (λ (o : Exercise). o.bytes) same in
+      let long : bytes ≡ length b = ap (λ (o : Opened). o.bytes) same in
       let valid = open-valid x h in
       let part : take bytes block' ≡ b = ap (take bytes) left ∙ front-taken b block bytes long in
       record {
@@ -85,11 +86,11 @@ module _ (x block table block' table' : List ℕ) (bytes queries_at : ℕ) where
             ∙ get_or-append (filled b) (drop (length (filled b)) table) 0 k (omega (arith, ap length own))
             ∙ ap (λ (t : List ℕ). get_or t k 0) (sym own);
         block_fits = omega (arith, long, ap length left, front_fits b block);
-        begins = ap (λ (o : Exercise). o.queries_at) same;
+        begins = ap (λ (o : Opened). o.queries_at) same;
       }
 
   pub opened-well :
-      open_outcome (told (exercise bytes queries_at)) block' table' ≡ open_exercise x block table
+      open_outcome (told (opened bytes queries_at)) block' table' ≡ open_exercise x block table
       → OpenedWell x block' table' bytes queries_at
   unfolding open_exercise
   opened-well e = by-verdict (verdict (open_conditions x)) refl e

@@ -61,9 +61,9 @@ first-handed ls = by-head (head_reads ls) where
 pub head-handed : (ls : List (List ℕ)) (r : Heading) → HeadRead ls r → HeadRead (exercise_lines ls) r
 head-handed ls r h =
     let alone : HeadRead (first_line ls ∷ []) r =
-    record { right = h.right; onward = h.onward; judged = h.judged; decoded = h.decoded } in
+    record { right = h.right; onward = h.onward; judged = h.judged } in
     let k = subst (λ (l : List ℕ). HeadRead (l ∷ []) r) (sym (first-handed ls)) alone in
-    record { right = k.right; onward = k.onward; judged = k.judged; decoded = k.decoded }
+    record { right = k.right; onward = k.onward; judged = k.judged }
 
 module _ (x : List ℕ) where
   pub end-failed : head_reads (lines_of x) ≡ false → exercise_end x ≡ length (line_from x 0)

@@ -1,20 +1,18 @@
 -- Opening an exercise: which lines the reader receives (`exercise_lines`) and where they end (`exercise_end`), what
 -- turns an input back (`open_conditions`), and what opening leaves, for every input (`open_exercise`), the filled table
--- at the front of its buffer (`FilledFront`). `opening_of` gives the document's answer for each case of the enum. The
--- functions that open an exercise, and the whole output of `par`, are stated with these.
+-- at the front of its buffer (`FilledFront`). The functions that open an exercise, and the whole output of `par`, are
+-- stated with these.
 use Rattle.std.specs.Prelude.{◌≡◌, ℕ, ◌+◌, ◌<◌, Bool, cond, ◌&&◌, leb, length, get_or, take, drop}
 use mathlib.Core.List.{List, ◌∷◌, flatten}
 use Rattle.basics.specs.Lists.{at_front}
 use Rattle.refusals.specs.Answers.{Answer, refused, told, Condition, ◌unless◌, verdict}
-use Rattle.refusals.specs.Refusals.{refusal_number}
 use Rattle.blocks.specs.Layout.{frame_count}
 use Rattle.blocks.specs.Validity.{head_ok}
 use Rattle.filling.specs.FilledTables.{filled}
 use Rattle.frames.specs.Lines.{lines_of, line_ok}
 use Rattle.frames.specs.Places.{first_line}
 use Rattle.frames.specs.Reading.{head_of, block_of, head_line_ok, read_conditions}
-use Rattle.par_openings.specs.declared.opening.Opening.{Opening}
-use Rattle.par_openings.specs.declared.opening.Opening.TheVariants.{Opened, Refused}
+use Rattle.par_openings.specs.declared.opening.Opened.{Opened}
 
 -- the most bytes of input
 abbrev pub longest_input : ℕ
@@ -54,32 +52,24 @@ exercise_block x = block_of (exercise_lines (lines_of x))
 unfoldable pub open_conditions : List ℕ → List Condition
 open_conditions x = 2 unless leb (length x) longest_input ∷ read_conditions (exercise_lines (lines_of x)) block_room
 
--- an open exercise: how many bytes its block has, and where its query lines begin
-pub record Exercise : Type 0 where
-  pub bytes : ℕ
-  pub queries_at : ℕ
-
-abbrev pub exercise : ℕ → ℕ → Exercise
-exercise bytes queries_at = record { bytes = bytes; queries_at = queries_at }
-
-abbrev pub opening_of : Opening → Answer Exercise
-opening_of (Opened bytes queries_at) = told (exercise bytes queries_at)
-opening_of (Refused refusal) = refused (refusal_number refusal)
+-- an open exercise
+abbrev pub opened : ℕ → ℕ → Opened
+opened bytes queries_at = record { bytes = bytes; queries_at = queries_at }
 
 -- the answer, and the final contents of the lent block and table
 pub record OpenOutcome : Type 0 where
-  pub answer : Answer Exercise
+  pub answer : Answer Opened
   pub block : List ℕ
   pub table : List ℕ
 
-abbrev pub open_outcome : Answer Exercise → List ℕ → List ℕ → OpenOutcome
+abbrev pub open_outcome : Answer Opened → List ℕ → List ℕ → OpenOutcome
 open_outcome answer block table = record { answer = answer; block = block; table = table }
 
 -- refused with both as they were, or the block and its filled table at their fronts
 abbrev pub opened_for : Answer (Unit {0}) → List ℕ → List ℕ → List ℕ → OpenOutcome
 opened_for (refused number) x block table = open_outcome (refused number) block table
 opened_for (told u) x block table =
-    open_outcome (told (exercise (length (exercise_block x)) (exercise_end x))) (at_front (exercise_block x) block)
+    open_outcome (told (opened (length (exercise_block x)) (exercise_end x))) (at_front (exercise_block x) block)
     (at_front (filled (exercise_block x)) table)
 
 unfoldable pub open_exercise : List ℕ → List ℕ → List ℕ → OpenOutcome

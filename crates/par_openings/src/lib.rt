@@ -3,4 +3,4 @@
 
 mod opening;
 
-pub use opening::{LONGEST_INPUT, Opening, open};
+pub use opening::{LONGEST_INPUT, Opened, open};

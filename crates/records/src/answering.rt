@@ -12,10 +12,9 @@ ghost use Rattle.records.specs.Records.{answer_record, Written};
 
 use super::asking::limits_of;
 use super::numbers::put_number;
-use basics::copy;
 use blocks::validity::Entries;
 use queries::{LONGEST_PLAN, check_query};
-use refusals::{Refusal, Verdict, number};
+use refusals::Refusal;
 use search::{Ending, Plan, planless};
 use words::changes::Changes;
 use words::code::Code;
@@ -39,7 +38,7 @@ pub fn put_refusal(refusal: Refusal, out: &mut [u8]) -> usize
     ensures { Written (refusal_bytes (refusal_number refusal)) out.old result out.new }
 {
     out[0] = 255;
-    out[1] = number(refusal);
+    out[1] = u8::from(refusal);
     2
 }
 
@@ -61,9 +60,9 @@ fn put_plan(plan: Plan, rules: &Rules, out: &mut [u8]) -> usize
         (take plan.steps rules.now)) out.old result out.new }
 {
     put_numbers(plan, out);
-    let steps = plan.steps;
-    copy(rules, steps, &mut out[RULES..]);
-    RULES + steps
+    let end = RULES + plan.steps;
+    out[RULES..end].copy_from_slice(&rules[..plan.steps]);
+    end
 }
 
 // Writes a plan that was found behind its status and its goal, and gives the length.
@@ -115,21 +114,15 @@ pub fn answer_query(
         Rates block.now changes.now entries.now h →
         Written (answer_record block.now h query.now) out.old result out.new }
 {
-    let n = blocks::layout::positions(block);
+    let start = &query[..blocks::layout::positions(block)];
     let limits = limits_of(block, query);
-    let asked = check_query(block, &query[..n], limits);
-    if let Verdict::Refused(refusal) = asked {
-        return put_refusal(refusal, out);
+    match check_query(block, start, limits) {
+        Ok(()) => {
+            let mut rules = [0u8; LONGEST_PLAN];
+            let ending =
+                search::find_plan(block, code, changes, entries, start, limits, &mut rules);
+            write_answer(ending, &rules, out)
+        }
+        Err(refusal) => put_refusal(refusal, out),
     }
-    let mut rules = [0u8; LONGEST_PLAN];
-    let ending = search::find_plan(
-        block,
-        code,
-        changes,
-        entries,
-        &query[..n],
-        limits,
-        &mut rules,
-    );
-    write_answer(ending, &rules, out)
 }

@@ -4,7 +4,6 @@ ghost use Rattle.blocks.specs.Validity.{Headed};
 ghost use Rattle.records.specs.Records.{query_length, limits_of};
 
 use super::numbers::number_at;
-use basics::wide;
 use blocks::layout;
 use queries::Limits;
 
@@ -26,7 +25,7 @@ pub fn limits_of(block: &[u8], query: &[u8]) -> Limits
 {
     let n = layout::positions(block);
     Limits {
-        steps: wide(query[n]),
+        steps: usize::from(query[n]),
         cost: number_at(query, n + 1),
         visits: number_at(query, n + 5),
     }

@@ -1,93 +1,66 @@
 -- `par_openings::opening::exercise_end` meets its contract.
 -- Behind the head line if the head fails, else behind the frames that it demands.
 use mathlib.Core.Path.{◌≡◌, sym, ap, ap₂, ◌∙◌}
-use borrow.Author.Tests.{not-true, not-false}
 use mathlib.Core.Bool.{true}
 use mathlib.Core.List.{List}
 use Prim.Native.Nat.{ℕ, ◌+◌}
 use lib.ListN.{length, drop}
+use borrow.Author.Tests.{not-true, not-false}
+use Rattle.std.proofs.Common.{Ok}
 use Rattle.refusals.specs.Answers.{told, verdict}
-use Rattle.refusals.specs.Refusals.{verdict_of}
+use Rattle.refusals.specs.Refusals.{answer_of}
 use Rattle.blocks.specs.Layout.{frame_count}
-use Rattle.blocks.specs.Validity.{head_ok}
+use Rattle.blocks.specs.Validity.{head_ok, Headed}
 use Rattle.blocks.proofs.Accepted.{headed}
 use Rattle.frames.specs.Lines.{lines_of, line_ok}
 use Rattle.frames.specs.Places.{first_line, line_from}
-use Rattle.frames.specs.Reading.{head_of, head_conditions}
+use Rattle.frames.specs.Reading.{head_of, head_conditions, HeadRead}
+use Rattle.frames.specs.declared.reading.Heading.{Heading}
 use Rattle.frames.proofs.LinePlaces.{length_to}
-use Rattle.frames.proofs.ReadingLaws.{head-accepted}
+use Rattle.frames.proofs.ReadingLaws.{head-accepted, answered-told, answered-refused}
+use Rattle.par_openings.specs.Openings.{exercise_end}
 use Rattle.par_openings.proofs.OpeningLaws.{head-unread, head-refused, head-reads, end-failed, end_read}
 use Rattle.par_openings.proofs.opening.exercise_end.Goals as goal
-use Rattle.par_openings.proofs.opening.exercise_end.Goals.{After-head-2-1, After-lines_end, In-Refused}
-use Rattle.par_openings.proofs.opening.exercise_end.Goals.{Then-not-heading}
 
-abbrev input : Then-not-heading → List ℕ
-input c = c.args.input.now
+module _ (x : List ℕ) (heading : Heading) (read : HeadRead (lines_of x) heading) where
+  -- where the first line ends
+  first : heading.next ≡ length (line_from x 0)
+  unfolding line_from
+  first = read.onward
 
--- where the first line ends
-first : (c : Then-not-heading) → c.args.heading.next ≡ length (line_from (input c) 0)
-unfolding line_from
-first c = c.requires.onward
+  -- the head is there
+  module _ (head : List ℕ) (is : heading.head ≡ Ok head) where
+    judged : (verdict (head_conditions (lines_of x)) ≡ told tt) × (head ≡ head_of (lines_of x))
+    judged = answered-told _ _ _ (sym (ap answer_of is) ∙ read.judged)
+
+    decoded : Headed head
+    decoded = headed _ (ap head_ok judged.1 ∙ (head-accepted (lines_of x) judged.0).1)
+
+    all_lines :
+        (count : ℕ) → line_ok (first_line (lines_of x)) ≡ true → count ≡ frame_count head
+        → heading.next + length_to count (drop heading.next x) ≡ exercise_end x
+    all_lines count right e =
+        ap₂ (λ (k n : ℕ). k + length_to n (drop k x)) first (e ∙ ap frame_count judged.1)
+        ∙ sym (end_read x (head-reads (lines_of x) right judged.0))
 
 pub returns-then-not-heading : goal.returns-then-not-heading
 returns-then-not-heading c =
-    let wrong = sym c.requires.right ∙ (not-true _ c.if-not-heading.true) in
-    first c ∙ sym (end-failed (input c) (head-unread (lines_of (input c)) wrong))
-
-abbrev input-2 : In-Refused → List ℕ
-input-2 c = c.args.input.now
-
--- where the first line ends
-first-2 : (c : In-Refused) → c.args.heading.next ≡ length (line_from (input-2 c) 0)
-unfolding line_from
-first-2 c = c.requires.onward
-
--- the line is right
-right : (c : In-Refused) → line_ok (first_line (lines_of (input-2 c))) ≡ true
-right c =
-    sym c.requires.right ∙ (not-false _ c.if-not-heading.false)
-
-pub returns-in-Refused : goal.returns-in-Refused
-returns-in-Refused c =
-    let against = sym c.requires.judged ∙ ap verdict_of c.in-Refused.is in
-    first-2 c ∙ sym (end-failed (input-2 c) (head-refused (lines_of (input-2 c)) (right c) _ against))
-
-abbrev input-3 : After-head-2-1 → List ℕ
-input-3 c = c.args.input.now
-
-accepted : (c : After-head-2-1) → verdict (head_conditions (lines_of (input-3 c))) ≡ told tt
-accepted c = sym c.requires.judged ∙ ap verdict_of c.in_default.is
-
-same : (c : After-head-2-1) → c.args.heading.head ≡ head_of (lines_of (input-3 c))
-same c = c.requires.decoded (accepted c)
+    let x = c.args.input.now in
+    let wrong = sym c.requires.right ∙ not-true _ c.if-not-heading.true in
+    first x _ c.requires ∙ sym (end-failed x (head-unread (lines_of x) wrong))
 
 pub frame_count-requires : goal.frame_count-requires
-frame_count-requires c =
-    headed _ (ap head_ok (same c) ∙ (head-accepted (lines_of (input-3 c)) (accepted c)).1)
+frame_count-requires c = decoded c.args.input.now c.args.heading c.requires _ c.in-Ok.is
 
-abbrev input-4 : After-lines_end → List ℕ
-input-4 c = c.args.input.now
-
--- where the first line ends
-first-3 : (c : After-lines_end) → c.args.heading.next ≡ length (line_from (input-4 c) 0)
-unfolding line_from
-first-3 c = c.requires.onward
-
--- the line is right
-right-2 : (c : After-lines_end) → line_ok (first_line (lines_of (input-4 c))) ≡ true
-right-2 c =
-    sym c.requires.right ∙ (not-false _ c.if-not-heading.false)
-
-accepted-2 : (c : After-lines_end) → verdict (head_conditions (lines_of (input-4 c))) ≡ told tt
-accepted-2 c = sym c.requires.judged ∙ ap verdict_of c.in_default.is
-
-same-2 : (c : After-lines_end) → c.args.heading.head ≡ head_of (lines_of (input-4 c))
-same-2 c = c.requires.decoded (accepted-2 c)
-
-pub returns : goal.returns
-returns c =
-    let x = input-4 c in
-    let count = c.frame_count.ensures.0 ∙ ap frame_count (same-2 c) in
+pub returns-in-Ok : goal.returns-in-Ok
+returns-in-Ok c =
+    let right = sym c.requires.right ∙ not-false _ c.if-not-heading.false in
     c.lines_end.ensures
-    ∙ ap₂ (λ (k n : ℕ). k + length_to n (drop k x)) (first-3 c) count
-    ∙ sym (end_read x (head-reads (lines_of x) (right-2 c) (accepted-2 c)))
+    ∙ all_lines c.args.input.now c.args.heading c.requires _ c.in-Ok.is _ right c.frame_count.ensures.0
+
+pub returns-in-Err : goal.returns-in-Err
+returns-in-Err c =
+    let x = c.args.input.now in
+    let right = sym c.requires.right ∙ not-false _ c.if-not-heading.false in
+    let against = answered-refused _ _ _ (sym (ap answer_of c.in-Err.is) ∙ c.requires.judged) in
+    first x _ c.requires ∙ sym (end-failed x (head-refused (lines_of x) right _ against))
