@@ -1,6 +1,6 @@
 -- Inside a line: it has half as many bytes as characters (`half_length`), its pairs (`pair-here`) make bytes
 -- (`pair-bytes`, `no_bytes`), its end and the digits before it tell whether it is right (`ended_ok`), and the line of
--- bytes is written byte by byte (`byte-apart`, `line_length`).
+-- bytes is written byte by byte (`byte-apart`, `line-length`).
 -- The functions that test, read and write one line rest on these.
 use mathlib.Core.Path.{◌≡◌, refl, sym, ap, ap₂, ◌∙◌}
 use mathlib.Core.Bool.{Bool, true, false, ◌&&◌}
@@ -94,6 +94,6 @@ no_bytes (c ∷ []) h = refl
 no_bytes (c ∷ d ∷ l) h = absurd (omega arith)
 
 -- and its line has two digits for each, and the line feed
-pub line_length : (bytes : List ℕ) → length (line_of bytes) ≡ 2 * length bytes + 1
-line_length [] = refl
-line_length (b ∷ bytes) = omega (arith, line_length bytes)
+pub line-length : (bytes : List ℕ) → length (line_of bytes) ≡ 2 * length bytes + 1
+line-length [] = refl
+line-length (b ∷ bytes) = omega (arith, line-length bytes)

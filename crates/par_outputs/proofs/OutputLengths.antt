@@ -23,7 +23,7 @@ use Rattle.frames.specs.Reading.{read_conditions}
 use Rattle.frames.proofs.LineLaws.{line-some, line-inside}
 use Rattle.frames.proofs.ReadBytes.{block-small}
 use Rattle.par_queries.specs.QueryLines.{line_conditions, query_line_conditions, search_for, answer_line}
-use Rattle.par_queries.proofs.PrintedLines.{line-length}
+use Rattle.frames.proofs.PairLaws.{line-length}
 use Rattle.par_openings.specs.Openings.{longest_input, block_room, exercise_lines, exercise_end, exercise_block}
 use Rattle.par_openings.specs.Openings.{open_conditions}
 use Rattle.par_openings.proofs.OpeningLaws.{end-inside}

@@ -47,7 +47,7 @@ pub fn answer_line(
         return Answered { bytes, next };
     }
     let mut query = [0u8; QUERY_ROOM];
-    let asked = decode_line(&input[at..next], &mut query, 0);
+    let asked = decode_line(&input[at..next], &mut query);
     let mut answer = [0u8; RECORD_ROOM];
     let count = records::answer_query(block, code, changes, entries, &query[..asked], &mut answer);
     let bytes = encode_line(&answer[..count], line);

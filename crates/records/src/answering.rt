@@ -119,8 +119,9 @@ pub fn answer_query(
     match check_query(block, start, limits) {
         Ok(()) => {
             let mut rules = [0u8; LONGEST_PLAN];
-            let ending =
-                search::find_plan(block, code, changes, entries, start, limits, &mut rules);
+            let ending = search::find_plan(
+                block, code, changes, entries, start, limits, &mut rules,
+            );
             write_answer(ending, &rules, out)
         }
         Err(refusal) => put_refusal(refusal, out),

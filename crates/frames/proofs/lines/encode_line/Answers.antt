@@ -7,7 +7,7 @@ use lib.ListN.{length, set, drop, length-set, drop_of_length-le}
 use lib.Seq.{sets}
 use Rattle.basics.proofs.Lists.{sets-front}
 use Rattle.frames.specs.Lines.{line_feed, line_of}
-use Rattle.frames.proofs.PairLaws.{byte-apart, line_length}
+use Rattle.frames.proofs.PairLaws.{byte-apart, line-length}
 use Rattle.frames.proofs.lines.encode_line.Goals as goal
 
 -- behind the bytes the line feed alone is left
@@ -15,11 +15,11 @@ left : (bytes : List ℕ) (i : ℕ) → length bytes ≤ i → line_of (drop i b
 left bytes i h = ap line_of (drop_of_length-le bytes h)
 
 pub bounds-out-i : goal.bounds-out-i
-bounds-out-i c = omega (arith, line_length c.args.bytes.now)
+bounds-out-i c = omega (arith, line-length c.args.bytes.now)
 
 pub bounds-out-i-in-loop-i : goal.bounds-out-i-in-loop-i
 bounds-out-i-in-loop-i c =
-    omega (arith, line_length c.args.bytes.now, length-set c.loop-i.out (2 * c.loop-i.i) c.digit_of.result)
+    omega (arith, line-length c.args.bytes.now, length-set c.loop-i.out (2 * c.loop-i.i) c.digit_of.result)
 
 pub loop-i-preserved : goal.loop-i-preserved
 loop-i-preserved c =
@@ -38,7 +38,7 @@ loop-i-preserved c =
     ∙ loop.invariant
 
 pub bounds-out-end : goal.bounds-out-end
-bounds-out-end c = omega (arith, line_length c.args.bytes.now)
+bounds-out-end c = omega (arith, line-length c.args.bytes.now)
 
 pub returns : goal.returns
 returns c =
@@ -46,7 +46,7 @@ returns c =
     let loop = c.loop-i in
     let l = left bytes loop.i c.loop-i-test.false in
     let end : 2 * length bytes ≡ 2 * loop.i = omega arith in (
-      sym (line_length bytes),
+      sym (line-length bytes),
       ap (λ (k : ℕ). set loop.out k line_feed) end
           ∙ ap (sets loop.out (2 * loop.i)) (sym l)
           ∙ loop.invariant

@@ -10,39 +10,26 @@ use Rattle.search.specs.Parts.{FoundWithin, answer_of, ending_goal}
 use Rattle.search.specs.declared.running.Ending.{Ending}
 use Rattle.records.specs.Records.{answer_bytes, Written}
 use Rattle.records.proofs.answering.write_answer.Goals as goal
-use Rattle.records.proofs.answering.write_answer.Goals.{After-slice_known-in-Found-1, After-slice_known-in-NoPlan-1}
-use Rattle.records.proofs.answering.write_answer.Goals.{After-slice_known-in-Spent-1}
 
 pub put_found-requires : goal.put_found-requires
 put_found-requires c =
     (subst (FoundWithin longest_plan) c.in-Found.is c.requires.0, c.requires.1)
 
 -- what is written for an ending
-abbrev Told : After-slice_known-in-Found-1 → ℕ → List ℕ → Ending → Type 0
-Told c n new x =
-    Written (answer_bytes (ending_goal x) (answer_of c.args.rules.now x)) c.args.out.now n new
+abbrev Told : List ℕ → List ℕ → ℕ → List ℕ → Ending → Type 0
+Told rules out n new x = Written (answer_bytes (ending_goal x) (answer_of rules x)) out n new
 
 pub returns-in-Found : goal.returns-in-Found
 unfolding visits
 returns-in-Found c =
-    subst (Told c _ _) (sym c.in-Found.is) c.put_found.ensures
-
--- what is written for an ending
-abbrev Told-2 : After-slice_known-in-NoPlan-1 → ℕ → List ℕ → Ending → Type 0
-Told-2 c n new x =
-    Written (answer_bytes (ending_goal x) (answer_of c.args.rules.now x)) c.args.out.now n new
+    subst (Told c.args.rules.now c.args.out.now _ _) (sym c.in-Found.is) c.put_found.ensures
 
 pub returns-in-NoPlan : goal.returns-in-NoPlan
 unfolding visits
 returns-in-NoPlan c =
-    subst (Told-2 c _ _) (sym c.in-NoPlan.is) c.put_planless.ensures
-
--- what is written for an ending
-abbrev Told-3 : After-slice_known-in-Spent-1 → ℕ → List ℕ → Ending → Type 0
-Told-3 c n new x =
-    Written (answer_bytes (ending_goal x) (answer_of c.args.rules.now x)) c.args.out.now n new
+    subst (Told c.args.rules.now c.args.out.now _ _) (sym c.in-NoPlan.is) c.put_planless.ensures
 
 pub returns-in-Spent : goal.returns-in-Spent
 unfolding visits
 returns-in-Spent c =
-    subst (Told-3 c _ _) (sym c.in-Spent.is) c.put_planless-in-Spent.ensures
+    subst (Told c.args.rules.now c.args.out.now _ _) (sym c.in-Spent.is) c.put_planless-in-Spent.ensures
