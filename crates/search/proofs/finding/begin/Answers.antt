@@ -20,7 +20,6 @@ returns c =
     let packed = c.pack-word.ensures in
     let count = c.positions.ensures.0 in
     record {
-      long = refl;
       state = packed;
       ranked = c.ranks_word.ensures ∙ ap₂ (λ (n w : ℕ). ranks_word a.changes.now n w) count packed;
       free = refl;

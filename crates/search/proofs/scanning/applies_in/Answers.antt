@@ -6,6 +6,5 @@ use Rattle.search.proofs.scanning.applies_in.Goals as goal
 
 pub returns-then-has : goal.returns-then-has
 returns-then-has c =
-    let a = c.args in
     let plain = sym c.has.ensures ∙ c.if-has.true in
-    sym (applies-plain c.requires.2 a.r a.word plain c.requires.1)
+    c.if-has.true ∙ sym (applies-plain c.requires.2 c.args.r c.args.word plain c.requires.1)

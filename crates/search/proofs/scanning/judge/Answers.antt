@@ -13,7 +13,8 @@ use Rattle.words.specs.Changes.{map_count}
 use Rattle.words.specs.Sides.{cost_word}
 use Rattle.figures.specs.Figures.{entry_figure, largest_at}
 use Rattle.figures.proofs.FigureLaws.{first-low, second-low, first-sum, second-sum, one-sum, two-sums}
-use Rattle.search.specs.Run.{cost_at, threshold}
+use Rattle.search.specs.declared.run.Run.{Run}
+use Rattle.search.specs.Run.{cost_at}
 use Rattle.search.specs.Parts.{Here, figure_at}
 use Rattle.search.proofs.Scans.{offered-low, rule-few, cost-small, late-noted, judged-above}
 use Rattle.search.proofs.scanning.judge.Goals as goal
@@ -25,7 +26,7 @@ Summed cost entry sum = (sum ≡ cost + entry) × (sum ≤ cost + mark)
 
 -- a rule that costs as much as is paid
 module _
-    {code changes run : List ℕ} {depth : ℕ} (k : Here code changes run depth) (rule charge : ℕ)
+    {code changes : List ℕ} {run : Run} {depth : ℕ} (k : Here code changes run depth) (rule charge : ℕ)
     (paid : (charge ≡ cost_word code rule) × (charge ≤ 255)) (table : List ℕ) (ranks : ℕ) where
   abbrev cost : ℕ
   cost = cost_at run depth + charge
@@ -63,13 +64,13 @@ module _
 
   -- below the mark those of all tables tell it
   one-within :
-      threshold run < mark → cost + first ≤ threshold run → map_count changes ≤ 1 → exact ≤ threshold run
+      run.threshold < mark → cost + first ≤ run.threshold → map_count changes ≤ 1 → exact ≤ run.threshold
   one-within under a few =
       omega (arith, charged, one-sum cost small table ranks _ _ under a few k.given.ready.some_map)
 
   two-within :
-      threshold run < mark → cost + first ≤ threshold run → map_count changes ≤ 2 → 1 < map_count changes
-      → cost + second ≤ threshold run → exact ≤ threshold run
+      run.threshold < mark → cost + first ≤ run.threshold → map_count changes ≤ 2 → 1 < map_count changes
+      → cost + second ≤ run.threshold → exact ≤ run.threshold
   two-within under a few two b = omega (arith, charged, two-sums cost small table ranks _ _ under a few two b)
 
 pub cost_word-requires : goal.cost_word-requires
@@ -124,8 +125,8 @@ returns c =
     let paid = c.cost_word.ensures in
     let closed = or-false _ _ (sym c.is_open.ensures ∙ c.if-is_open.false) in
     let few = ltb-false 2 (map_count a.changes.now) closed.0 in
-    let under = leb-false mark (threshold a.run.now) closed.1 in
-    let low : c.entry_sum-first.result ≤ threshold a.run.now = c.if-run-first.false in
+    let under = leb-false mark a.run.now.threshold closed.1 in
+    let low : c.entry_sum-first.result ≤ a.run.now.threshold = c.if-run-first.false in
     let sum = c.entry_sum-first.ensures.0 in (
       elim c.if-map_count-gt1.branch [
         | then-map_count-gt1+else-run-second w ↦

@@ -5,7 +5,7 @@ use Prim.Native.Nat.{ℕ}
 use native.Mathlib.Omega.{arith}
 use Rattle.words.specs.Sides.{step_word}
 use Rattle.figures.specs.Figures.{StandsFor}
-use Rattle.search.specs.Run.{state_at, threshold, least_so_far, tally_of}
+use Rattle.search.specs.Run.{state_at}
 use Rattle.search.specs.OnWords.{on_path}
 use Rattle.search.specs.Parts.{figure_at}
 use Rattle.search.proofs.Scans.{offered-low, rule-few, cost-small}
@@ -34,7 +34,7 @@ stands :
     (c : After-note)
     → (
     let run = c.args.run.now in
-    StandsFor (threshold run) (least_so_far run) c.figure-total.result (exact c))
+    StandsFor run.threshold run.tally.least c.figure-total.result (exact c))
 stands c =
     let a = c.args in
     rw c.cost_word.ensures.0 at c.figure-total.ensures
@@ -44,7 +44,7 @@ returns-then-run-total c =
     let a = c.args in
     let run = a.run.now in
     let child = step_word a.code.now a.rule (state_at run a.depth) in
-    let same = stands-noted _ (tally_of run) _ (exact c) (on_path run a.depth child) (stands c) in (
+    let same = stands-noted _ run.tally _ (exact c) (on_path run a.depth child) (stands c) in (
       stands-above _ _ _ _ (stands c) c.if-run-total.true,
       rw same at c.note.ensures,
     )
@@ -59,7 +59,7 @@ stands-2 :
     (c : Else-run-total)
     → (
     let run = c.args.run.now in
-    StandsFor (threshold run) (least_so_far run) c.figure-total.result (exact-2 c))
+    StandsFor run.threshold run.tally.least c.figure-total.result (exact-2 c))
 stands-2 c =
     let a = c.args in
     rw c.cost_word.ensures.0 at c.figure-total.ensures

@@ -2,15 +2,14 @@
 -- What the rule offers is known by its figure, and where that is within the threshold by its state.
 use mathlib.Core.Path.{◌≡◌, refl, sym, ap, ◌∙◌}
 use mathlib.Core.Bool.{Bool, true, false}
-use mathlib.Core.List.{List}
-use Prim.Native.Nat.{ℕ}
 use native.Mathlib.Omega.{arith}
 use Rattle.words.specs.Sides.{step_word}
+use Rattle.search.specs.declared.run.Run.{Run}
 use Rattle.search.specs.Run.{state_at, cost_at}
 use Rattle.search.specs.OnWords.{on_path}
 use Rattle.search.specs.Parts.{Offered, Judged}
 use Rattle.search.proofs.RunStateLaws.{carried_same}
-use Rattle.search.proofs.Scans.{rules-low, depth_below, parts-some, ranks-led}
+use Rattle.search.proofs.Scans.{rules-low, parts-some, ranks-led}
 use Rattle.search.proofs.Scans.{offered-applied, pass-idle, pass-seen, pass-overshoot, pass_on}
 use Rattle.search.proofs.Scans.{found-due, put_same}
 use Rattle.search.proofs.scanning.try_rule.Goals as goal
@@ -48,7 +47,7 @@ tested c =
     let a = c.args in
     let kept = same (goal.at.After-on_path c).Else-not-judge in
     ap (on_path a.run.now a.depth) (sym c.step_word-child.ensures)
-    ∙ ap (λ (run : List ℕ). on_path run a.depth c.step_word-child.result) (sym kept)
+    ∙ ap (λ (run : Run). on_path run a.depth c.step_word-child.result) (sym kept)
     ∙ sym c.on_path.ensures
 
 pub applies_in-requires : goal.applies_in-requires
@@ -62,9 +61,9 @@ applies_in-requires c =
 pub returns-then-not-applies_in : goal.returns-then-not-applies_in
 returns-then-not-applies_in c =
     let k = c.requires.here.0 in
-    pass_on (depth_below k)
+    pass_on
     (pass-idle _ _ _ _ _ _ c.requires.rule_bound.0 (sym c.applies_in.ensures ∙ c.if-not-applies_in.true) _ _ refl)
-    (carried_same k.limited.visits_small refl)
+    (carried_same refl)
 
 pub next_ranks-ranks-requires : goal.next_ranks-ranks-requires
 next_ranks-ranks-requires c =
@@ -80,7 +79,7 @@ returns-then-not-judge c =
     let k = c.requires.here.0 in
     let way = goal.at.returns-then-not-judge c in
     let above = judged way.After-judge false c.if-not-judge.true in
-    pass_on (depth_below k)
+    pass_on
     (pass-overshoot _ _ _ _ _ (offered-applied _ _ _ _ _ k (offered way.After-next_ranks-ranks)) above.0 _ _ refl)
     above.1
 
@@ -89,15 +88,15 @@ returns-then-on_path c =
     let k = c.requires.here.0 in
     let way = goal.at.returns-then-on_path c in
     rw (same way.Else-not-judge)
-    (pass_on (depth_below k)
+    (pass_on
     (pass-seen _ _ _ _ _ (offered-applied _ _ _ _ _ k (offered way.After-next_ranks-ranks))
     (tested way.After-on_path ∙ c.if-on_path.true) _ _ refl)
-    (carried_same k.limited.visits_small refl))
+    (carried_same refl))
 
-pub overflow_add-cost-2 : goal.overflow_add-cost-2
-overflow_add-cost-2 c =
+pub overflow_add-cost : goal.overflow_add-cost
+overflow_add-cost c =
     let k = c.requires.here.0 in
-    let kept = ap (λ (run : List ℕ). cost_at run c.args.depth) (same (goal.at.overflow_add-cost-2 c).Else-not-judge) in
+    let kept = ap (λ (run : Run). cost_at run c.args.depth) (same (goal.at.overflow_add-cost c).Else-not-judge) in
     record { fits = omega (arith, kept, k.cost_low, k.limited.threshold_low, c.cost_word.ensures.1) }
 
 pub put-requires : goal.put-requires
@@ -113,6 +112,6 @@ returns c =
     let way = goal.at.returns c in
     let o = offered way.After-next_ranks-ranks in
     found-due _ _ _ _ _ (offered-applied _ _ _ _ _ k o) (judged way.After-judge true c.if-not-judge.false).0
-    k.limited.threshold_low k.limited.visits_small (tested way.After-on_path ∙ c.if-on_path.false)
+    k.limited.threshold_low (tested way.After-on_path ∙ c.if-on_path.false)
     c.next_ranks-ranks.result (ranks-led k _ _ o.low o.can o.led) _
     (put_same c.step_word-child.ensures c.cost_word.ensures.0 (same way.Else-not-judge) c.put.ensures)
