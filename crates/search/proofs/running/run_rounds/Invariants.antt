@@ -7,7 +7,7 @@ use Rattle.search.proofs.running.run_rounds.Given as goal
 
 abbrev pub invariant-loop-threshold : goal.invariant-loop-threshold
 invariant-loop-threshold l =
-    Left l.code l.changes l.table (l.initial.run.steps) l.cost (l.initial.run.allowance) l.first
+    Left l.code l.changes l.table l.initial.run.steps l.cost l.initial.run.allowance l.first
     (state_at l.initial.run 0) l.run l.threshold
 
 abbrev pub decreases-loop-threshold : goal.decreases-loop-threshold

@@ -26,12 +26,17 @@ by-test code run depth rule figure child b x made is e =
 
 pub returns-then-not-on_path : goal.returns-then-not-on_path
 returns-then-not-on_path c =
-    let told = by-test _ c.args.run.now c.args.depth _ c.args.figure _ _ _ c.step_word-child.ensures c.on_path.ensures c.if-not-on_path.true in
+    let told =
+    by-test _ c.args.run.now c.args.depth _ c.args.figure _ _ _ c.step_word-child.ensures c.on_path.ensures
+    c.if-not-on_path.true in
     record { told = rw (told, c.overshoot.ensures) refl }
 
 pub returns-else-not-on_path : goal.returns-else-not-on_path
 returns-else-not-on_path c =
-    carried_same (sym (by-test _ c.args.run.now c.args.depth _ _ _ _ _ c.step_word-child.ensures c.on_path.ensures c.if-not-on_path.false))
+    carried_same
+    (sym
+    (by-test _ c.args.run.now c.args.depth _ _ _ _ _ c.step_word-child.ensures c.on_path.ensures
+    c.if-not-on_path.false))
 
 pub returns-else-figure-run : goal.returns-else-figure-run
 returns-else-figure-run c =
