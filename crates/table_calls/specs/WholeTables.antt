@@ -1,29 +1,18 @@
 -- Filling and testing the tables of all maps, as public calls: `fill_table` is the answer with the final contents of
 -- the lent table, `test_table` the answer, for every input; `FillingKept` and `TableTestKept` are what they promise.
--- `filling_of` and `table_test_of` give the document's answer for each case of their enums; `table_conditions` turn
--- both calls back.
+-- `table_conditions` turn both calls back.
 use Rattle.std.specs.Prelude.{◌≡◌, ℕ, Bool, true, false, List, [], ◌∷◌, ◌++◌, leb, length}
 use Rattle.basics.specs.Lists.{at_front}
 use Rattle.refusals.specs.Answers.{Answer, refused, told, Condition, ◌unless◌, verdict, answered}
 use Rattle.refusals.specs.Answers.{Outcome, outcome, guarded}
-use Rattle.refusals.specs.Refusals.{refusal_number}
 use Rattle.maps.specs.Maps.{all_entries, exercise_conditions}
 use Rattle.tables.specs.Tables.{NeverTooHigh}
 use Rattle.map_tables.specs.MapTables.{largest_entry, all_pass}
 use Rattle.map_fills.specs.MapFills.{all_filled, LeastEntries}
-use Rattle.table_calls.specs.declared.whole_tables.Filling.{Filling}
-use Rattle.table_calls.specs.declared.whole_tables.Filling.TheVariants as filling
-use Rattle.table_calls.specs.declared.whole_tables.TableTest.{TableTest}
-use Rattle.table_calls.specs.declared.whole_tables.TableTest.TheVariants as test
 
 -- 3 to 7, 14, 15, then 12; `room` is the length of the table, which is to hold the tables of all maps
 unfoldable pub table_conditions : List ℕ → List ℕ → ℕ → List Condition
 table_conditions b maps room = exercise_conditions b maps ++ (12 unless leb (all_entries b maps) room ∷ [])
-
--- done
-abbrev pub filling_of : Filling → Answer (Unit {0})
-filling_of filling.Filled = told tt
-filling_of (filling.Refused refusal) = refused (refusal_number refusal)
 
 -- the filled tables stand at the front, the block's own first; further elements keep their contents
 unfoldable pub fill_table : List ℕ → List ℕ → List ℕ → Outcome (Unit {0})
@@ -36,11 +25,6 @@ FillingKept b maps (told u) t = LeastEntries b maps t
 FillingKept b maps (refused number) t = Unit {0}
 
 -- passes or fails
-abbrev pub table_test_of : TableTest → Answer Bool
-table_test_of test.Passes = told true
-table_test_of test.Fails = told false
-table_test_of (test.Refused refusal) = refused (refusal_number refusal)
-
 unfoldable pub test_table : List ℕ → List ℕ → List ℕ → Answer Bool
 test_table b maps t = answered (verdict (table_conditions b maps (length t))) (all_pass b maps t)
 

@@ -4,5 +4,5 @@
 mod estimating;
 mod whole_tables;
 
-pub use estimating::{Estimate, look_up_estimate};
-pub use whole_tables::{Filling, TableTest, fill_table, test_table};
+pub use estimating::look_up_estimate;
+pub use whole_tables::{fill_table, test_table};

@@ -2,68 +2,43 @@
 // lent behind the block, and an empty slice lends none.
 ghost use Rattle.std.specs.Prelude.{◌≡◌};
 ghost use Rattle.refusals.specs.Answers.{verdict, outcome};
-ghost use Rattle.refusals.specs.Refusals.{verdict_of};
-ghost use Rattle.table_calls.specs.WholeTables.{table_conditions, filling_of, fill_table, FillingKept};
-ghost use Rattle.table_calls.specs.WholeTables.{table_test_of, test_table, TableTestKept};
+ghost use Rattle.refusals.specs.Refusals.{answer_of};
+ghost use Rattle.table_calls.specs.WholeTables.{table_conditions, fill_table, FillingKept, test_table, TableTestKept};
 
-use refusals::{Refusal, Verdict};
-
-// What a fill answers.
-#[derive(Drop)]
-pub enum Filling {
-    Filled,
-    Refused(Refusal),
-}
-
-// What the lower-bound test answers.
-#[derive(Drop)]
-pub enum TableTest {
-    Passes,
-    Fails,
-    Refused(Refusal),
-}
+use refusals::Refusal;
 
 // Checks a block with its further maps and the length of a table: accepted, or refused with 3 to 7, 14, 15, 12.
-fn check_table(block: &[u8], maps: &[u8], room: usize) -> Verdict
-    ensures { verdict_of result ≡ verdict (table_conditions block.now maps.now room) }
+#[tactic(auto, using(crate::proofs::Conditions::checks), unfolding(crate::specs::WholeTables::table_conditions))]
+fn check_table(block: &[u8], maps: &[u8], room: usize) -> Result<(), Refusal>
+    ensures { answer_of result ≡ verdict (table_conditions block.now maps.now room) }
 {
-    let checked = maps::check(block, maps);
-    if let Verdict::Refused(refusal) = checked {
-        return Verdict::Refused(refusal);
-    }
+    maps::check(block, maps)?;
     if room < maps::all_entries(block, maps) {
-        return Verdict::Refused(Refusal::TableShort);
+        return Err(Refusal::TableShort);
     }
-    Verdict::Accepted
+    Ok(())
 }
 
 // Fills the front of `table` with the least costs of the exercise relabelled under each map, one for each rank.
 // Refused with 3 to 7, 14, 15, 12.
-pub fn fill_table(block: &[u8], maps: &[u8], table: &mut [u32]) -> Filling
-    ensures table_after { outcome (filling_of result) table.new ≡
+#[tactic(auto, using(crate::proofs::Conditions::table_accepted), unfolding(crate::specs::WholeTables::fill_table))]
+pub fn fill_table(block: &[u8], maps: &[u8], table: &mut [u32]) -> Result<(), Refusal>
+    ensures table_after { outcome (answer_of result) table.new ≡
         fill_table block.now maps.now table.old }
-    ensures filling_kept { FillingKept block.now maps.now (filling_of result) table.new }
+    ensures filling_kept { FillingKept block.now maps.now (answer_of result) table.new }
 {
-    let checked = check_table(block, maps, table.len());
-    if let Verdict::Refused(refusal) = checked {
-        return Filling::Refused(refusal);
-    }
+    check_table(block, maps, table.len())?;
     map_fills::fill_all(block, maps, table);
-    Filling::Filled
+    Ok(())
 }
 
 // Whether every table passes the lower-bound test under its own map; further elements do not count.
 // Refused with 3 to 7, 14, 15, 12.
-pub fn test_table(block: &[u8], maps: &[u8], table: &[u32]) -> TableTest
-    ensures result_value { table_test_of result ≡ test_table block.now maps.now table.now }
-    ensures table_test_kept { TableTestKept block.now maps.now table.now (table_test_of result) }
+#[tactic(auto, using(crate::proofs::Conditions::table_accepted), unfolding(crate::specs::WholeTables::test_table))]
+pub fn test_table(block: &[u8], maps: &[u8], table: &[u32]) -> Result<bool, Refusal>
+    ensures result_value { answer_of result ≡ test_table block.now maps.now table.now }
+    ensures table_test_kept { TableTestKept block.now maps.now table.now (answer_of result) }
 {
-    let checked = check_table(block, maps, table.len());
-    if let Verdict::Refused(refusal) = checked {
-        return TableTest::Refused(refusal);
-    }
-    if map_tables::all_pass(block, maps, table) {
-        return TableTest::Passes;
-    }
-    TableTest::Fails
+    check_table(block, maps, table.len())?;
+    Ok(map_tables::all_pass(block, maps, table))
 }
