@@ -1,11 +1,17 @@
 -- What a chain of the library answers over the numbers below n (`all-below`, `find-below` and `found-below`, for its
 -- `all`, `position` and `find`) or over a list (`all-slice`) is what `all` and `find` say.
 -- Proofs of such chains rest on these.
-use Rattle.std.proofs.Common.{◌≡◌, sym, ◌∙◌, subst, ap, Bool, true, false, ℕ, ◌<◌, List, length, get_or}
+use Rattle.std.proofs.Common.{◌≡◌, refl, sym, ◌∙◌, subst, ap, Bool, true, false, ℕ, ◌<◌, List, length, get_or}
 use Rattle.std.proofs.Common.{Option, None, Some, zero-add, arith}
+use denote.Param.Members.{Mut}
 use Rattle.std.specs.Bool.{MatchBool}
+use Rattle.std.specs.Fn.{Called}
+use Rattle.std.specs.Iterator.{YieldsThen}
+use Rattle.std.specs.declared.ops.Range.{Range}
+use Rattle.std.proofs.iter.Yields.{nat_range_steps}
+use Rattle.std.proofs.lemmas.Iterator.{cases_from_all, YieldsList-from_range}
 use Rattle.std.specs.Option.{MatchOption}
-use Rattle.std.specs.List.{range_with_len, AllWithin, HoldsAt}
+use Rattle.std.specs.List.{range_with_len, FoldsTo, AllWithin, HoldsAt}
 use Rattle.std.proofs.lemmas.List.FromFn.{length-range_with_len, get_or-range_with_len}
 use Rattle.basics.specs.Bounded.{all, find}
 use Rattle.basics.proofs.Bounded.{all-intro, all-false, find_at, find-passed}
@@ -68,3 +74,17 @@ module _ (xs : List ℕ) (f : ℕ → Bool) where
       → r ≡ all (length xs) (λ k. f (get_or xs k 0))
   all-slice true h = sym (all-intro (λ k. f (get_or xs k 0)) (length xs) (λ k l. h k 0 (omega arith) l))
   all-slice false (k, l, h) = sym (all-false (λ k. f (get_or xs k 0)) (length xs) k l (h 0))
+
+-- what `(0..n).all(..)` answers, by what the closure answers at each number
+pub all-numbers :
+    {F : Type 0} {g : Mut F (ℕ × Unit {0}) Bool} {u : Range ℕ} {f : F} (n : ℕ) (test : ℕ → Bool) (r : Bool)
+    → (xs : List ℕ) × (o : Option ℕ) × (j : F) × YieldsThen nat_range_steps (record { start = 0; end = n }) xs o u
+    × FoldsTo (λ p x q. Called g p (x, tt) true q) f xs j
+    × MatchOption o (r ≡ true) (λ x. (r ≡ false) × ((h : F) × Called g j (x, tt) false h))
+    → ((x : ℕ) (q : F) → Called g f (x, tt) true q → (q ≡ f) × (test x ≡ true))
+    → ((x : ℕ) (q : F) → Called g f (x, tt) false q → test x ≡ false)
+    → r ≡ all n test
+all-numbers {g = g} {u = u} {f = f} n test r ran holds fails =
+    all-below n test r
+    (cases_from_all {g = g} u f r (λ x. test x ≡ true) (λ x. test x ≡ false) ran
+    (YieldsList-from_range 0 n n refl (omega arith)) holds fails)

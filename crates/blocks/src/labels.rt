@@ -1,10 +1,8 @@
 // The two kinds of labels, and the one way from the first to the second.
 ghost use Rattle.std.specs.Prelude.{◌≡◌, ◌+◌, ◌<◌, length, get_or};
 
-use basics::wide;
-
 // A label of an exercise's own states (document 01: a yard label).
-#[derive(Clone, Copy)]
+#[derive(Clone, Copy, PartialEq, Eq)]
 pub struct ConcreteLabel(pub u8);
 
 // A label of the abstraction. Its byte is private: only `mapped` makes one.
@@ -16,7 +14,7 @@ pub fn mapped(bytes: &[u8], at: usize, label: ConcreteLabel) -> AbstractLabel
     requires { at + label.0 < length bytes.now }
     ensures { result.0 ≡ get_or bytes.now (at + label.0) 0 }
 {
-    AbstractLabel(bytes[at + wide(label.0)])
+    AbstractLabel(bytes[at + usize::from(label.0)])
 }
 
 // The byte that stands for an abstract label.

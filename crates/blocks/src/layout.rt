@@ -10,7 +10,7 @@ ghost use Rattle.blocks.specs.Validity.{Headed, Sized};
 
 use super::labels::{AbstractLabel, ConcreteLabel, mapped};
 use super::validity::MOST_STATES;
-use basics::{power_within, wide};
+use basics::power_within;
 
 // How many bytes the head has.
 pub const HEAD_LENGTH: usize = 5;
@@ -31,7 +31,7 @@ fn head_byte(block: &[u8], i: usize) -> usize
     requires { (head_length ≤ length block.now) × (i < head_length) }
     ensures { (result ≡ head_byte block.now i) × (result ≤ 255) }
 {
-    wide(block[i])
+    usize::from(block[i])
 }
 
 // n: how many positions a state has.
@@ -213,7 +213,7 @@ pub fn relabel_head(block: &[u8], out: &mut [u8]) -> usize
     out[3] = block[3];
     out[4] = block[4];
     for x in 0..k {
-        out[HEAD_LENGTH + wide(x)] = x;
+        out[HEAD_LENGTH + usize::from(x)] = x;
     }
-    HEAD_LENGTH + wide(k)
+    HEAD_LENGTH + usize::from(k)
 }

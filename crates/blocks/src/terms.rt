@@ -3,10 +3,9 @@ ghost use Rattle.std.specs.Prelude.{◌≡◌};
 ghost use Rattle.blocks.specs.Terms.{term_of, term_ok, is_dash};
 
 use super::labels::ConcreteLabel;
-use basics::wide;
 
 // What a byte of a rule or a goal stands for.
-#[derive(Drop)]
+#[derive(Clone, Copy, PartialEq, Eq)]
 pub enum Term {
     Label(ConcreteLabel),
     Variable(u8),
@@ -30,11 +29,9 @@ pub fn decode(byte: u8) -> Term
 pub fn term_ok(byte: u8, count: usize) -> bool
     ensures { result ≡ term_ok count (term_of byte) }
 {
-    let term = decode(byte);
-    match term {
-        Term::Label(label) => wide(label.0) < count,
-        Term::Variable(_) => true,
-        Term::Dash => true,
+    match decode(byte) {
+        Term::Label(label) => usize::from(label.0) < count,
+        Term::Variable(_) | Term::Dash => true,
         Term::Refused => false,
     }
 }
@@ -43,11 +40,5 @@ pub fn term_ok(byte: u8, count: usize) -> bool
 pub fn is_dash(byte: u8) -> bool
     ensures { result ≡ is_dash (term_of byte) }
 {
-    let term = decode(byte);
-    match term {
-        Term::Label(_) => false,
-        Term::Variable(_) => false,
-        Term::Dash => true,
-        Term::Refused => false,
-    }
+    matches!(decode(byte), Term::Dash)
 }

@@ -1,16 +1,16 @@
 // Whether a block is accepted: conditions 3 to 7, in this order, each over the whole block.
-ghost use Rattle.std.specs.Prelude.{◌≡◌, ◌+◌, ◌≤◌, ◌<◌, length};
+ghost use Rattle.std.specs.Prelude.{◌≡◌, ◌&&◌, ◌+◌, ◌≤◌, ◌<◌, length};
 ghost use Rattle.refusals.specs.Answers.{verdict};
 ghost use Rattle.refusals.specs.Refusals.{answer_of};
 ghost use Rattle.blocks.specs.Terms.{term_of};
-ghost use Rattle.blocks.specs.Layout.{positions, rules, head_length, side_at};
+ghost use Rattle.blocks.specs.Layout.{positions, rules, goals, head_length, left_of, right_of, goal_of, side_at};
 ghost use Rattle.blocks.specs.Validity.{within, sizes_ok, head_ok, map_ok, side_ok, rule_terms_ok, goal_terms_ok};
 ghost use Rattle.blocks.specs.Validity.{terms_ok, bound_in, rule_bound, bound_ok};
 ghost use Rattle.blocks.specs.Validity.{shape_conditions, content_conditions, block_conditions, Sized};
 
 use super::layout;
 use super::terms::{Term, decode, term_ok};
-use basics::{and, first_of, power_within};
+use basics::{first_of, power_within};
 use refusals::Refusal;
 
 // The most abstract states that an exercise may have.
@@ -24,7 +24,7 @@ pub type Entries = [u32; MOST_STATES];
 pub fn lies_within(low: usize, x: usize, high: usize) -> bool
     ensures { result ≡ within low x high }
 {
-    and(low <= x, x <= high)
+    low <= x && x <= high
 }
 
 // Whether the head's numbers are in their limits, the number of abstract states aside.
@@ -32,37 +32,26 @@ fn sizes_ok(block: &[u8]) -> bool
     requires { head_length ≤ length block.now }
     ensures { result ≡ sizes_ok block.now }
 {
-    let from_rules = and(
-        layout::rules(block) <= 64,
-        lies_within(1, layout::goals(block), 8),
-    );
-    let from_abstracts = and(
-        lies_within(1, layout::abstracts(block), layout::labels(block)),
-        from_rules,
-    );
-    let from_labels = and(lies_within(1, layout::labels(block), 16), from_abstracts);
-    and(
-        lies_within(1, layout::positions(block), layout::MOST_POSITIONS),
-        from_labels,
-    )
+    lies_within(1, layout::positions(block), layout::MOST_POSITIONS)
+        && lies_within(1, layout::labels(block), 16)
+        && lies_within(1, layout::abstracts(block), layout::labels(block))
+        && layout::rules(block) <= 64
+        && lies_within(1, layout::goals(block), 8)
 }
 
 // Condition 3.
 pub fn head_ok(block: &[u8]) -> bool
     ensures { result ≡ head_ok block.now }
 {
-    if block.len() < layout::HEAD_LENGTH {
+    if block.len() < layout::HEAD_LENGTH || !sizes_ok(block) {
         return false;
     }
-    if sizes_ok(block) {
-        let states = power_within(
-            layout::abstracts(block),
-            layout::positions(block),
-            MOST_STATES,
-        );
-        return states <= MOST_STATES;
-    }
-    false
+    let states = power_within(
+        layout::abstracts(block),
+        layout::positions(block),
+        MOST_STATES,
+    );
+    states <= MOST_STATES
 }
 
 // Condition 5.
@@ -70,14 +59,8 @@ fn map_ok(block: &[u8]) -> bool
     requires { Sized block.now }
     ensures { result ≡ map_ok block.now }
 {
-    let labels = layout::labels(block);
     let abstracts = layout::abstracts(block);
-    for x in 0..labels {
-        if abstracts <= basics::wide(layout::map_byte(block, x)) {
-            return false;
-        }
-    }
-    true
+    (0..layout::labels(block)).all(|x| usize::from(layout::map_byte(block, x)) < abstracts)
 }
 
 // Whether the bytes of the side at `at` are terms, and their constants labels.
@@ -86,12 +69,23 @@ fn side_ok(block: &[u8], at: usize) -> bool
     ensures { result ≡ side_ok block.now (side_at block.now at) }
 {
     let n = layout::positions(block);
-    for i in 0..n {
-        if !term_ok(block[at + i], layout::label_count(block, i)) {
-            return false;
-        }
-    }
-    true
+    (0..n).all(|i| term_ok(block[at + i], layout::label_count(block, i)))
+}
+
+// Whether both sides of rule r are right.
+fn rule_sides_ok(block: &[u8], r: usize) -> bool
+    requires { Sized block.now × (r < rules block.now) }
+    ensures { result ≡ (side_ok block.now (left_of block.now r) && side_ok block.now (right_of block.now r)) }
+{
+    side_ok(block, layout::left_at(block, r)) && side_ok(block, layout::right_at(block, r))
+}
+
+// Whether the side of goal g is right.
+fn goal_side_ok(block: &[u8], g: usize) -> bool
+    requires { Sized block.now × (g < goals block.now) }
+    ensures { result ≡ side_ok block.now (goal_of block.now g) }
+{
+    side_ok(block, layout::goal_at(block, g))
 }
 
 // Whether both sides of each rule are right.
@@ -99,14 +93,7 @@ fn rule_terms_ok(block: &[u8]) -> bool
     requires { Sized block.now }
     ensures { result ≡ rule_terms_ok block.now }
 {
-    let rules = layout::rules(block);
-    for r in 0..rules {
-        let left = side_ok(block, layout::left_at(block, r));
-        if !and(left, side_ok(block, layout::right_at(block, r))) {
-            return false;
-        }
-    }
-    true
+    (0..layout::rules(block)).all(|r| rule_sides_ok(block, r))
 }
 
 // Whether each goal's side is right.
@@ -114,13 +101,7 @@ fn goal_terms_ok(block: &[u8]) -> bool
     requires { Sized block.now }
     ensures { result ≡ goal_terms_ok block.now }
 {
-    let goals = layout::goals(block);
-    for g in 0..goals {
-        if !side_ok(block, layout::goal_at(block, g)) {
-            return false;
-        }
-    }
-    true
+    (0..layout::goals(block)).all(|g| goal_side_ok(block, g))
 }
 
 // Condition 6.
@@ -128,8 +109,7 @@ fn terms_ok(block: &[u8]) -> bool
     requires { Sized block.now }
     ensures { result ≡ terms_ok block.now }
 {
-    let rules = rule_terms_ok(block);
-    and(rules, goal_terms_ok(block))
+    rule_terms_ok(block) && goal_terms_ok(block)
 }
 
 // Whether a right term's variable stands among the n left terms from `left` on.
@@ -137,12 +117,9 @@ fn term_bound(block: &[u8], left: usize, n: usize, byte: u8) -> bool
     requires { left + n ≤ length block.now }
     ensures { result ≡ bound_in n (side_at block.now left) (term_of byte) }
 {
-    let term = decode(byte);
-    match term {
-        Term::Label(_) => true,
+    match decode(byte) {
         Term::Variable(v) => first_of(block, left, n, v).is_some(),
-        Term::Dash => true,
-        Term::Refused => true,
+        Term::Label(_) | Term::Dash | Term::Refused => true,
     }
 }
 
@@ -154,12 +131,7 @@ fn rule_bound(block: &[u8], r: usize) -> bool
     let n = layout::positions(block);
     let left = layout::left_at(block, r);
     let right = layout::right_at(block, r);
-    for i in 0..n {
-        if !term_bound(block, left, n, block[right + i]) {
-            return false;
-        }
-    }
-    true
+    (0..n).all(|i| term_bound(block, left, n, block[right + i]))
 }
 
 // Condition 7.
@@ -167,13 +139,7 @@ fn bound_ok(block: &[u8]) -> bool
     requires { Sized block.now }
     ensures { result ≡ bound_ok block.now }
 {
-    let rules = layout::rules(block);
-    for r in 0..rules {
-        if !rule_bound(block, r) {
-            return false;
-        }
-    }
-    true
+    (0..layout::rules(block)).all(|r| rule_bound(block, r))
 }
 
 // The head and the length: 3 and 4.

@@ -59,12 +59,12 @@ pub fn remap(block: &[u8], maps: &[u8], i: usize, out: &mut BlockBuffer)
 
 // The exercise under a further map, at the front of a buffer with room for every block. Contracts see its bytes.
 #[derive(Drop)]
-pub struct Exercise {
+pub struct Remapped {
     buffer: BlockBuffer,
     length: usize,
 }
 
-impl Model for Exercise {
+impl Model for Remapped {
     ghost Value = { List ℕ };
 
     ghost view = { λ e. take e.length e.buffer };
@@ -72,7 +72,7 @@ impl Model for Exercise {
     ghost invariant = { λ e. e.length ≤ 2304 };
 }
 
-impl Exercise {
+impl Remapped {
     // The exercise under further map i.
     pub fn under(block: &[u8], maps: &[u8], i: usize) -> Self
         requires { Sized block.now × (i < further_maps block.now maps.now) }
@@ -81,7 +81,7 @@ impl Exercise {
         let begin = map_at(block, maps, i);
         let mut buffer = [0u8; BLOCK_ROOM];
         blocks::remapping::remap(block, &maps[begin..], &mut buffer);
-        Exercise {
+        Remapped {
             buffer,
             length: block.len(),
         }

@@ -9,9 +9,7 @@ use Rattle.basics.specs.Lists.{tabulate}
 use Rattle.basics.proofs.Lists.{sets_more, sets_behind}
 use Rattle.blocks.specs.Layout.{head_byte, positions, abstracts, rules, goals, relabel_head}
 use Rattle.blocks.proofs.Offsets.{relabel-head-length}
-use borrow.Author.Rules.{rules as std_rules}
 use Rattle.blocks.proofs.layout.relabel_head.Goals as goal
-use Rattle.blocks.proofs.layout.relabel_head.Goals.{After-wide, After-wide-2}
 
 pub bounds-out-0 : goal.bounds-out-0
 unfolding head_byte
@@ -40,9 +38,6 @@ bounds-out-4 c =
       relabel-head-length c.args.block.now,
     ))
 
-pub loop-x-init : goal.loop-x-init
-loop-x-init c = (omega arith, search std_rules)
-
 -- one map byte more
 one_more :
     (l : List ℕ) (x : ℕ) {out : List ℕ} {k : ℕ}
@@ -52,32 +47,28 @@ one_more l x e q =
 
 -- the buffer keeps its length
 kept :
-    (c : After-wide)
-    → length c.loop-x.out ≡ length c.args.out.now
-kept c = ap length c.loop-x.invariant.1 ∙ length-sets _ 5 (tabulate c.loop-x.x (λ y. y)) ∙ simp length-set
+    (o begun out : List ℕ) (x : ℕ)
+    → out ≡ sets begun 5 (tabulate x (λ y. y)) → length begun ≡ length o → length out ≡ length o
+kept o begun out x e h = ap length e ∙ length-sets begun 5 (tabulate x (λ y. y)) ∙ h
 
-pub bounds-out-wide : goal.bounds-out-wide
+pub bounds-out-from : goal.bounds-out-from
 unfolding head_byte
-bounds-out-wide c =
-    omega (arith, kept c, relabel-head-length c.args.block.now)
+bounds-out-from c =
+    omega (
+      arith,
+      kept c.args.out.now _ _ c.loop-x.x c.loop-x.invariant (simp length-set),
+      relabel-head-length c.args.block.now,
+    )
 
 pub loop-x-preserved : goal.loop-x-preserved
 loop-x-preserved c =
     let b = c.args.block.now in
     let o = c.args.out.now in
-    let begun = sets o 0 (get_or b 0 0 ∷ get_or b 2 0 ∷ get_or b 2 0 ∷ get_or b 3 0 ∷ get_or b 4 0 ∷ []) in (
-      search std_rules,
-      one_more begun c.loop-x.x c.loop-x.invariant.1 c.wide.ensures.0,
-    )
-
--- the buffer keeps its length
-kept-2 :
-    (c : After-wide-2)
-    → length c.loop-x.out ≡ length c.args.out.now
-kept-2 c = ap length c.loop-x.invariant.1 ∙ length-sets _ 5 (tabulate c.loop-x.x (λ y. y)) ∙ simp length-set
+    let begun = sets o 0 (get_or b 0 0 ∷ get_or b 2 0 ∷ get_or b 2 0 ∷ get_or b 3 0 ∷ get_or b 4 0 ∷ []) in
+    one_more begun c.loop-x.x c.loop-x.invariant (omega arith)
 
 pub shape_of-out : goal.shape_of-out
-shape_of-out c = kept-2 c
+shape_of-out c = kept c.args.out.now _ _ c.loop-x.x c.loop-x.invariant (simp length-set)
 
 pub returns : goal.returns
 unfolding relabel_head head_byte
@@ -88,5 +79,5 @@ returns c =
     let e : c.loop-x.x ≡ abstracts b = omega arith in record {
       value = omega (arith, relabel-head-length b);
       out_after = sets_behind o 0 head (tabulate (abstracts b) (λ y. y)) {m = sets o 0 head} refl refl
-          (c.loop-x.invariant.1 ∙ ap (λ (k : ℕ). sets (sets o 0 head) 5 (tabulate k (λ y. y))) e);
+          (c.loop-x.invariant ∙ ap (λ (k : ℕ). sets (sets o 0 head) 5 (tabulate k (λ y. y))) e);
     }

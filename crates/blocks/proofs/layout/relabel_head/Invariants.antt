@@ -1,14 +1,9 @@
 -- `blocks::layout::relabel_head` meets its contract.
 -- The loop's invariant: the map bytes passed are written behind the head.
-use mathlib.Core.Path.{◌≡◌}
-use Prim.Native.Nat.{◌≤◌, ◌-◌}
+use Rattle.std.proofs.Common.{◌≡◌}
 use lib.Seq.{sets}
 use Rattle.basics.specs.Lists.{tabulate}
 use Rattle.blocks.proofs.layout.relabel_head.Given as goal
 
 abbrev pub invariant-loop-x : goal.invariant-loop-x
-invariant-loop-x l =
-    (l.x ≤ l.k) × (l.out ≡ sets l.initial.out 5 (tabulate l.x (λ y. y)))
-
-abbrev pub decreases-loop-x : goal.decreases-loop-x
-decreases-loop-x l = l.k - l.x
+invariant-loop-x l = l.out ≡ sets l.initial.out 5 (tabulate l.x (λ y. y))

@@ -20,4 +20,5 @@ pub returns : goal.returns
 unfolding block_conditions
 returns c =
     let b = c.args.block.now in
-    c.check_content.ensures ∙ sym (verdict-behind (shape_conditions b) (content_conditions b) (sym c.in_ok-check_shape.ensures))
+    c.check_content.ensures
+    ∙ sym (verdict-behind (shape_conditions b) (content_conditions b) (sym c.in_ok-check_shape.ensures))

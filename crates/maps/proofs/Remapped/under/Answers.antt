@@ -1,4 +1,4 @@
--- `maps::Exercise::under` meets its contract.
+-- `maps::Remapped::under` meets its contract.
 -- What is lent of the maps begins with further map i, and the front of the buffer is the exercise under it.
 use Rattle.std.proofs.Common.{◌≡◌, ℕ, suc, ◌-◌, ◌*◌, ◌≤◌, List, ap, ◌∙◌, length, take, arith}
 use lib.ListN.{drop}
@@ -7,7 +7,7 @@ use Rattle.basics.proofs.Lists.{rest-whole}
 use Rattle.blocks.specs.Remapping.{remapped}
 use Rattle.maps.specs.Maps.{map_width, exercise_at}
 use Rattle.maps.proofs.MapLaws.{exercise-part, exercise-fits}
-use Rattle.maps.proofs.Exercise.under.Goals as goal
+use Rattle.maps.proofs.Remapped.under.Goals as goal
 
 -- the buffer, when it was written to
 module _
