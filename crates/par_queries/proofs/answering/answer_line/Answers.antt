@@ -3,7 +3,7 @@
 use mathlib.Core.Path.{◌≡◌, refl, sym, ap, ◌∙◌, subst}
 use mathlib.Core.Bool.{true, false}
 use mathlib.Core.List.{List}
-use Prim.Native.Nat.{ℕ, ◌+◌, ◌-◌, ◌≤◌, ◌<◌}
+use Prim.Native.Nat.{ℕ, ◌+◌, ◌-◌, ◌≤◌}
 use native.Mathlib.Omega.{arith}
 use lib.ListN.{length, take, drop, replicate}
 use lib.Seq.{length-take-le}
@@ -12,7 +12,7 @@ use borrow.Author.Tests.{not-true, not-false, eq-eqb, ne_eqb}
 use Rattle.basics.specs.Lists.{at_front}
 use Rattle.basics.proofs.Lists.{front-taken}
 use Rattle.blocks.specs.Validity.{Headed}
-use Rattle.records.specs.Records.{query_length, record_room, answer_record, Written}
+use Rattle.records.specs.Records.{query_length, answer_record, Written}
 use Rattle.records.proofs.RecordLaws.{written-fits, written-taken}
 use Rattle.frames.specs.Lines.{line_ok, line_bytes, line_of}
 use Rattle.frames.specs.Places.{line_from, line_at}
@@ -20,7 +20,6 @@ use Rattle.frames.specs.declared.lines.Line.{Line}
 use Rattle.frames.proofs.LineLaws.{line-part, line-inside, line-there}
 use Rattle.frames.proofs.PairLaws.{line-length}
 use Rattle.par_queries.specs.QueryLines.{filled_estimate, refusal_line, answer_line, AnsweredAt}
-use Rattle.par_queries.specs.declared.answering.Answered.{Answered}
 use Rattle.par_queries.proofs.PrintedLines.{line_of_lem}
 use Rattle.par_queries.proofs.QueryLineLaws.{line-decided, line_refused, line-accepted}
 use Rattle.par_queries.proofs.answering.answer_line.Goals as goal

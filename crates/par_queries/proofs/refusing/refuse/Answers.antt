@@ -1,8 +1,6 @@
 -- `par_queries::refusing::refuse` meets its contract.
 -- The two bytes are FF and the number, and their line is five characters long.
-use mathlib.Core.Path.{◌≡◌, ap}
-use mathlib.Core.List.{List}
-use Prim.Native.Nat.{ℕ}
+use mathlib.Core.Path.{ap}
 use native.Mathlib.Omega.{arith}
 use lib.ListN.{length}
 use Rattle.refusals.specs.Refusals.{refusal_number}
