@@ -17,7 +17,7 @@ ghost use Rattle.par_outputs.specs.Promises.{Means};
 use blocks::layout::BLOCK_ROOM;
 use blocks::validity::{Entries, MOST_STATES};
 use inputs::read_full;
-use par_openings::{LONGEST_INPUT, Opening};
+use par_openings::LONGEST_INPUT;
 use par_queries::LINE_ROOM;
 use preparing::prepare;
 use refusals::Refusal;
@@ -170,12 +170,16 @@ fn answer_input<W: Write + AsRawFd>(writer: &mut W, input: &[u8], output: &mut [
 {
     let mut block = [0u8; BLOCK_ROOM];
     let mut table = [0u32; MOST_STATES];
-    let opening = par_openings::open(input, &mut block, &mut table);
-    match opening {
-        Opening::Refused(refusal) => answer_refusal(writer, refusal, output),
-        Opening::Opened { bytes, queries_at } => {
-            answer_queries(writer, &block[..bytes], input, queries_at, &table, output)
-        }
+    match par_openings::open(input, &mut block, &mut table) {
+        Ok(opened) => answer_queries(
+            writer,
+            &block[..opened.bytes],
+            input,
+            opened.queries_at,
+            &table,
+            output,
+        ),
+        Err(refusal) => answer_refusal(writer, refusal, output),
     }
 }
 
