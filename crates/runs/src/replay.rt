@@ -7,7 +7,6 @@ ghost use Rattle.psvn.specs.Rules.{step};
 ghost use Rattle.psvn.specs.Runs.{RuleNumbers};
 ghost use Rattle.runs.specs.Replay.{numbers_ok, longest_list, replay_ending, replay_state};
 
-use basics::{copy, wide};
 use blocks::layout;
 use blocks::layout::MOST_POSITIONS;
 use psvn::rules;
@@ -17,9 +16,10 @@ use psvn::rules::NO_GOAL;
 pub const LONGEST_LIST: usize = 4096;
 
 // Where a replay ends: how many rules were applied, which is the index of a rule that is stuck, what they cost, and
-// the goal that the final state meets; NO_GOAL where it meets none, or a rule is stuck.
+// the goal that the final state meets; NO_GOAL where it meets none, or a rule is stuck: a byte, and no option, since C
+// reads it.
 #[repr(C)]
-#[derive(Drop)]
+#[derive(Clone, Copy, PartialEq, Eq)]
 pub struct RunEnd {
     pub steps: usize,
     pub cost: u32,
@@ -27,7 +27,7 @@ pub struct RunEnd {
 }
 
 // How a replay ends: all rules applied, or one is stuck.
-#[derive(Drop)]
+#[derive(Clone, Copy, PartialEq, Eq)]
 pub enum Replayed {
     Done(RunEnd),
     Stuck(RunEnd),
@@ -39,12 +39,7 @@ pub fn numbers_ok(block: &[u8], list: &[u8]) -> bool
     ensures { result ≡ numbers_ok block.now list.now }
 {
     let rules = layout::rules(block);
-    for i in 0..list.len() {
-        if rules <= wide(list[i]) {
-            return false;
-        }
-    }
-    true
+    list.iter().all(|rule| usize::from(*rule) < rules)
 }
 
 // Replaces a state by the one that rule r makes of it.
@@ -52,10 +47,10 @@ fn advance(block: &[u8], r: usize, state: &mut [u8])
     requires { Sized block.now × (r < rules block.now) × (length state.old ≡ positions block.now) }
     ensures { state.new ≡ step block.now r state.old }
 {
-    let n = state.len();
-    let mut old = [0u8; MOST_POSITIONS];
-    copy(state, n, &mut old);
-    rules::step(block, r, &old[..n], state);
+    let mut room = [0u8; MOST_POSITIONS];
+    let old = &mut room[..state.len()];
+    old.copy_from_slice(state);
+    rules::step(block, r, old, state);
 }
 
 // Replays the list from a state, which becomes the one where it ends.
@@ -67,9 +62,8 @@ fn replay_in(block: &[u8], list: &[u8], state: &mut [u8]) -> Replayed
         replay_state block.now state.old list.now }
 {
     let mut cost: u32 = 0;
-    let mut i: usize = 0;
-    while i < list.len() {
-        let rule = wide(list[i]);
+    for (i, number) in list.iter().enumerate() {
+        let rule = usize::from(*number);
         if !rules::applies(block, rule, state) {
             return Replayed::Stuck(RunEnd {
                 steps: i,
@@ -78,12 +72,11 @@ fn replay_in(block: &[u8], list: &[u8], state: &mut [u8]) -> Replayed
             });
         }
         advance(block, rule, state);
-        cost += layout::cost(block, rule) as u32;
-        i += 1;
+        cost += u32::from(layout::cost(block, rule));
     }
-    let goal = rules::met_goal(block, state);
+    let goal = rules::met_goal(block, state).unwrap_or(NO_GOAL);
     Replayed::Done(RunEnd {
-        steps: i,
+        steps: list.len(),
         cost,
         goal,
     })
@@ -97,7 +90,7 @@ pub fn replay(block: &[u8], start: &[u8], list: &[u8], out: &mut [u8]) -> Replay
     ensures out_after { out.new ≡
         at_front (replay_state block.now start.now list.now) out.old }
 {
-    let n = start.len();
-    copy(start, n, out);
-    replay_in(block, list, &mut out[..n])
+    let state = &mut out[..start.len()];
+    state.copy_from_slice(start);
+    replay_in(block, list, state)
 }

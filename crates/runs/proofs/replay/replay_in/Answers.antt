@@ -1,146 +1,77 @@
 -- `runs::replay::replay_in` meets its contract.
-use mathlib.Core.Path.{◌≡◌, refl, sym, ap, ap₂, ◌∙◌}
-use mathlib.Core.Bool.{Bool, true}
-use mathlib.Core.List.{List, [], ◌∷◌, ◌++◌}
-use Prim.Native.Nat.{ℕ, ◌+◌, ◌-◌, ◌<◌}
-use native.Mathlib.Numerals.{add-one}
-use native.Mathlib.Omega.{arith}
-use lib.ListN.{length, get_or, take}
+use Rattle.std.proofs.Common.{◌≡◌, sym, ap, ap₂, ◌∙◌, List, [], ◌∷◌, ◌++◌, ℕ, ◌+◌, ◌<◌, true, false}
+use Rattle.std.specs.Option.{unwrap_or}
+use Rattle.std.proofs.Common.{Option, Some, None, refl, length, get_or, take, add-one, arith}
 use lib.Seq.{take-suc, take_all}
+use borrow.Author.Rules.{rules as std_rules}
 use Rattle.basics.proofs.Truth.{and_intro}
-use Rattle.blocks.specs.Layout.{positions, rules, cost_of}
+use Rattle.blocks.specs.Layout.{cost_of}
 use Rattle.psvn.specs.Rules.{applies, step, met_goal, no_goal, goal_byte}
 use Rattle.psvn.specs.Runs.{apply_in_turn, run, total_cost}
-use Rattle.psvn.proofs.RunLaws.{run_more, cost-more, in-turn-more, run_length_lem}
+use Rattle.psvn.proofs.RunLaws.{run_more, cost-more, in-turn-more}
 use Rattle.runs.specs.declared.replay.Replayed.TheVariants.{Done, Stuck}
 use Rattle.runs.specs.declared.replay.RunEnd.{RunEnd}
+use Rattle.runs.specs.Replay.{replay_ending, replay_state}
 use Rattle.runs.proofs.ReplayLaws.{end_after, replay_done, replay_stuck}
-use borrow.Author.Rules.{rules as std_rules}
 use Rattle.runs.proofs.replay.replay_in.Goals as goal
-use Rattle.runs.proofs.replay.replay_in.Goals.{After-advance-arg-1, After-cost, After-loop-i, After-met_goal-goal}
-use Rattle.runs.proofs.replay.replay_in.Goals.{After-slice_known-in-loop-i-1, After-wide-rule, Then-not-applies}
 
 -- one rule more
-taken : (b s list : List ℕ) (i : ℕ) (l : i < length list) → take (i + 1) list ≡ take i list ++ (get_or list i 0 ∷ [])
-taken b s list i l = ap (λ (k : ℕ). take k list) (add-one i) ∙ take-suc list i 0 l
+module _ (b s list : List ℕ) (i : ℕ) (l : i < length list) where
+  taken : take (i + 1) list ≡ take i list ++ (get_or list i 0 ∷ [])
+  taken = ap (λ (k : ℕ). take k list) (add-one i) ∙ take-suc list i 0 l
 
-next-state : (b s list : List ℕ) (i : ℕ) (l : i < length list) → step b (get_or list i 0) (run b s (take i list))
-    ≡ run b s (take (i + 1) list)
-next-state b s list i l = sym (ap (run b s) (taken b s list i l) ∙ run_more b s (take i list) (get_or list i 0))
+  next-state : step b (get_or list i 0) (run b s (take i list)) ≡ run b s (take (i + 1) list)
+  next-state = sym (ap (run b s) taken ∙ run_more b s (take i list) (get_or list i 0))
 
-next-cost : (b s list : List ℕ) (i : ℕ) (l : i < length list)
-    → total_cost b (take i list) + cost_of b (get_or list i 0) ≡ total_cost b (take (i + 1) list)
-next-cost b s list i l = sym (ap (total_cost b) (taken b s list i l) ∙ cost-more b (take i list) (get_or list i 0))
+  next-cost : total_cost b (take i list) + cost_of b (get_or list i 0) ≡ total_cost b (take (i + 1) list)
+  next-cost = sym (ap (total_cost b) taken ∙ cost-more b (take i list) (get_or list i 0))
 
-next-in-turn : (b s list : List ℕ) (i : ℕ) (l : i < length list) → apply_in_turn b s (take i list) ≡ true
-    → applies b (get_or list i 0) (run b s (take i list)) ≡ true
-    → apply_in_turn b s (take (i + 1) list) ≡ true
-next-in-turn b s list i l p q =
-    ap (apply_in_turn b s) (taken b s list i l) ∙ in-turn-more b s (take i list) (get_or list i 0) ∙ and_intro _ _ p q
+  next-in-turn :
+      apply_in_turn b s (take i list) ≡ true → applies b (get_or list i 0) (run b s (take i list)) ≡ true
+      → apply_in_turn b s (take (i + 1) list) ≡ true
+  next-in-turn p q = ap (apply_in_turn b s) taken ∙ in-turn-more b s (take i list) (get_or list i 0) ∙ and_intro _ _ p q
 
-pub loop-i-init : goal.loop-i-init
-loop-i-init c = (search std_rules, search std_rules, refl, refl, refl)
+-- where a replay ends that stops at an index
+module _ (b s list : List ℕ) (i cost : ℕ) (u : List ℕ) (e : cost ≡ total_cost b (take i list))
+    (there : u ≡ run b s (take i list)) (in_turn : apply_in_turn b s (take i list) ≡ true) where
+  ends-here : (goal : ℕ) → ◌≡◌ {A = RunEnd} (record { steps = i; cost = cost; goal = goal }) (end_after b list i goal)
+  ends-here goal = ap (λ (x : ℕ). record { steps = i; cost = x; goal = goal }) e
 
--- the state keeps its length
-long :
-    (c : After-wide-rule) → length c.loop-i.state ≡ positions c.args.block.now
-long c =
-    let a = c.args in
-    let passed = take c.loop-i.i a.list.now in
-    ap length c.loop-i.invariant.3 ∙ run_length_lem a.block.now a.state.now passed c.requires.3
+  stuck-here :
+      i < length list → applies b (get_or list i 0) u ≡ false
+      → (Stuck (record { steps = i; cost = cost; goal = no_goal }) ≡ replay_ending b s list)
+      × (u ≡ replay_state b s list)
+  stuck-here l f =
+      let q = replay_stuck b s list i l in_turn (rw there at f) in
+      (ap Stuck (ends-here no_goal) ∙ sym (q.0), there ∙ sym (q.1))
 
--- the number read is that of a rule
-numbered :
-    (c : After-wide-rule)
-    → c.wide-rule.result < rules c.args.block.now
-numbered c =
-    let h = c.requires.1 c.loop-i.i (omega arith) in
-    omega (arith, c.wide-rule.ensures.0)
+  done-here :
+      (goal : ℕ) → i ≡ length list → goal ≡ goal_byte (met_goal b u)
+      → (Done (record { steps = length list; cost = cost; goal = goal }) ≡ replay_ending b s list)
+      × (u ≡ replay_state b s list)
+  done-here goal last g =
+      let all : take i list ≡ list = take_all i list (omega arith) in
+      let end = there ∙ ap (run b s) all in
+      let told = g ∙ ap (λ (u : List ℕ). goal_byte (met_goal b u)) end in
+      let q = replay_done b s list (ap (apply_in_turn b s) (sym all) ∙ in_turn) in (
+        ap (λ (k : ℕ). Done (record { steps = k; cost = cost; goal = goal })) (sym last)
+            ∙ ap Done (ends-here goal ∙ ap₂ (end_after b list) last told) ∙ sym (q.0),
+        end ∙ sym (q.1),
+      )
 
-pub applies-requires : goal.applies-requires
-applies-requires c =
-    (c.requires.0, numbered c, long c)
-
--- the state keeps its length
-long-2 :
-    (c : Then-not-applies) → length c.loop-i.state ≡ positions c.args.block.now
-long-2 c =
-    let a = c.args in
-    let passed = take c.loop-i.i a.list.now in
-    ap length c.loop-i.invariant.3 ∙ run_length_lem a.block.now a.state.now passed c.requires.3
-
-pub shape_of-state-then-not-applies : goal.shape_of-state-then-not-applies
-shape_of-state-then-not-applies c = omega (arith, long-2 c)
-
--- where a replay ends that stops here and tells this goal
-ends-here :
-    (c : Then-not-applies) (goal : ℕ)
-    → ◌≡◌ {A = RunEnd} (record { steps = c.loop-i.i; cost = c.loop-i.cost; goal = goal })
-    (let a = c.args in end_after a.block.now a.list.now c.loop-i.i goal)
-ends-here c goal = ap (λ (x : ℕ). record { steps = c.loop-i.i; cost = x; goal = goal }) c.loop-i.invariant.2
-
--- whether that rule applies where the rules before it have led
-abbrev applies-next : Then-not-applies → Bool
-applies-next c =
-    let a = c.args in
-    let passed = take c.loop-i.i a.list.now in
-    applies a.block.now (get_or a.list.now c.loop-i.i 0) (run a.block.now a.state.now passed)
-
-answered : (c : Then-not-applies) → c.applies.result ≡ applies-next c
-answered c =
-    let applied = applies c.args.block.now in
-    c.applies.ensures ∙ ap₂ applied c.wide-rule.ensures.0 c.loop-i.invariant.3
+-- a goal as one byte
+byte : (goal : Option ℕ) → unwrap_or goal no_goal ≡ goal_byte goal
+byte (Some g) = refl
+byte None = refl
 
 pub returns-then-not-applies : goal.returns-then-not-applies
 returns-then-not-applies c =
     let a = c.args in
     let inv = c.loop-i.invariant in
-    let f = sym (answered c) ∙ c.if-not-applies.true in
-    let q = replay_stuck a.block.now a.state.now a.list.now c.loop-i.i (omega arith) inv.4 f in
-    record { value = ap Stuck (ends-here c no_goal) ∙ sym q.0; state_after = inv.3 ∙ sym q.1 }
-
--- the state keeps its length
-long-3 :
-    (c : After-advance-arg-1) → length c.loop-i.state ≡ positions c.args.block.now
-long-3 c =
-    let a = c.args in
-    let passed = take c.loop-i.i a.list.now in
-    ap length c.loop-i.invariant.3 ∙ run_length_lem a.block.now a.state.now passed c.requires.3
-
--- the number read is that of a rule
-numbered-2 :
-    (c : After-advance-arg-1)
-    → c.wide-rule.result < rules c.args.block.now
-numbered-2 c =
-    let h = c.requires.1 c.loop-i.i (omega arith) in
-    omega (arith, c.wide-rule.ensures.0)
-
-pub advance-requires : goal.advance-requires
-advance-requires c =
-    (c.requires.0, numbered-2 c, long-3 c)
-
--- the number read is that of a rule
-numbered-3 :
-    (c : After-slice_known-in-loop-i-1)
-    → c.wide-rule.result < rules c.args.block.now
-numbered-3 c =
-    let h = c.requires.1 c.loop-i.i (omega arith) in
-    omega (arith, c.wide-rule.ensures.0)
-
-pub cost-requires : goal.cost-requires
-cost-requires c = (c.requires.0, numbered-3 c)
-
--- whether that rule applies where the rules before it have led
-abbrev applies-next-2 : After-cost → Bool
-applies-next-2 c =
-    let a = c.args in
-    let passed = take c.loop-i.i a.list.now in
-    applies a.block.now (get_or a.list.now c.loop-i.i 0) (run a.block.now a.state.now passed)
-
-answered-2 : (c : After-cost) → c.applies.result ≡ applies-next-2 c
-answered-2 c =
-    let applied = applies c.args.block.now in
-    c.applies.ensures ∙ ap₂ applied c.wide-rule.ensures.0 c.loop-i.invariant.3
+    let q =
+    stuck-here a.block.now a.state.now a.list.now c.loop-i.i c.loop-i.cost c.loop-i.state inv.1 inv.2 inv.3
+    (omega arith) (rw c.from-rule.ensures at (sym c.if-not-applies.ensures)) in
+    record { value = q.0; state_after = q.1 }
 
 pub loop-i-preserved : goal.loop-i-preserved
 loop-i-preserved c =
@@ -150,60 +81,20 @@ loop-i-preserved c =
     let list = a.list.now in
     let i = c.loop-i.i in
     let inv = c.loop-i.invariant in
-    let l : i < length list = omega arith in
-    let rule = c.wide-rule.ensures.0 in
-    let applied = sym (answered-2 c) ∙ c.if-not-applies.false in (
+    let rule = c.from-rule.ensures in
+    let l : i < length list = omega arith in (
       search std_rules,
-      search std_rules,
-      ap₂ ◌+◌ inv.2 (c.cost.ensures ∙ ap (cost_of b) rule) ∙ next-cost b s list i l,
-      c.advance.ensures ∙ ap₂ (step b) rule inv.3 ∙ next-state b s list i l,
-      next-in-turn b s list i l inv.4 applied,
+      ap₂ ◌+◌ inv.1 (c.from-cost.ensures ∙ c.cost.ensures ∙ ap (cost_of b) rule) ∙ next-cost b s list i l,
+      c.advance.ensures ∙ ap₂ (step b) rule inv.2 ∙ next-state b s list i l,
+      next-in-turn b s list i l inv.3 (rw (rule, inv.2) at (sym c.if-not-applies.ensures)),
     )
-
--- the state keeps its length
-long-4 :
-    (c : After-loop-i) → length c.loop-i.state ≡ positions c.args.block.now
-long-4 c =
-    let a = c.args in
-    let passed = take c.loop-i.i a.list.now in
-    ap length c.loop-i.invariant.3 ∙ run_length_lem a.block.now a.state.now passed c.requires.3
-
-pub met_goal-goal-requires : goal.met_goal-goal-requires
-met_goal-goal-requires c = (c.requires.0, long-4 c)
-
--- the state keeps its length
-long-5 :
-    (c : After-met_goal-goal) → length c.loop-i.state ≡ positions c.args.block.now
-long-5 c =
-    let a = c.args in
-    let passed = take c.loop-i.i a.list.now in
-    ap length c.loop-i.invariant.3 ∙ run_length_lem a.block.now a.state.now passed c.requires.3
-
-pub shape_of-state : goal.shape_of-state
-shape_of-state c = omega (arith, long-5 c)
-
--- where a replay ends that stops here and tells this goal
-ends-here-2 :
-    (c : After-met_goal-goal) (goal : ℕ)
-    → ◌≡◌ {A = RunEnd} (record { steps = c.loop-i.i; cost = c.loop-i.cost; goal = goal })
-    (let a = c.args in end_after a.block.now a.list.now c.loop-i.i goal)
-ends-here-2 c goal = ap (λ (x : ℕ). record { steps = c.loop-i.i; cost = x; goal = goal }) c.loop-i.invariant.2
 
 pub returns : goal.returns
 returns c =
     let a = c.args in
-    let b = a.block.now in
-    let s = a.state.now in
-    let list = a.list.now in
-    let i = c.loop-i.i in
     let inv = c.loop-i.invariant in
-    let last : i ≡ length list = omega (arith, inv.0, c.loop-i-test.false) in
-    let all : take i list ≡ list = take_all i list (omega arith) in
-    let there = inv.3 ∙ ap (run b s) all in
-    let goal = c.met_goal-goal.ensures ∙ ap (λ (u : List ℕ). goal_byte (met_goal b u)) there in
-    let q = replay_done b s list (ap (apply_in_turn b s) (sym all) ∙ inv.4) in
-    record {
-      value = ap Done (ends-here-2 c _ ∙ ap₂ (end_after b list) last goal) ∙ sym q.0;
-      state_after = there
-          ∙ sym q.1;
-    }
+    let q =
+    done-here a.block.now a.state.now a.list.now c.loop-i.i c.loop-i.cost c.loop-i.state inv.1 inv.2 inv.3
+    c.unwrap_or-goal.result (omega arith)
+    (c.unwrap_or-goal.ensures ∙ byte (c.met_goal.result) ∙ ap goal_byte c.met_goal.ensures) in
+    record { value = q.0; state_after = q.1 }
