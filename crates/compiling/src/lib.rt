@@ -12,7 +12,7 @@ mod placing_weights;
 
 pub use placing_sides::place_sides;
 use placing_sides::{place_counts, place_goals, place_rules};
-pub use placing_weights::{SINGLES, Singles, place_singles, place_weights};
+pub use placing_weights::{place_singles, place_weights};
 use words::code::Code;
 
 // Compiles the rules and goals of an accepted block.

@@ -8,15 +8,10 @@ ghost use Rattle.compiling.specs.PlacingWeights.{RowPlaced, SinglesPlaced, Pairs
 
 use blocks::labels::{ConcreteLabel, byte_of};
 use blocks::layout;
-use words::ranking::Weights;
-
-// The weights of single labels, sixteen for each position.
-pub const SINGLES: usize = 256;
-
-pub type Singles = [u16; SINGLES];
+use words::ranking::{LABELS, PerLabel, Weights};
 
 // Writes the weights of the labels at position i, where an abstract label counts p.
-fn place_row(block: &[u8], i: usize, p: usize, singles: &mut Singles)
+fn place_row(block: &[u8], i: usize, p: usize, singles: &mut PerLabel<u16>)
     requires { Valid block.now × (i < positions block.now) × (abstract_count block.now i * p ≤ 16384) }
     ensures { RowPlaced block.now i p singles.old singles.new }
 {
@@ -30,7 +25,7 @@ fn place_row(block: &[u8], i: usize, p: usize, singles: &mut Singles)
 
 // Writes the weights of single labels, from the last position on: a label counts as often as there are lists of
 // abstract labels for the positions behind it. What a rule adds to a rank is made of these too.
-pub fn place_singles(block: &[u8], singles: &mut Singles)
+pub fn place_singles(block: &[u8], singles: &mut PerLabel<u16>)
     requires { Valid block.now × ((k : ℕ) → get_or singles.old k 0 ≡ 0) }
     ensures { SinglesPlaced block.now singles.new }
 {
@@ -43,7 +38,7 @@ pub fn place_singles(block: &[u8], singles: &mut Singles)
 
 // Writes the weights of the pairs that n labels make: those at positions 2 * j and 2 * j + 1 stand in byte j of a word,
 // the first as its low digit.
-fn place_pairs(singles: &Singles, n: usize, weights: &mut Weights)
+fn place_pairs(singles: &PerLabel<u16>, n: usize, weights: &mut Weights)
     requires { (n ≤ 16) × ((k : ℕ) → get_or singles.now k 0 ≤ 16384) }
     ensures { PairsPlaced n singles.now weights.new }
 {
@@ -59,7 +54,7 @@ pub fn place_weights(block: &[u8], weights: &mut Weights)
     requires { Valid block.now }
     ensures { Weighted block.now weights.new }
 {
-    let mut singles = [0u16; SINGLES];
+    let mut singles = [0u16; LABELS];
     place_singles(block, &mut singles);
     place_pairs(&singles, layout::positions(block), weights);
 }

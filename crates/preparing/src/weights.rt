@@ -5,8 +5,9 @@ ghost use Rattle.blocks.specs.Validity.{Valid};
 ghost use Rattle.maps.specs.Maps.{further_maps, all_maps, exercise_at, Mapped};
 ghost use Rattle.preparing.specs.Weights.{at_first, MapAdded, MapPlaced, WeightsPacked};
 
-use blocks::layout::BLOCK_ROOM;
-use rank_changes::{SINGLES, Singles};
+use compiling::place_singles;
+use maps::Exercise;
+use words::ranking::{LABELS, PerLabel};
 
 // Where a table begins, for a label at position 0, which every state has; nothing for the others. `k` is the label's
 // place among sixteen for each position.
@@ -17,7 +18,7 @@ fn begins_at(k: usize, begin: usize) -> usize
 }
 
 // Puts the weights of one more map in front: those that are packed move up, and of three at most none is lost.
-fn add_map(own: &compiling::Singles, begin: usize, singles: &mut Singles)
+fn add_map(own: &PerLabel<u16>, begin: usize, singles: &mut PerLabel<u64>)
     requires { ((k : ℕ) → get_or own.now k 0 ≤ 16384) × (begin ≤ 16384) }
     ensures { MapAdded own.now begin singles.old singles.new }
 {
@@ -28,38 +29,26 @@ fn add_map(own: &compiling::Singles, begin: usize, singles: &mut Singles)
 }
 
 // Puts the weights of the labels under the map of a block in front, whose table begins at `begin`.
-fn place_map(block: &[u8], begin: usize, singles: &mut Singles)
+fn place_map(block: &[u8], begin: usize, singles: &mut PerLabel<u64>)
     requires { Valid block.now × (begin ≤ 16384) }
     ensures { MapPlaced block.now begin singles.old singles.new }
 {
-    let mut own = [0u16; compiling::SINGLES];
-    compiling::place_singles(block, &mut own);
+    let mut own = [0u16; LABELS];
+    place_singles(block, &mut own);
     add_map(&own, begin, singles);
 }
 
-// The same under further map i.
-fn place_further(block: &[u8], maps: &[u8], i: usize, begin: usize, singles: &mut Singles)
-    requires { Mapped block.now maps.now × (i < further_maps block.now maps.now) × (begin ≤ 16384) }
-    ensures { MapPlaced (exercise_at block.now maps.now (suc i)) begin
-        singles.old singles.new }
-{
-    let length = block.len();
-    let mut own = [0u8; BLOCK_ROOM];
-    maps::remap(block, maps, i, &mut own);
-    place_map(&own[..length], begin, singles);
-}
-
 // The weights under all maps, put in front from the last one on.
-pub fn packed_weights(block: &[u8], maps: &[u8]) -> Singles
+pub fn packed_weights(block: &[u8], maps: &[u8]) -> PerLabel<u64>
     requires { Mapped block.now maps.now }
     ensures { WeightsPacked block.now maps.now 0
         (all_maps block.now maps.now) result }
 {
-    let mut singles = [0u64; SINGLES];
+    let mut singles = [0u64; LABELS];
     let mut begin = maps::all_entries(block, maps);
     for i in (0..maps::further_maps(block, maps)).rev() {
         begin -= maps::entries_of(block, maps, i);
-        place_further(block, maps, i, begin, &mut singles);
+        place_map(Exercise::under(block, maps, i).bytes(), begin, &mut singles);
     }
     place_map(block, 0, &mut singles);
     singles

@@ -9,7 +9,7 @@ use Rattle.basics.specs.Sums.{sum_to}
 use Rattle.basics.proofs.Parts.{outside_set, outside-within}
 use Rattle.basics.proofs.Sums.{sum-ext}
 use Rattle.blocks.specs.Terms.{term_of}
-use Rattle.blocks.specs.Layout.{positions, rules, left_at, right_at, side_at, left_of, right_of}
+use Rattle.blocks.specs.Layout.{positions, rules, left_of, right_of}
 use Rattle.blocks.specs.Validity.{Valid}
 use Rattle.blocks.specs.States.{state_ok}
 use Rattle.blocks.proofs.StateLaws.{label-below}
@@ -104,10 +104,10 @@ module _ (b : List ℕ) (valid : Valid b) where
 
   -- the change of rule r, its numbers by other names
   pub change-placed :
-      {singles rows₀ rows changes₀ changes₁ : List ℕ} {r n left right constant₀ lead count : ℕ} → r < rules b
-      → n ≡ positions b → left ≡ left_at b r → right ≡ right_at b r
-      → Balanced n (side_at b left) (side_at b right) singles rows₀ constant₀ n
-      → Folded n (side_at b left) rows₀ constant₀ rows 0
+      {singles rows₀ rows changes₀ changes₁ : List ℕ} {r n constant₀ lead count : ℕ} {left right : ℕ → ℕ} → r < rules b
+      → n ≡ positions b → left ≡ left_of b r → right ≡ right_of b r
+      → Balanced n left right singles rows₀ constant₀ n
+      → Folded n left rows₀ constant₀ rows 0
       → lead < n → PartsPlaced rows lead r n count changes₀ changes₁
       → length changes₀ ≡ changes_length → ChangePlaced b singles r changes₀ (set changes₁ (change_place r) count)
   change-placed lr e f g balanced folded below parts room =

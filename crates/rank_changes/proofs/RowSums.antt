@@ -1,24 +1,21 @@
 -- Sums over rows grow with one of their numbers (`sum_one`). A row grows entry by entry (`added_none`, `added_more`),
 -- and the sum with it (`sum_added`). Rows begun are balanced (`balanced-none`), also with one term more, a constant
--- (`constant-more`) or one with a position's label (`row_more`; a right variable's: `source-below`). Making and folding
--- rows, and the ranks after a rule, rest on these.
-use Rattle.std.proofs.Common.{◌≡◌, ℕ, zero, suc, ◌+◌, ◌*◌, ◌%◌, ◌<◌, ◌≤◌, true, eqb, List, length, get_or, set, sym}
+-- (`constant-more`) or one with a position's label (`row_more`). Making and folding rows, and the ranks after a rule, rest
+-- on these.
+use Rattle.std.proofs.Common.{◌≡◌, ℕ, zero, suc, ◌+◌, ◌*◌, ◌%◌, ◌<◌, ◌≤◌, List, length, get_or, set, sym}
 use Rattle.std.proofs.Common.{refl, ap, ◌∙◌, ⊎_elim, not-suc-le-zero, add_assoc, add-one, arith, get_or-set_other}
 use Rattle.std.proofs.Common.{get_or-set_same, below_more}
 use native.Mathlib.Nat.{mod-mod, mod-add-mod, add-mod-mod}
-use Rattle.basics.specs.Bounded.{some, first}
 use Rattle.basics.specs.Sums.{sum_to}
-use Rattle.basics.proofs.Bounded.{first_holds}
 use Rattle.basics.proofs.Comparing.{below?, same?}
 use Rattle.basics.proofs.Parts.{outside-none, outside_set, outside-within}
 use Rattle.basics.proofs.Sums.{sum-ext}
 use Rattle.blocks.specs.Terms.{term_of}
-use Rattle.blocks.specs.Validity.{bound_in}
 use Rattle.blocks.specs.declared.labels.ConcreteLabel.{ConcreteLabel}
-use Rattle.blocks.specs.declared.terms.Term.TheVariants.{Label, Variable}
+use Rattle.blocks.specs.declared.terms.Term.TheVariants.{Label}
 use Rattle.psvn.specs.Rules.{given}
 use Rattle.words.specs.Changes.{word_span}
-use Rattle.rank_changes.specs.Rows.{entry, entry_of, Bound, RowsBegun, RowAdded, Balanced}
+use Rattle.rank_changes.specs.Rows.{entry, entry_of, RowsBegun, RowAdded, Balanced}
 
 -- one of the numbers grows by d
 pub sum_one :
@@ -100,15 +97,6 @@ with_row weights constant rows rows' given d given' e f g =
     sym (add-mod-mod x rows' word_span) ∙ ap (λ (y : ℕ). (x + y) % word_span) g ∙ add-mod-mod x (rows + d) word_span
     ∙ ap (λ (y : ℕ). y % word_span) (sym (add_assoc x rows d)) ∙ sym (mod-add-mod (x + rows) word_span d)
     ∙ ap (λ (y : ℕ). (y + d) % word_span) e ∙ mod-add-mod given word_span d ∙ ap (λ (y : ℕ). y % word_span) (sym f)
-
--- the first left position of a right variable is a position
-pub source-below :
-    {n : ℕ} {left right : ℕ → ℕ} {i : ℕ} → Bound n left right → i < n → (v from : ℕ) → term_of (right i) ≡ Variable v
-    → from ≡ first n (λ j. eqb (left j) v)
-    → from < n
-source-below {n} {left} {right} {i} bound l v from e f =
-    let some_left : some n (λ j. eqb (left j) v) ≡ true = ap (bound_in n left) (sym e) ∙ bound.at i l in
-    omega (arith, (first_holds (λ j. eqb (left j) v) n some_left).0)
 
 module _ (n : ℕ) (left right : ℕ → ℕ) (singles : List ℕ) (few : n ≤ 16) where
   pub balanced-none : {rows : List ℕ} → RowsBegun singles rows → Balanced n left right singles rows 0 0

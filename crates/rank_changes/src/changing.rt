@@ -6,40 +6,38 @@ ghost use Rattle.words.specs.Changes.{changes_length};
 ghost use Rattle.rank_changes.specs.Changes.{SinglesCopied, ChangePlaced, ChangesPlaced};
 
 use super::folding::fold_terms;
-use super::parts::{add_constant, first_part, place_parts};
-use super::rows::{ROWS, SINGLES, Singles, add_terms};
+use super::parts::{first_part, place_parts};
+use super::rows::{add_terms, add_to_row};
 use blocks::layout;
+use blocks::sides::Sides;
 use words::changes::{CHANGE, Changes, FIRST_CHANGE};
+use words::ranking::{LABELS, PerLabel};
 
 // Copies the weights of single labels to the front.
-pub fn copy_singles(singles: &Singles, changes: &mut Changes)
+pub fn copy_singles(singles: &PerLabel<u64>, changes: &mut Changes)
     ensures { SinglesCopied singles.now changes.old changes.new }
 {
-    for k in 0..SINGLES {
-        changes[k] = singles[k];
-    }
+    changes[..LABELS].copy_from_slice(singles);
 }
 
 // Writes the change of rule r.
-fn place_change(block: &[u8], singles: &Singles, changes: &mut Changes, r: usize)
+fn place_change(block: &[u8], singles: &PerLabel<u64>, changes: &mut Changes, r: usize)
     requires { Valid block.now × (r < rules block.now) }
     ensures { ChangePlaced block.now singles.now r changes.old
         changes.new }
 {
-    let n = layout::positions(block);
-    let left = layout::left_at(block, r);
-    let right = layout::right_at(block, r);
-    let mut rows = [0u64; ROWS];
-    let added = add_terms(block, left, right, n, singles, &mut rows);
-    let constant = fold_terms(block, left, n, &mut rows, added);
-    let lead = first_part(&rows, n);
-    add_constant(&mut rows, lead, constant);
-    let count = place_parts(&rows, n, lead, changes, r);
+    let sides = Sides::of(block, r);
+    let mut rows = [0u64; LABELS];
+    let added = add_terms(&sides, singles, &mut rows);
+    let constant = fold_terms(&sides, &mut rows, added);
+    let lead = first_part(&rows, sides.n);
+    add_to_row(&mut rows, lead, |_| constant);
+    let count = place_parts(&rows, sides.n, lead, changes, r);
     changes[FIRST_CHANGE + CHANGE * r] = count as u64;
 }
 
 // Writes the changes of all rules.
-pub fn place_rule_changes(block: &[u8], singles: &Singles, changes: &mut Changes)
+pub fn place_rule_changes(block: &[u8], singles: &PerLabel<u64>, changes: &mut Changes)
     requires { Valid block.now }
     ensures { ChangesPlaced block.now singles.now changes.old
         changes.new }

@@ -7,6 +7,7 @@ ghost use Rattle.blocks.specs.Validity.{Valid};
 ghost use Rattle.words.specs.Changes.{changes_length, Changed};
 
 use words::changes::Changes;
+use words::ranking::PerLabel;
 
 mod changing;
 mod folding;
@@ -14,11 +15,10 @@ mod parts;
 mod rows;
 
 use changing::{copy_singles, place_rule_changes};
-pub use rows::{SINGLES, Singles};
 
 // Writes the weights of single labels to the front and, behind the number of maps, which stays, what each rule adds to
 // ranks.
-pub fn place_changes(block: &[u8], singles: &Singles, changes: &mut Changes)
+pub fn place_changes(block: &[u8], singles: &PerLabel<u64>, changes: &mut Changes)
     requires { Valid block.now }
     ensures changed { Changed block.now changes.new }
     ensures by_index { ((k : ℕ) → k < 256 → slice_index changes.new k ≡ slice_index singles.now k) ×

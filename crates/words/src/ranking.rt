@@ -7,6 +7,11 @@ ghost use Rattle.words.specs.Ranking.{rank_word, word_of};
 use super::packing::{ConcretePair, first_pair};
 use blocks::layout;
 
+// A number for each label at each position, sixteen for each position.
+pub const LABELS: usize = 256;
+
+pub type PerLabel<T> = [T; LABELS];
+
 // The weights of pairs of labels.
 pub const WEIGHTS: usize = 2048;
 
