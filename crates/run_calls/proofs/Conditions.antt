@@ -1,4 +1,5 @@
--- What an accepting verdict on the conditions of a replay says (`replay-accepted`).
+-- What an accepting verdict on the conditions of a replay says (`replay-accepted`). `checks` are the lemmas that the
+-- check rests on.
 -- The call that replays a run rests on this once it has refused what is to be refused.
 use mathlib.Core.Path.{◌≡◌}
 use mathlib.Core.Bool.{true}
@@ -8,13 +9,13 @@ use lib.Dec.{leb}
 use lib.ListN.{length}
 use borrow.Author.Tests.{leb-true}
 use Rattle.refusals.specs.Answers.{told, verdict, ◌unless◌}
-use Rattle.refusals.proofs.Verdicts.{verdict-told, verdict-parts}
+use Rattle.refusals.proofs.Verdicts.{verdict-told, verdict-parts, verdict-behind, verdict-before}
 use Rattle.blocks.specs.Layout.{positions}
 use Rattle.blocks.specs.Validity.{Valid}
 use Rattle.blocks.specs.States.{state_ok}
 use Rattle.runs.specs.Replay.{numbers_ok, longest_list}
 use Rattle.psvn_calls.specs.Checking.{state_conditions}
-use Rattle.psvn_calls.proofs.Conditions.{state-accepted}
+use Rattle.psvn_calls.proofs.Conditions.{state-accepted, state-long}
 use Rattle.run_calls.specs.Replaying.{replay_conditions}
 
 module _ (b s rs : List ℕ) (room : ℕ) where
@@ -41,3 +42,6 @@ module _ (b s rs : List ℕ) (room : ℕ) where
         short = leb-true (length rs) longest_list p₁₀.0;
         room-left = leb-true (positions b) room (verdict-told 11 (leb (positions b) room) [] p₁₀.1).0;
       }
+
+-- what decides the conditions part by part, and what the parts say that are accepted
+pub ruleset checks = (verdict-behind, verdict-before, state-accepted, state-long)

@@ -1,4 +1,5 @@
--- What the call that replays a run promises, from the value that it gives: `replay-kept`.
+-- What the call that replays a run promises, from the value that it gives: `replay-kept`; of an accepted call
+-- `replayed-kept`. `replays` are the lemmas that the call rests on.
 -- The proof of the call rests on this for the second part of its contract.
 use mathlib.Core.Path.{◌≡◌, refl, sym, subst}
 use mathlib.Core.Bool.{true}
@@ -38,6 +39,13 @@ module _ (b s rs out : List ℕ) where
   ended h (Done end) e = rw (front h) (done-in-turn b s rs h.valid end e, state-ok h)
   ended h (Stuck end) e = rw (front h) (stuck_at b s rs end e, state-ok h)
 
+  -- of an accepted call, by what it tells and leaves in the buffer
+  pub replayed-kept :
+      (ending : Replayed) (out' : List ℕ) → verdict (replay_conditions b s rs (length out)) ≡ told tt
+      → ending ≡ replay_ending b s rs → out' ≡ at_front (replay_state b s rs) out
+      → ReplayKept b s rs (told ending) out'
+  replayed-kept ending out' h p q = rw (p, q) (ended (replay-accepted b s rs (length out) h) (replay_ending b s rs) refl)
+
   -- by the verdict
   replayed-by :
       (v : Answer (Unit {0})) → verdict (replay_conditions b s rs (length out)) ≡ v
@@ -49,3 +57,6 @@ module _ (b s rs out : List ℕ) where
       {a : Answer Replayed} {out' : List ℕ} → outcome a out' ≡ replay_run b s rs out → ReplayKept b s rs a out'
   unfolding replay_run
   replay-kept e = subst Kept (sym e) (replayed-by _ refl)
+
+-- for the call
+pub ruleset replays = (replay-accepted, rule-numbers, state-length, replayed-kept)

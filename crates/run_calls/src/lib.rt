@@ -3,5 +3,5 @@
 
 mod replaying;
 
-pub use replaying::{Replay, replay_run};
-pub use runs::replay::RunEnd;
+pub use replaying::replay_run;
+pub use runs::replay::{Replayed, RunEnd};
