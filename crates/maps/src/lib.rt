@@ -6,13 +6,13 @@ ghost use Rattle.std.specs.Prelude.{◌≡◌, ℕ, suc, ◌+◌, ◌*◌, ◌�
 ghost use Rattle.basics.specs.Lists.{at_front};
 ghost use Rattle.refusals.specs.Answers.{verdict};
 ghost use Rattle.refusals.specs.Refusals.{answer_of};
-ghost use Rattle.blocks.specs.Layout.{labels, abstracts, abstract_states};
+ghost use Rattle.blocks.specs.Layout.{abstracts, abstract_states};
 ghost use Rattle.blocks.specs.Validity.{Headed, Sized, Valid};
-ghost use Rattle.maps.specs.Maps.{map_width, further_maps, further_abstracts, further_byte, exercise_at};
+ghost use Rattle.maps.specs.Maps.{map_width, further_maps, further_map, further_abstracts, exercise_at};
 ghost use Rattle.maps.specs.Maps.{all_entries, maps_whole, further_ok, maps_ok, map_conditions};
 ghost use Rattle.maps.specs.Maps.{exercise_conditions, Mapped};
 
-use basics::{and, power_within, wide};
+use basics::power_within;
 use blocks::layout;
 use blocks::layout::{BLOCK_ROOM, BlockBuffer};
 use blocks::validity::{MOST_STATES, lies_within};
@@ -47,14 +47,22 @@ fn map_at(block: &[u8], maps: &[u8], i: usize) -> usize
     i * map_width(block)
 }
 
+// The bytes lent from further map i on: its K and its L map bytes stand at their front.
+fn further_map<'a>(block: &[u8], maps: &'a [u8], i: usize) -> &'a [u8]
+    requires { Headed block.now × (i < further_maps block.now maps.now) }
+    ensures { (result.now ≡ further_map block.now maps.now i) ×
+        (map_width block.now ≤ length result.now) }
+{
+    &maps[map_at(block, maps, i)..]
+}
+
 // Writes the exercise under further map i at the front of `out`.
 pub fn remap(block: &[u8], maps: &[u8], i: usize, out: &mut BlockBuffer)
     requires { Sized block.now × (i < further_maps block.now maps.now) }
     ensures { out.new ≡
         at_front (exercise_at block.now maps.now (suc i)) out.old }
 {
-    let at = map_at(block, maps, i);
-    blocks::remapping::remap(block, &maps[at..], out);
+    blocks::remapping::remap(block, further_map(block, maps, i), out);
 }
 
 // The exercise under a further map, at the front of a buffer with room for every block. Contracts see its bytes.
@@ -78,9 +86,9 @@ impl Remapped {
         requires { Sized block.now × (i < further_maps block.now maps.now) }
         ensures { result ≡ exercise_at block.now maps.now (suc i) }
     {
-        let begin = map_at(block, maps, i);
+        let record = further_map(block, maps, i);
         let mut buffer = [0u8; BLOCK_ROOM];
-        blocks::remapping::remap(block, &maps[begin..], &mut buffer);
+        blocks::remapping::remap(block, record, &mut buffer);
         Remapped {
             buffer,
             length: block.len(),
@@ -100,15 +108,7 @@ fn further_abstracts(block: &[u8], maps: &[u8], i: usize) -> usize
     requires { Headed block.now × (i < further_maps block.now maps.now) }
     ensures { (result ≡ further_abstracts block.now maps.now i) × (result ≤ 255) }
 {
-    wide(maps[map_at(block, maps, i)])
-}
-
-// The byte of further map i for the label x.
-fn further_byte(block: &[u8], maps: &[u8], i: usize, x: usize) -> usize
-    requires { Headed block.now × (i < further_maps block.now maps.now) × (x < labels block.now) }
-    ensures { result ≡ further_byte block.now maps.now i x }
-{
-    wide(maps[map_at(block, maps, i) + (x + 1)])
+    usize::from(further_map(block, maps, i)[0])
 }
 
 // How many entries the table of further map i has, or one more than a table may have where there are more.
@@ -133,7 +133,7 @@ pub fn all_entries(block: &[u8], maps: &[u8]) -> usize
     let count = further_maps(block, maps);
     let mut sum = layout::abstract_states(block);
     for i in 0..count {
-        sum = sum + entries_of(block, maps, i);
+        sum += entries_of(block, maps, i);
     }
     sum
 }
@@ -143,8 +143,7 @@ fn maps_whole(block: &[u8], maps: &[u8]) -> bool
     requires { Headed block.now }
     ensures { result ≡ maps_whole block.now maps.now }
 {
-    let whole = maps.len() % map_width(block) == 0;
-    and(whole, further_maps(block, maps) <= MOST_FURTHER)
+    maps.len() % map_width(block) == 0 && further_maps(block, maps) <= MOST_FURTHER
 }
 
 // Whether K of further map i is from 1 to L, and each of its bytes below it.
@@ -153,16 +152,12 @@ fn further_ok(block: &[u8], maps: &[u8], i: usize) -> bool
     ensures { result ≡ further_ok block.now maps.now i }
 {
     let labels = layout::labels(block);
-    let abstracts = further_abstracts(block, maps, i);
-    if !lies_within(1, abstracts, labels) {
-        return false;
-    }
-    for x in 0..labels {
-        if abstracts <= further_byte(block, maps, i, x) {
-            return false;
-        }
-    }
-    true
+    let map = further_map(block, maps, i);
+    let abstracts = usize::from(map[0]);
+    lies_within(1, abstracts, labels)
+        && map[1..1 + labels]
+            .iter()
+            .all(|byte| usize::from(*byte) < abstracts)
 }
 
 // Condition 15.
@@ -176,7 +171,7 @@ fn maps_ok(block: &[u8], maps: &[u8]) -> bool
         if !further_ok(block, maps, i) {
             return false;
         }
-        entries = entries + entries_of(block, maps, i);
+        entries += entries_of(block, maps, i);
         if MOST_STATES < entries {
             return false;
         }

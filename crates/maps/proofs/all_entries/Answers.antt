@@ -16,7 +16,7 @@ pub abstract_states-sum-requires : goal.abstract_states-sum-requires
 abstract_states-sum-requires c = (c.requires.valid 0 (omega arith)).sized.headed
 
 pub loop-i-init : goal.loop-i-init
-loop-i-init c = (search rules, search rules, search rules)
+loop-i-init c = (search rules, search rules)
 
 pub entries_of-sum-requires : goal.entries_of-sum-requires
 entries_of-sum-requires c =
@@ -45,8 +45,7 @@ overflow_add-sum c =
 pub loop-i-preserved : goal.loop-i-preserved
 loop-i-preserved c =
     let a = c.args in (
-      search rules,
-      c.loop-i.invariant.1,
+      c.loop-i.invariant.0,
       omega (arith, more c, entries-more a.block.now a.maps.now c.loop-i.i),
     )
 
@@ -55,5 +54,5 @@ returns c =
     let b = c.args.block.now in
     let maps = c.args.maps.now in
     let e : c.loop-i.i ≡ further_maps b maps = omega arith in
-    let all = c.loop-i.invariant.2 ∙ ap (λ (k : ℕ). entries_before b maps (suc k)) e in
+    let all = c.loop-i.invariant.1 ∙ ap (λ (k : ℕ). entries_before b maps (suc k)) e in
     (all, omega (arith, all, c.requires.small))

@@ -1,78 +1,68 @@
 -- `maps::further_ok` meets its contract.
-use mathlib.Core.Path.{◌≡◌, sym, ap₂, ◌∙◌}
-use native.Mathlib.Omega.{arith}
-use borrow.Author.Count.{below_more}
-use borrow.Author.Tests.{lt-ltb, le-ltb}
-use borrow.Author.Rules.{rules}
+use Rattle.std.proofs.Common.{◌≡◌, sym, ap, ◌∙◌, Bool, true, false, ◌&&◌, ℕ, suc, ◌+◌, ◌-◌, ◌<◌, ◌≤◌, List, ltb}
+use Rattle.std.proofs.Common.{length, get_or, take, drop, length-drop, arith, rules}
+use Rattle.std.specs.List.{slice_range}
+use Rattle.std.proofs.lemmas.List.{length-take-le, get_or-drop, get_or-take}
+use Rattle.std.proofs.lemmas.Iterator.{cases_from_all, YieldsList-from_slice}
 use Rattle.basics.specs.Bounded.{all}
-use Rattle.basics.proofs.Bounded.{all-passed, all-false}
-use Rattle.basics.proofs.Truth.{and_intro, and-right-false}
+use Rattle.basics.proofs.Bounded.{all-ext}
+use Rattle.basics.proofs.Chains.{all-slice}
 use Rattle.blocks.specs.Layout.{labels}
 use Rattle.blocks.specs.Validity.{within}
-use Rattle.maps.specs.Maps.{further_abstracts, further_byte, further_ok}
+use Rattle.maps.specs.Maps.{further_map, further_ok}
 use Rattle.maps.proofs.further_ok.Goals as goal
-use Rattle.maps.proofs.further_ok.Goals.{Else-not-lies_within, Then-not-lies_within}
-use Rattle.maps.proofs.further_ok.Invariants.{limits, holds}
 
--- what the test of the limits gives
-within-is :
-    (c : Then-not-lies_within)
-    → c.lies_within.result
-    ≡ limits c.args.block.now
-    c.args.maps.now
-    c.args.i
-within-is c =
-    c.lies_within.ensures
-    ∙ ap₂ (within 1) c.further_abstracts-abstracts.ensures.0 c.labels-labels.ensures.0
+-- a test of the bytes 1 to n of a list
+part :
+    (m : List ℕ) (n : ℕ) (test : ℕ → Bool) → n < length m
+    → all (length (slice_range m 1 (1 + n))) (λ k. test (get_or (slice_range m 1 (1 + n)) k 0))
+    ≡ all n (λ x. test (get_or m (suc x) 0))
+part m n test l =
+    let room : n ≤ length (drop 1 m) = omega (arith, length-drop 1 m) in
+    let width : 1 + n - 1 ≡ n = omega arith in
+    let long : length (slice_range m 1 (1 + n)) ≡ n =
+    ap (λ (k : ℕ). length (take k (drop 1 m))) width ∙ length-take-le n (drop 1 m) room in
+    ap (λ (k : ℕ). all k (λ k. test (get_or (slice_range m 1 (1 + n)) k 0))) long
+    ∙ all-ext (λ k. test (get_or (slice_range m 1 (1 + n)) k 0)) (λ x. test (get_or m (suc x) 0)) n (λ x k.
+    let behind : 1 + x ≡ suc x = omega arith in
+    ap test
+    (get_or-take (1 + n - 1) (drop 1 m) x 0 (omega arith) ∙ get_or-drop 1 m x 0 ∙ ap (λ (j : ℕ). get_or m j 0) behind))
 
-pub returns-then-not-lies_within : goal.returns-then-not-lies_within
+-- the test by the bytes of the map, as the code finds them
+module _
+    (b m f : List ℕ) (k n : ℕ) (e : m ≡ f) (p : k ≡ get_or m 0 0) (q : n ≡ labels b) where
+  abbrev test_of : Bool
+  test_of = within 1 (get_or f 0 0) (labels b) && all (labels b) (λ x. ltb (get_or f (suc x) 0) (get_or f 0 0))
+
+  limits-hold : {t : Bool} → true ≡ within 1 k n → t ≡ all n (λ x. ltb (get_or m (suc x) 0) k) → t ≡ test_of
+  limits-hold h s = rw (← e, ← q, ← p, sym h) s
+
+  limits-fail : false ≡ within 1 k n → false ≡ test_of
+  limits-fail h = rw (← e, ← q, ← p, sym h)
+
+pub returns-then-lies_within : goal.returns-then-lies_within
 unfolding further_ok
-returns-then-not-lies_within c = sym (rw (sym (within-is c) ∙ c.if-not-lies_within.true))
-
--- what the test of the limits gives
-within-is-2 :
-    (c : Else-not-lies_within)
-    → c.lies_within.result
-    ≡ limits c.args.block.now
-    c.args.maps.now
-    c.args.i
-within-is-2 c =
-    c.lies_within.ensures
-    ∙ ap₂ (within 1) c.further_abstracts-abstracts.ensures.0 c.labels-labels.ensures.0
-
-pub loop-x-init : goal.loop-x-init
-loop-x-init c = (
-  search rules,
-  search rules,
-  search rules,
-  λ k l. absurd (omega arith),
-  sym (within-is-2 c) ∙ c.if-not-lies_within.false,
-)
-
-pub returns-then-abstracts-further_byte : goal.returns-then-abstracts-further_byte
-unfolding further_ok
-returns-then-abstracts-further_byte c =
+returns-then-lies_within c =
     let a = c.args in
     let b = a.block.now in
-    let maps = a.maps.now in
-    let fails = le-ltb (further_byte b maps a.i c.loop-x.x) (further_abstracts b maps a.i) (omega arith) in
-    sym (and-right-false (limits b maps a.i) (all (labels b) (holds b maps a.i))
-    (all-false (holds b maps a.i) (labels b) c.loop-x.x (omega arith) fails))
+    let m = c.further_map-map.result.now in
+    let k = c.from-abstracts.result in
+    let n = c.labels-labels.result in
+    let e = c.further_map-map.ensures.0 in
+    let test : ℕ → Bool = λ x. ltb x k in
+    let sum =
+    all-slice (slice_range m 1 (1 + n)) test c.all.result
+    (cases_from_all _ _ _ (λ x. test x ≡ true) (λ x. test x ≡ false) c.all.ensures.ran
+    (YieldsList-from_slice (slice_range m 1 (1 + n)) (cc)) (λ x q k. search rules) (λ x q k. search rules))
+    ∙ part m n test (omega arith) in
+    limits-hold b m (further_map b a.maps.now a.i) k n e c.from-abstracts.ensures c.labels-labels.ensures.0
+    c.if-lies_within.ensures sum
 
-pub loop-x-preserved : goal.loop-x-preserved
-loop-x-preserved c =
-    let a = c.args in
-    let b = a.block.now in
-    let maps = a.maps.now in
-    let inv = c.loop-x.invariant in
-    let small = lt-ltb (further_byte b maps a.i c.loop-x.x) (further_abstracts b maps a.i) (omega arith) in
-    (inv.0, inv.1, search rules, below_more _ _ inv.3 small, inv.4)
-
-pub returns : goal.returns
+pub returns-else-lies_within : goal.returns-else-lies_within
 unfolding further_ok
-returns c =
+returns-else-lies_within c =
     let a = c.args in
-    let b = a.block.now in
-    let maps = a.maps.now in
-    sym (and_intro (limits b maps a.i) (all (labels b) (holds b maps a.i)) c.loop-x.invariant.4
-    (all-passed (holds b maps a.i) (labels b) c.loop-x.x (omega arith) c.loop-x.invariant.3))
+    c.if-lies_within.false
+    ∙ limits-fail a.block.now c.further_map-map.result.now (further_map a.block.now a.maps.now a.i)
+    c.from-abstracts.result c.labels-labels.result c.further_map-map.ensures.0 c.from-abstracts.ensures
+    c.labels-labels.ensures.0 c.if-lies_within.ensures

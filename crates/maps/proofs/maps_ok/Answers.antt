@@ -1,6 +1,5 @@
 -- `maps::maps_ok` meets its contract.
 use mathlib.Core.Path.{◌≡◌, sym, ap, ◌∙◌}
-use mathlib.Core.Bool.{true}
 use Prim.Native.Nat.{ℕ, suc}
 use native.Mathlib.Omega.{arith}
 use lib.Dec.{leb}
@@ -13,10 +12,9 @@ use Rattle.basics.proofs.Truth.{and_intro, and-right-false}
 use Rattle.maps.specs.Maps.{further_maps, further_ok, entries_before, all_entries, maps_ok}
 use Rattle.maps.proofs.MapLaws.{further-abstracts-is, further-parts, entries-more, table-within}
 use Rattle.maps.proofs.maps_ok.Goals as goal
-use Rattle.maps.proofs.maps_ok.Goals.{Else-entries-gt-MOST_STATES, Else-not-further_ok}
 
 pub loop-i-init : goal.loop-i-init
-loop-i-init c = (search rules, search rules, search rules, search rules, λ k l. absurd (omega arith))
+loop-i-init c = (search rules, search rules, search rules, λ k l. absurd (omega arith))
 
 pub returns-then-not-further_ok : goal.returns-then-not-further_ok
 unfolding maps_ok
@@ -27,21 +25,12 @@ returns-then-not-further_ok c =
     let fails = sym c.further_ok.ensures ∙ c.if-not-further_ok.true in
     sym (rw (all-false (further_ok b maps) (further_maps b maps) c.loop-i.i (omega arith) fails))
 
--- the map at hand is right
-right :
-    (c : Else-not-further_ok)
-    → further_ok c.args.block.now
-    c.args.maps.now
-    c.loop-i.i
-    ≡ true
-right c = sym c.further_ok.ensures ∙ c.if-not-further_ok.false
-
 pub entries_of-entries-requires : goal.entries_of-entries-requires
 entries_of-entries-requires c =
     let b = c.args.block.now in
     let maps = c.args.maps.now in
     let i = c.loop-i.i in
-    let low = (further-parts b maps i (right c)).0 in
+    let low = (further-parts b maps i (sym c.further_ok.ensures ∙ c.if-not-further_ok.false)).0 in
     (c.requires, search rules, omega (arith, low, further-abstracts-is b maps c.requires i))
 
 pub returns-then-entries-gt-MOST_STATES : goal.returns-then-entries-gt-MOST_STATES
@@ -54,24 +43,14 @@ returns-then-entries-gt-MOST_STATES c =
     sym (and-right-false (all (further_maps b maps) (further_ok b maps)) (leb (all_entries b maps) 16384)
     (lt-leb (all_entries b maps) 16384 (omega arith)))
 
--- the map at hand is right
-right-2 :
-    (c : Else-entries-gt-MOST_STATES)
-    → further_ok c.args.block.now
-    c.args.maps.now
-    c.loop-i.i
-    ≡ true
-right-2 c = sym c.further_ok.ensures ∙ c.if-not-further_ok.false
-
 pub loop-i-preserved : goal.loop-i-preserved
 loop-i-preserved c =
     let a = c.args in
     let inv = c.loop-i.invariant in (
-      search rules,
-      inv.1,
+      inv.0,
       omega (arith, entries-more a.block.now a.maps.now c.loop-i.i),
       search rules,
-      below_more _ _ inv.4 (right-2 c),
+      below_more _ _ inv.3 (sym c.further_ok.ensures ∙ c.if-not-further_ok.false),
     )
 
 pub returns : goal.returns
@@ -81,7 +60,7 @@ returns c =
     let b = a.block.now in
     let maps = a.maps.now in
     let e : c.loop-i.i ≡ further_maps b maps = omega arith in
-    let all_fit = c.loop-i.invariant.2 ∙ ap (λ (k : ℕ). entries_before b maps (suc k)) e in
+    let all_fit = c.loop-i.invariant.1 ∙ ap (λ (k : ℕ). entries_before b maps (suc k)) e in
     sym (and_intro (all (further_maps b maps) (further_ok b maps)) (leb (all_entries b maps) 16384)
-    (all-passed (further_ok b maps) (further_maps b maps) c.loop-i.i (omega arith) c.loop-i.invariant.4)
+    (all-passed (further_ok b maps) (further_maps b maps) c.loop-i.i (omega arith) c.loop-i.invariant.3)
     (le-leb (all_entries b maps) 16384 (omega arith)))
