@@ -43,7 +43,10 @@ fn on_bytes(block: &[u8], state: &[u8], k: usize) -> [u8; 2]
         (k < rules block.now + goals block.now) }
 {
     let at = side_at(block, k);
-    characters(constant_mismatch(block, at, state), side_matches(block, at, state))
+    characters(
+        constant_mismatch(block, at, state),
+        side_matches(block, at, state),
+    )
 }
 
 // The same for its word and the place of the side in a compiled block with so many rules.
@@ -72,11 +75,18 @@ fn print_sides<F: Fn(usize) -> [u8; 2]>(rt: &impl Print, count: usize, side: F) 
 fn print_state(rt: &impl Print, block: &[u8], code: &Code, state: &[u8]) -> io::Result<()>
     requires { Sized block.now × (state_ok block.now state.now ≡ true) }
 {
-    let rules = layout::rules(block);
-    let count = rules + layout::goals(block);
-    print_sides(rt, count, |k| on_bytes(block, state, k))?;
+    let left_sides = layout::rules(block);
+    let count = left_sides + layout::goals(block);
+    let bytes_side = |k|
+        requires { Sized block.now × (length state.now ≡ positions block.now) ×
+            (k < rules block.now + goals block.now) }
+    { on_bytes(block, state, k) };
+    print_sides(rt, count, bytes_side)?;
     let word = pack(state);
-    print_sides(rt, count, |k| on_words(code, rules, word, k))
+    let word_side = |k|
+        requires { (left_sides ≤ 64) × (k < left_sides + 8) }
+    { on_words(code, left_sides, word, k) };
+    print_sides(rt, count, word_side)
 }
 
 // Prints the matches of goal g, where it is a state.

@@ -8,7 +8,7 @@ pub slice_bounds-state-end : goal.slice_bounds-state-end
 slice_bounds-state-end g c =
     omega (
       arith,
-      c.positions-n.ensures,
+      c.positions.ensures,
       c.goal_at-at.ensures,
       goal-inside c.args.block.now c.requires.0 c.args.g c.requires.1,
     )

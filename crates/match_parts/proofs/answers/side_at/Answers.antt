@@ -9,8 +9,8 @@ pub returns-then-k-rules : goal.returns-then-k-rules
 returns-then-k-rules c =
     omega (arith, c.left_at.ensures, left-inside c.args.block.now c.requires.0 c.args.k (omega arith))
 
-pub returns : goal.returns
-returns c =
+pub returns-else-k-rules : goal.returns-else-k-rules
+returns-else-k-rules c =
     let rules = c.rules-rules.result in
     omega (
       arith,
