@@ -14,12 +14,9 @@ use blocks::terms::{Term, decode};
 fn constant_allows(byte: u8, label: u8) -> bool
     ensures { result ≡ constant_allows (term_of byte) label }
 {
-    let term = decode(byte);
-    match term {
+    match decode(byte) {
         Term::Label(constant) => label == constant.0,
-        Term::Variable(_) => true,
-        Term::Dash => true,
-        Term::Refused => true,
+        Term::Variable(_) | Term::Dash | Term::Refused => true,
     }
 }
 
@@ -32,13 +29,7 @@ pub fn constant_mismatch(block: &[u8], at: usize, state: &[u8]) -> Option<usize>
     ensures mismatch_means { MismatchMeans (length state.now)
         (constant_agrees (side_at block.now at) state.now) result }
 {
-    let n = state.len();
-    for i in 0..n {
-        if !constant_allows(block[at + i], state[i]) {
-            return Some(i);
-        }
-    }
-    None
+    (0..state.len()).find(|i| !constant_allows(block[at + *i], state[*i]))
 }
 
 // The label that the side at `at` binds a variable to: that of the first position where it stands; 0 if it stands
@@ -60,15 +51,9 @@ fn variable_agrees(block: &[u8], at: usize, state: &[u8], i: usize) -> bool
     ensures { result ≡ variable_agrees (length state.now) (side_at block.now at)
         state.now i }
 {
-    let term = decode(block[at + i]);
-    match term {
-        Term::Label(_) => true,
-        Term::Variable(v) => {
-            let label = label_bound(block, at, state, v);
-            state[i] == label.0
-        }
-        Term::Dash => true,
-        Term::Refused => true,
+    match decode(block[at + i]) {
+        Term::Variable(v) => state[i] == label_bound(block, at, state, v).0,
+        Term::Label(_) | Term::Dash | Term::Refused => true,
     }
 }
 
@@ -78,13 +63,7 @@ fn variables_match(block: &[u8], at: usize, state: &[u8]) -> bool
         (constants_agree (length state.now) (side_at block.now at) state.now ≡ true) }
     ensures { result ≡ matches (length state.now) (side_at block.now at) state.now }
 {
-    let n = state.len();
-    for i in 0..n {
-        if !variable_agrees(block, at, state, i) {
-            return false;
-        }
-    }
-    true
+    (0..state.len()).all(|i| variable_agrees(block, at, state, i))
 }
 
 // Whether a state matches the side at `at`: the first part, and only where it finds nothing the second.

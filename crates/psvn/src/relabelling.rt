@@ -18,12 +18,9 @@ fn relabel_term(block: &[u8], i: usize, byte: u8) -> u8
         (term_ok (label_count block.now i) (term_of byte) ≡ true) }
     ensures { result ≡ relabel_term (map_at block.now i) byte }
 {
-    let term = decode(byte);
-    match term {
+    match decode(byte) {
         Term::Label(label) => byte_of(layout::abstract_label(block, i, label)),
-        Term::Variable(_) => byte,
-        Term::Dash => byte,
-        Term::Refused => byte,
+        Term::Variable(_) | Term::Dash | Term::Refused => byte,
     }
 }
 

@@ -21,12 +21,10 @@ fn label_given(block: &[u8], at: usize, state: &[u8], i: usize, byte: u8) -> Con
     ensures { result.0 ≡ given (length state.now) (side_at block.now at) state.now i
         (term_of byte) }
 {
-    let term = decode(byte);
-    match term {
+    match decode(byte) {
         Term::Label(label) => label,
         Term::Variable(v) => label_bound(block, at, state, v),
-        Term::Dash => ConcreteLabel(state[i]),
-        Term::Refused => ConcreteLabel(state[i]),
+        Term::Dash | Term::Refused => ConcreteLabel(state[i]),
     }
 }
 
@@ -55,15 +53,7 @@ fn makes(block: &[u8], left: usize, right: usize, old: &[u8], new: &[u8]) -> boo
         (rewritten (length old.now) (side_at block.now left) (side_at block.now right)
         old.now) new.now }
 {
-    let n = old.len();
-    for i in 0..n {
-        let written = block[right + i];
-        let given = label_given(block, left, old, i, written);
-        if given.0 != new[i] {
-            return false;
-        }
-    }
-    true
+    (0..old.len()).all(|i| label_given(block, left, old, i, block[right + i]).0 == new[i])
 }
 
 // Whether rule r applies to a state.

@@ -1,44 +1,22 @@
 -- `psvn::rules::makes` meets its contract.
-use mathlib.Core.Path.{sym, ◌∙◌}
-use native.Mathlib.Omega.{arith}
-use lib.ListN.{length}
-use borrow.Author.Count.{below_more}
-use borrow.Author.Tests.{eq-eqb, ne_eqb}
-use borrow.Author.Rules.{rules}
-use Rattle.basics.proofs.Bounded.{all-passed, all-false}
+use Rattle.std.proofs.Common.{sym, ap, ◌∙◌, Bool, ℕ, eqb, length, get_or, rules}
+use Rattle.basics.proofs.Bounded.{all-ext}
+use Rattle.basics.proofs.Chains.{all-numbers}
+use Rattle.blocks.specs.Terms.{term_of}
 use Rattle.blocks.specs.Layout.{side_at}
+use Rattle.psvn.specs.Rules.{given, rewritten}
 use Rattle.psvn.proofs.Making.{rewritten-at}
 use Rattle.psvn.proofs.rules.makes.Goals as goal
-use Rattle.psvn.proofs.rules.makes.Invariants.{holds}
-
-pub loop-i-init : goal.loop-i-init
-loop-i-init c = (search rules, search rules, λ k l. absurd (omega arith))
-
-pub returns-then-given-new : goal.returns-then-given-new
-returns-then-given-new c =
-    let a = c.args in
-    let o = a.old.now in
-    let i = c.loop-i.i in
-    sym (all-false (holds a.block.now a.left a.right o a.new.now) (length o) i (omega arith)
-    (ne_eqb _ _ (λ e. c.if-given-new.true
-    (c.label_given-given.ensures
-    ∙ sym (rewritten-at (length o) (side_at a.block.now a.left) (side_at a.block.now a.right) o i
-    (omega arith)) ∙ e))))
-
-pub loop-i-preserved : goal.loop-i-preserved
-loop-i-preserved c =
-    let a = c.args in
-    let o = a.old.now in
-    let i = c.loop-i.i in (
-      search rules,
-      search rules,
-      below_more _ _ c.loop-i.invariant.2
-          (eq-eqb _ _ (rewritten-at (length o) (side_at a.block.now a.left) (side_at a.block.now a.right)
-          o i (omega arith) ∙ sym c.label_given-given.ensures ∙ c.if-given-new.false)),
-    )
 
 pub returns : goal.returns
 returns c =
-    let a = c.args in
-    sym (all-passed (holds a.block.now a.left a.right a.old.now a.new.now) (length a.old.now)
-    c.loop-i.i (omega arith) c.loop-i.invariant.2)
+    let o = c.args.old.now in
+    let new = c.args.new.now in
+    let n = length o in
+    let left = side_at c.args.block.now c.args.left in
+    let right = side_at c.args.block.now c.args.right in
+    let given_there : ℕ → Bool = λ i. eqb (given n left o i (term_of (right i))) (get_or new i 0) in
+    let made_there : ℕ → Bool = λ i. eqb (get_or (rewritten n left right o) i 0) (get_or new i 0) in
+    all-numbers n given_there c.all.result c.all.ensures.ran (λ x q k. search rules) (λ x q k. search rules)
+    ∙ all-ext given_there made_there n (λ i l.
+    ap (λ (y : ℕ). eqb y (get_or new i 0)) (sym (rewritten-at n left right o i l)))
