@@ -1,7 +1,7 @@
 -- Sums over rows grow with one of their numbers (`sum_one`). A row grows entry by entry (`added_none`, `added_more`),
 -- and the sum with it (`sum_added`). Rows begun are balanced (`balanced-none`), also with one term more, a constant
--- (`constant-more`) or one with a position's label (`row_more`). Making and folding rows, and the ranks after a rule, rest
--- on these.
+-- (`constant-more`) or one with a position's label (`row_more`). Making and folding rows, and the ranks after a rule,
+-- rest on these.
 use Rattle.std.proofs.Common.{◌≡◌, ℕ, zero, suc, ◌+◌, ◌*◌, ◌%◌, ◌<◌, ◌≤◌, List, length, get_or, set, sym}
 use Rattle.std.proofs.Common.{refl, ap, ◌∙◌, ⊎_elim, not-suc-le-zero, add_assoc, add-one, arith, get_or-set_other}
 use Rattle.std.proofs.Common.{get_or-set_same, below_more}

@@ -2,7 +2,8 @@
 -- matches it, in two parts (`mismatch_word`, `variables_word`; `matches_word`), and so a rule's test, its result and
 -- its cost, and the goal met. Where a side stands in the arrays is defined here; `compiling` knows it too, and other
 -- crates name a side by its number.
-use Rattle.std.specs.Prelude.{ℕ, zero, suc, ◌+◌, ◌*◌, ◌%◌, ◌^◌, Bool, not, ◌&&◌, List, [], ◌∷◌, ◌==◌, bit_and, bit_or, slice_index}
+use Rattle.std.specs.Prelude.{ℕ, zero, suc, ◌+◌, ◌*◌, ◌%◌, ◌^◌, Bool, not, ◌&&◌, List, [], ◌∷◌, ◌==◌, bit_and, bit_or}
+use Rattle.std.specs.Prelude.{slice_index}
 use Rattle.std.specs.Prelude.{Option}
 use Rattle.basics.specs.Bounded.{all, some, find}
 use Rattle.words.specs.Packing.{digit}

@@ -10,7 +10,8 @@ bit-fits :
     → (2 * s + bool_byte b < 2 ^ (n - (r - 1))) × (2 * s + bool_byte b < 18446744073709551616)
 bit-fits n r s b some low few small =
     let fits = more-fits n r s some low few small in
-    let bit : bool_byte b ≤ 1 = elim b as (λ (t : Bool). bool_byte t ≤ 1) [ true ↦ omega arith | false ↦ omega arith ] in
+    let bit : bool_byte b ≤ 1 =
+    elim b as (λ (t : Bool). bool_byte t ≤ 1) [ true ↦ omega arith | false ↦ omega arith ] in
     (omega (arith, fits.0), omega (arith, fits.1))
 
 -- the rules behind the one at hand, and that one where it passes

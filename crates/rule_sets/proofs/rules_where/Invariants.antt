@@ -7,4 +7,5 @@ use Rattle.rule_sets.proofs.rules_where.Given as goal
 abbrev pub invariant-loop-r : goal.invariant-loop-r
 invariant-loop-r g l =
     (l.set < 2 ^ (l.rules - l.r))
-    × ((f : ℕ → Bool) → ((r : ℕ) (b : Bool) → r < l.rules → g.F.Fn.post l.test (r, tt) b → b ≡ f r) → From f l.rules l.r l.set)
+    × ((f : ℕ → Bool) → ((r : ℕ) (b : Bool) → r < l.rules → g.F.Fn.post l.test (r, tt) b → b ≡ f r)
+    → From f l.rules l.r l.set)

@@ -6,4 +6,7 @@ use Rattle.compiling.proofs.placing_sides.Side.with_constant.Goals as goal
 pub returns : goal.returns
 returns c =
     let a = c.args in
-    record { begun = λ n left side li ln e b. rw c.from.ensures (constant-more n left side a.self a.i li ln b a.label e) }
+    record {
+      begun = λ n left side li ln e b.
+          rw c.from.ensures (constant-more n left side a.self a.i li ln b a.label e);
+    }

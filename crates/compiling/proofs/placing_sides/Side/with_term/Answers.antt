@@ -74,5 +74,6 @@ returns-in-Dash c =
     let li = h.i_in_bounds in
     let e = sym c.decode.ensures in
     c.with_source-in-Dash.ensures.begun q.n left side li few li
-    (⊎_elim (λ d. taken-dash q.n left side a.i li (e ∙ d)) (λ r. taken_refused q.n left side a.i li (e ∙ r)) c.in-Dash.is)
+    (⊎_elim (λ d. taken-dash q.n left side a.i li (e ∙ d)) (λ r. taken_refused q.n left side a.i li (e ∙ r))
+    c.in-Dash.is)
     h.begun
