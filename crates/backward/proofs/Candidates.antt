@@ -12,14 +12,14 @@ use lib.ListN.{length, get_or}
 use Rattle.basics.specs.Bounded.{last}
 use Rattle.basics.proofs.Truth.{true-false}
 use Rattle.basics.proofs.Order.{Before}
-use Rattle.blocks.specs.Layout.{positions, rules, label_count, left_at, right_at, left_of, right_of, side_at}
+use Rattle.blocks.specs.Layout.{positions, rules, label_count, left_of, right_of}
 use Rattle.blocks.specs.States.{state_ok}
 use Rattle.blocks.specs.Validity.{Valid}
 use Rattle.blocks.proofs.StateLaws.{labelled-intro, state-length, state-label}
 use Rattle.psvn.specs.Rules.{leads}
 use Rattle.psvn.specs.Ranks.{state_rank}
 use Rattle.psvn.proofs.RankLaws.{before-state-rank, state-rank-before}
-use Rattle.backward.specs.Choices.{Choice, choice, choices_at, least_of, raisable_at, Completed, Raised}
+use Rattle.backward.specs.Choices.{Choice, choice, choices_of, least_of, raisable_at, Completed, Raised}
 use Rattle.backward.specs.Predecessors.{Earlier, from_first, after, from_rank, found, none_further, step_back}
 use Rattle.backward.specs.Predecessors.{settled}
 use Rattle.backward.proofs.Leading.{leads_by_lem}
@@ -133,19 +133,19 @@ module _ (b : List ℕ) (va : Valid b) (r : ℕ) (lr : r < rules b) (s : List �
         (leads_keeps n (left_of b r) (right_of b r) s v (sym (leads_by_lem b r v s) ∙ k)) (state-label b v vo)
         (state-rank-before b e v eo vo a) h)
 
-  -- as the code finds the rule: its sides begin at `left` and
-  -- `right`, and it counts positions by the length of the state
-  module _ (left right : ℕ) (el : left ≡ left_at b r) (er : right ≡ right_at b r) where
+  -- as the code finds the rule: by the terms of its sides, and
+  -- it counts positions by the length of the state
+  module _ (left right : ℕ → ℕ) (el : left ≡ left_of b r) (er : right ≡ right_of b r) where
     abbrev found-choices : List ℕ → ℕ → Choice
-    found-choices = choices_at b left right s
+    found-choices = choices_of left right s
 
     long : length s ≡ positions b
     long = state-length b s so
 
     same-choices : found-choices ≡ choices
     same-choices =
-        ap₂ (λ (n left : ℕ). choice n (side_at b left) (side_at b right) s) long el
-        ∙ ap (λ (right : ℕ). choice (positions b) (left_of b r) (side_at b right) s) er
+        ap₂ (λ (left right : ℕ → ℕ). choice (length s) left right s) el er
+        ∙ ap (λ (n : ℕ). choice n (left_of b r) (right_of b r) s) long
 
     pub first-settles :
         (e u : List ℕ) → length u ≡ length s → Completed found-choices (length s) 0 e u

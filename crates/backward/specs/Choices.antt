@@ -5,7 +5,6 @@ use Rattle.std.specs.Prelude.{◌≡◌, ℕ, suc, ◌+◌, ◌≤◌, ◌<◌, 
 use Rattle.std.specs.Prelude.{Option, Some, None}
 use Rattle.basics.specs.Bounded.{all, first}
 use Rattle.blocks.specs.Terms.{term_of, is_dash}
-use Rattle.blocks.specs.Layout.{side_at}
 use Rattle.blocks.specs.declared.labels.ConcreteLabel.{ConcreteLabel}
 use Rattle.blocks.specs.declared.terms.Term.{Term}
 use Rattle.blocks.specs.declared.terms.Term.TheVariants.{Label, Variable, Dash, Refused}
@@ -37,9 +36,9 @@ unfoldable pub choice : ℕ → (ℕ → ℕ) → (ℕ → ℕ) → List ℕ →
 choice n left right s u i =
     cond (is_dash (term_of (right i))) (only (get_or s i 0)) (term_choice n left right s u i (term_of (left i)))
 
--- the choices of a predecessor of s, where the sides of the rule begin at `left` and `right` in the block
-abbrev pub choices_at : List ℕ → ℕ → ℕ → List ℕ → List ℕ → ℕ → Choice
-choices_at b left right s = choice (length s) (side_at b left) (side_at b right) s
+-- the choices of a predecessor of s, where the rule has these sides
+abbrev pub choices_of : (ℕ → ℕ) → (ℕ → ℕ) → List ℕ → List ℕ → ℕ → Choice
+choices_of left right s = choice (length s) left right s
 
 -- the least label that may stand there; the least above x; whether
 -- there is one above x, below the count; whether x may stand there

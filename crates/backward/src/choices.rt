@@ -1,13 +1,15 @@
 // What a state that a rule takes to a given one may hold at a position: the only label that may stand there, or none
 // where any may.
 ghost use Rattle.std.specs.Prelude.{◌≡◌, ◌<◌, length};
-ghost use Rattle.blocks.specs.Layout.{positions, rules, left_at, right_at, side_at};
+ghost use Rattle.blocks.specs.Layout.{positions, rules, left_of, right_of};
+ghost use Rattle.blocks.specs.Sides.{left_terms, right_terms};
 ghost use Rattle.blocks.specs.Validity.{Sized};
-ghost use Rattle.backward.specs.Choices.{variable_choice, choices_at, least_of, raised_of, rises_of, keeps_of};
+ghost use Rattle.backward.specs.Choices.{variable_choice, choices_of, least_of, raised_of, rises_of, keeps_of};
 
-use super::sides::Sides;
+use super::showing::first_shown;
 use basics::first_of;
 use blocks::labels::ConcreteLabel;
+use blocks::sides::Sides;
 use blocks::terms::{Term, decode, is_dash};
 
 // A rule stepped back: its sides, and the state that it takes others to.
@@ -22,9 +24,8 @@ impl<'a> Reversal<'a> {
     // Rule r, stepped back from `state`.
     pub fn of(block: &'a [u8], r: usize, state: &'a [u8]) -> Self
         requires { Sized block.now × (r < rules block.now) × (length state.now ≡ positions block.now) }
-        ensures { (result.sides.block.now ≡ block.now) × (result.sides.left ≡ left_at block.now r) ×
-            (result.sides.right ≡ right_at block.now r) × (result.sides.n ≡ positions block.now) ×
-            (result.state.now ≡ state.now) }
+        ensures { (result.sides.n ≡ positions block.now) × (left_terms result.sides ≡ left_of block.now r) ×
+            (right_terms result.sides ≡ right_of block.now r) × (result.state.now ≡ state.now) }
     {
         let sides = Sides::of(block, r);
         Reversal { sides, state }
@@ -34,14 +35,13 @@ impl<'a> Reversal<'a> {
     fn variable_choice(&self, begun: &[u8], i: usize, v: u8) -> Option<ConcreteLabel>
         requires { (length begun.now ≡ self.now.sides.n) × (i < self.now.sides.n) }
         ensures { result ≡ variable_choice (length self.now.state.now)
-            (side_at self.now.sides.block.now self.now.sides.left)
-            (side_at self.now.sides.block.now self.now.sides.right) self.now.state.now begun.now i v }
+            (left_terms self.now.sides) (right_terms self.now.sides) self.now.state.now begun.now i v }
     {
         let sides = &self.sides;
-        if let Some(shown) = sides.first_shown(v) {
+        if let Some(shown) = first_shown(sides, v) {
             return Some(ConcreteLabel(self.state[shown]));
         }
-        match first_of(sides.block, sides.left, sides.n, v) {
+        match first_of(sides.bytes, sides.left, sides.n, v) {
             Some(first) if first < i => Some(ConcreteLabel(begun[first])),
             _ => None,
         }
@@ -50,14 +50,14 @@ impl<'a> Reversal<'a> {
     // What position i may hold in a state that begins as `begun` does and that the rule takes to `state`.
     pub fn choice_at(&self, begun: &[u8], i: usize) -> Option<ConcreteLabel>
         requires { (length begun.now ≡ self.now.sides.n) × (i < self.now.sides.n) }
-        ensures { result ≡ choices_at self.now.sides.block.now self.now.sides.left
-            self.now.sides.right self.now.state.now begun.now i }
+        ensures { result ≡ choices_of (left_terms self.now.sides) (right_terms self.now.sides)
+            self.now.state.now begun.now i }
     {
         let sides = &self.sides;
-        if is_dash(sides.block[sides.right + i]) {
+        if is_dash(sides.bytes[sides.right + i]) {
             return Some(ConcreteLabel(self.state[i]));
         }
-        match decode(sides.block[sides.left + i]) {
+        match decode(sides.bytes[sides.left + i]) {
             Term::Label(label) => Some(label),
             Term::Variable(v) => self.variable_choice(begun, i, v),
             Term::Dash | Term::Refused => None,

@@ -4,4 +4,4 @@
 mod choices;
 pub mod predecessors;
 pub mod reversible;
-mod sides;
+mod showing;

@@ -3,9 +3,10 @@
 ghost use Rattle.std.specs.Prelude.{◌≡◌, true, ◌≤◌, ◌<◌, length, get_or};
 ghost use Rattle.basics.specs.Bounded.{last};
 ghost use Rattle.blocks.specs.Layout.{positions, rules, label_count};
+ghost use Rattle.blocks.specs.Sides.{left_terms, right_terms};
 ghost use Rattle.blocks.specs.States.{state_ok};
 ghost use Rattle.blocks.specs.Validity.{Headed, Sized, Valid};
-ghost use Rattle.backward.specs.Choices.{choices_at, raisable_at, Completed, Raised};
+ghost use Rattle.backward.specs.Choices.{choices_of, raisable_at, Completed, Raised};
 ghost use Rattle.backward.specs.Predecessors.{from_first, after, step_back, settled, Answered};
 
 use super::choices::{Reversal, keeps, least, raised, rises};
@@ -15,7 +16,7 @@ use blocks::layout::MOST_POSITIONS;
 // Goes on from position `from` with the least labels.
 fn complete(reversal: &Reversal, candidate: &mut [u8], from: usize)
     requires { (length candidate.old ≡ reversal.now.sides.n) × (from ≤ reversal.now.sides.n) }
-    ensures { Completed (choices_at reversal.now.sides.block.now reversal.now.sides.left reversal.now.sides.right
+    ensures { Completed (choices_of (left_terms reversal.now.sides) (right_terms reversal.now.sides)
         reversal.now.state.now) (length reversal.now.state.now) from candidate.old candidate.new }
 {
     for i in from..reversal.sides.n {
@@ -24,19 +25,18 @@ fn complete(reversal: &Reversal, candidate: &mut [u8], from: usize)
 }
 
 // The last position that can be raised, with the labels of `earlier` before it kept, if there is one.
-fn pivot(reversal: &Reversal, earlier: &[u8]) -> Option<usize>
-    requires { Headed reversal.now.sides.block.now ×
-        (reversal.now.sides.n ≡ positions reversal.now.sides.block.now) ×
+fn pivot(block: &[u8], reversal: &Reversal, earlier: &[u8]) -> Option<usize>
+    requires { Headed block.now × (reversal.now.sides.n ≡ positions block.now) ×
         (length earlier.now ≡ reversal.now.sides.n) }
     ensures { result ≡ last (length reversal.now.state.now)
-        (raisable_at (label_count reversal.now.sides.block.now) (choices_at reversal.now.sides.block.now
-        reversal.now.sides.left reversal.now.sides.right reversal.now.state.now) earlier.now) }
+        (raisable_at (label_count block.now) (choices_of (left_terms reversal.now.sides) (right_terms reversal.now.sides)
+        reversal.now.state.now) earlier.now) }
 {
     let mut best = None;
     for i in 0..reversal.sides.n {
         let choice = reversal.choice_at(earlier, i);
         let label = earlier[i];
-        if rises(layout::label_count(reversal.sides.block, i), choice, label) {
+        if rises(layout::label_count(block, i), choice, label) {
             best = Some(i);
         }
         if !keeps(choice, label) {
@@ -50,7 +50,7 @@ fn pivot(reversal: &Reversal, earlier: &[u8]) -> Option<usize>
 fn raise(reversal: &Reversal, earlier: &[u8], candidate: &mut [u8], i: usize)
     requires { (length earlier.now ≡ reversal.now.sides.n) × (length candidate.old ≡ reversal.now.sides.n) ×
         (i < reversal.now.sides.n) × (get_or earlier.now i 0 < 255) }
-    ensures { Raised (choices_at reversal.now.sides.block.now reversal.now.sides.left reversal.now.sides.right
+    ensures { Raised (choices_of (left_terms reversal.now.sides) (right_terms reversal.now.sides)
         reversal.now.state.now) (length reversal.now.state.now) i earlier.now candidate.new }
 {
     candidate.copy_from_slice(earlier);
@@ -101,7 +101,7 @@ pub fn next_predecessor(
         result out.old out.new }
 {
     let reversal = Reversal::of(block, r, state);
-    let Some(place) = pivot(&reversal, earlier) else {
+    let Some(place) = pivot(block, &reversal, earlier) else {
         return false;
     };
     let mut room = [0u8; MOST_POSITIONS];

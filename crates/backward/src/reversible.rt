@@ -1,24 +1,25 @@
 // Reversible by form.
 ghost use Rattle.std.specs.Prelude.{◌≡◌, ◌<◌};
-ghost use Rattle.blocks.specs.Layout.{rules, side_at};
+ghost use Rattle.blocks.specs.Layout.{rules};
+ghost use Rattle.blocks.specs.Sides.{left_terms, right_terms};
 ghost use Rattle.blocks.specs.Validity.{Sized};
 ghost use Rattle.backward.specs.Reversible.{form_at, reversible};
 
-use super::sides::Sides;
+use super::showing::first_shown;
+use blocks::sides::Sides;
 use blocks::terms::{Term, decode, is_dash};
 
 // Whether the right term at position i is a dash, or the left term's label is not lost.
 fn form_at(sides: &Sides, i: usize) -> bool
     requires { i < sides.now.n }
-    ensures { result ≡ form_at sides.now.n (side_at sides.now.block.now sides.now.left)
-        (side_at sides.now.block.now sides.now.right) i }
+    ensures { result ≡ form_at sides.now.n (left_terms sides.now) (right_terms sides.now) i }
 {
-    if is_dash(sides.block[sides.right + i]) {
+    if is_dash(sides.bytes[sides.right + i]) {
         return true;
     }
-    match decode(sides.block[sides.left + i]) {
+    match decode(sides.bytes[sides.left + i]) {
         Term::Label(_) => true,
-        Term::Variable(v) => sides.first_shown(v).is_some(),
+        Term::Variable(v) => first_shown(sides, v).is_some(),
         Term::Dash | Term::Refused => false,
     }
 }

@@ -1,7 +1,7 @@
 -- `backward::predecessors::complete` meets its contract.
 use Rattle.std.proofs.Common.{◌≡◌, ◌<◌, ap, ◌∙◌, length, arith}
-use Rattle.blocks.specs.Layout.{side_at}
-use Rattle.backward.specs.Choices.{choices_at, least_of}
+use Rattle.blocks.specs.Sides.{left_terms, right_terms}
+use Rattle.backward.specs.Choices.{choices_of, least_of}
 use Rattle.backward.proofs.ChoiceCases.{choice-local}
 use Rattle.backward.proofs.Completing.{complete-before, complete-after}
 use Rattle.backward.proofs.predecessors.complete.Goals as goal
@@ -13,10 +13,9 @@ loop-i-preserved c =
     let u = c.loop-i.candidate in
     let r = a.reversal.now in
     let s = r.sides in
-    let w = choices_at s.block.now s.left s.right r.state.now in
+    let w = choices_of (left_terms s) (right_terms s) r.state.now in
     let near =
-    choice-local (length r.state.now) (side_at s.block.now s.left) (side_at s.block.now s.right)
-    r.state.now in
+    choice-local (length r.state.now) (left_terms s) (right_terms s) r.state.now in
     let inv = c.loop-i.invariant in
     let l : i < length u = omega arith in
     let e : c.least.result ≡ least_of (w u i) = c.least.ensures ∙ ap least_of c.choice_at.ensures in (

@@ -22,6 +22,6 @@ returns c =
     let room = length-take-le (length s) _ (omega (arith, state-length b s h.2, h.0.sized.headed.sizes.n_high)) in
     let settles =
     first-settles b h.0 a.r h.1 s h.2 _ _ e.1 e.2 _ c.complete.new.candidate
-    (c.complete.auto.candidate ∙ room) (rw (e.0, e.4) at c.complete.ensures) in
+    (c.complete.auto.candidate ∙ room) (rw e.3 at c.complete.ensures) in
     subst (λ (next : NextState). Answered next c.settle.result a.out.now c.settle.new.out)
     (sym settles) c.settle.ensures

@@ -2,7 +2,8 @@
 use Rattle.std.proofs.Common.{◌≡◌, ℕ, ◌+◌, sym, ap, ap₂, ◌∙◌, length, get_or, arith}
 use Rattle.basics.specs.Bounded.{last}
 use Rattle.blocks.specs.Layout.{label_count}
-use Rattle.backward.specs.Choices.{Choice, choices_at, rises_of, keeps_of, raisable_at}
+use Rattle.blocks.specs.Sides.{left_terms, right_terms}
+use Rattle.backward.specs.Choices.{Choice, choices_of, rises_of, keeps_of, raisable_at}
 use Rattle.backward.proofs.Completing.{rises-last, stays-last, stop-last}
 use Rattle.backward.proofs.predecessors.pivot.Goals as goal
 use Rattle.backward.proofs.predecessors.pivot.Goals.{Then-not-keeps, then-rises, else-rises}
@@ -12,14 +13,14 @@ best-last :
     (c : Then-not-keeps)
     →
     let r = c.args.reversal.now in
-    let choices = choices_at r.sides.block.now r.sides.left r.sides.right r.state.now in
+    let choices = choices_of (left_terms r.sides) (right_terms r.sides) r.state.now in
     c.if-rises.best
-    ≡ last (c.loop-i.i + 1) (raisable_at (label_count r.sides.block.now) choices c.args.earlier.now)
+    ≡ last (c.loop-i.i + 1) (raisable_at (label_count c.args.block.now) choices c.args.earlier.now)
 best-last c =
     let r = c.args.reversal.now in
     let e = c.args.earlier.now in
-    let count = label_count r.sides.block.now in
-    let choices = choices_at r.sides.block.now r.sides.left r.sides.right r.state.now in
+    let count = label_count c.args.block.now in
+    let choices = choices_of (left_terms r.sides) (right_terms r.sides) r.state.now in
     let l = c.loop-i in
     let rises : c.rises.result ≡ rises_of (count l.i) (choices e l.i) (get_or e l.i 0) =
     c.rises.ensures
@@ -38,8 +39,8 @@ returns-then-not-keeps c =
     let e = c.args.earlier.now in
     let i = c.loop-i.i in
     best-last c
-    ∙ stop-last (label_count r.sides.block.now)
-    (choices_at r.sides.block.now r.sides.left r.sides.right r.state.now) e i
+    ∙ stop-last (label_count c.args.block.now)
+    (choices_of (left_terms r.sides) (right_terms r.sides) r.state.now) e i
     (length r.state.now) (omega (arith, r.whole))
     (ap (λ (choice : Choice). keeps_of choice (get_or e i 0)) (sym c.choice_at-choice.ensures)
     ∙ sym c.keeps.ensures ∙ c.if-not-keeps.true)
