@@ -44,7 +44,8 @@ module _ (b s rs out : List ℕ) where
       (ending : Replayed) (out' : List ℕ) → verdict (replay_conditions b s rs (length out)) ≡ told tt
       → ending ≡ replay_ending b s rs → out' ≡ at_front (replay_state b s rs) out
       → ReplayKept b s rs (told ending) out'
-  replayed-kept ending out' h p q = rw (p, q) (ended (replay-accepted b s rs (length out) h) (replay_ending b s rs) refl)
+  replayed-kept ending out' h p q =
+      rw (p, q) (ended (replay-accepted b s rs (length out) h) (replay_ending b s rs) refl)
 
   -- by the verdict
   replayed-by :

@@ -1,4 +1,4 @@
--- What an accepting verdict on the conditions of a search says (`search-accepted`), also of its tables alone
+-- What an accepting verdict on the conditions of a search says (`search_accepted`), also of its tables alone
 -- (`tables-accepted`), and what decides them part by part (`exercise-refused`, `query-refused`, `lent-decides`,
 -- `lent-decided`, `tables-decided`).
 -- The search call rests on these once it has refused what is to be refused.
@@ -83,9 +83,9 @@ module _ (b maps s : List ℕ) (l : Limits) (t : List ℕ) (room : ℕ) where
     pub room-left : l.steps ≤ room
     pub tables : TablesAccepted b maps t
 
-  pub search-accepted : verdict (search_conditions b maps s l t room) ≡ told tt → SearchAccepted
+  pub search_accepted : verdict (search_conditions b maps s l t room) ≡ told tt → SearchAccepted
   unfolding search_conditions lent_conditions
-  search-accepted h =
+  search_accepted h =
       let p = verdict-parts (exercise_conditions b maps) (query_conditions b s l ++ lent) h in
       let q = verdict-parts (query_conditions b s l) lent p.1 in
       let asked = query-accepted b s l q.0 in
@@ -97,3 +97,6 @@ module _ (b maps s : List ℕ) (l : Limits) (t : List ℕ) (room : ℕ) where
         room-left = leb-true l.steps room p₁₁.0;
         tables = tables-accepted b maps t p₁₁.1;
       }
+
+-- what the check rests on
+pub ruleset checks = (verdict-behind, verdict-before)

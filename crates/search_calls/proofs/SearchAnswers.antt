@@ -3,6 +3,7 @@
 -- The proof of the search call rests on these.
 use mathlib.Core.Path.{◌≡◌, sym, ap, ap₂, ◌∙◌, subst}
 use mathlib.Core.List.{List}
+use Rattle.std.proofs.Common.{Ok}
 use Prim.Native.Nat.{ℕ, ◌≤◌}
 use native.Mathlib.Omega.{arith}
 use lib.ListN.{length}
@@ -20,18 +21,16 @@ use Rattle.queries.specs.declared.Limits.{Limits}
 use Rattle.search.specs.declared.running.Ending.{Ending}
 use Rattle.search.specs.declared.running.Ending.TheVariants as ending
 use Rattle.search_calls.specs.Searching.{SearchAnswer, search_answer, search_of, reported, PlanKept}
-use Rattle.search_calls.specs.declared.searching.Search.{Search}
-use Rattle.search_calls.specs.declared.searching.Search.TheVariants as call
-
--- an ending as the call gives it
-abbrev pub given_as : Ending → Search
-given_as (ending.Found plan) = call.Found plan
-given_as (ending.NoPlan u) = call.NoPlan u
-given_as (ending.Spent u) = call.Spent u
 
 -- an answer with the buffer after it
 abbrev answering : SearchAnswer → List ℕ → Outcome SearchAnswer
 answering a out = outcome (told a) out
+
+-- what an accepted search gives
+abbrev pub given : List ℕ → List ℕ → List ℕ → Limits → List ℕ → List ℕ → Outcome SearchAnswer
+given b maps s l t buffer =
+    let a = search_from b (estimate_of b maps t) s l in
+    answering (reported (plan_goal b s a) a) (at_front (rounds.plan a) buffer)
 
 module _ (b maps s : List ℕ) (l : Limits) (t buffer buffer' : List ℕ) where
   -- the answer of the search, as the rounds have it, and an ending of the search layer
@@ -43,8 +42,7 @@ module _ (b maps s : List ℕ) (l : Limits) (t buffer buffer' : List ℕ) where
 
   pub answered-by :
       l.steps ≤ length buffer → (r : Ending) → FoundWithin l.steps r → Ended r
-      → outcome (search_of (given_as r)) buffer'
-      ≡ answering (reported (plan_goal b s whole) whole) (at_front (rounds.plan whole) buffer)
+      → outcome (search_of (Ok r)) buffer' ≡ given b maps s l t buffer
   unfolding rounds.visits
   answered-by room (ending.Found p) within h =
       let longer = front-longer (rounds.plan whole) buffer in
@@ -65,7 +63,7 @@ module _ (b maps s : List ℕ) (l : Limits) (t buffer buffer' : List ℕ) where
         subst (Promised (answer_of buffer' r)) (sym h.goal)
         (subst (λ (a : rounds.Answer). Promised a (plan_goal b s whole)) (sym h.told) (h.kept, goal-kept h.kept v))
 
-    pub kept_by : (r : Ending) → Ended r → PlanKept b maps s l t (search_of (given_as r)) buffer'
+    pub kept_by : (r : Ending) → Ended r → PlanKept b maps s l t (search_of (Ok r)) buffer'
     kept_by (ending.Found p) h = promised-by (ending.Found p) h
     kept_by (ending.NoPlan u) h = promised-by (ending.NoPlan u) h
     kept_by (ending.Spent u) h = promised-by (ending.Spent u) h

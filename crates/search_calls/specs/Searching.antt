@@ -1,10 +1,11 @@
 -- The search, as a public call: `find_plan` is the answer with the final contents of the plan buffer, for every input,
 -- and `PlanKept` what the call promises, demand 3 and which goal is told. `search_of` gives the document's answer for
--- each case of the enum, `reported` for an answer of the rounds.
-use Rattle.std.specs.Prelude.{ℕ, zero, suc, List, [], ◌∷◌, ◌++◌, leb, length, take}
+-- what the call returns, `reported` for an answer of the rounds.
+use Rattle.std.specs.Prelude.{ℕ, zero, suc, List, [], ◌∷◌, ◌++◌, leb, length, take, Result, Ok, Err}
 use Rattle.basics.specs.Lists.{at_front}
 use Rattle.refusals.specs.Answers.{Answer, refused, told, Condition, ◌unless◌, verdict, Outcome, outcome, guarded}
 use Rattle.refusals.specs.Refusals.{refusal_number}
+use Rattle.refusals.specs.declared.Refusal.{Refusal}
 use Rattle.maps.specs.Maps.{all_entries, exercise_conditions}
 use Rattle.map_tables.specs.MapTables.{all_pass}
 use Rattle.rounds.specs.Rounds as rounds
@@ -14,8 +15,8 @@ use Rattle.search.specs.Parts.{planless}
 use Rattle.search.specs.Promises.{SearchKept, GoalKept}
 use Rattle.queries.specs.declared.Limits.{Limits}
 use Rattle.search.specs.declared.running.Plan.{Plan}
-use Rattle.search_calls.specs.declared.searching.Search.{Search}
-use Rattle.search_calls.specs.declared.searching.Search.TheVariants.{Found, NoPlan, Spent, Refused}
+use Rattle.search.specs.declared.running.Ending.{Ending}
+use Rattle.search.specs.declared.running.Ending.TheVariants.{Found, NoPlan, Spent}
 
 -- an answer of the search: its status, 0 for found, 1 for 'no plan' and 2 for 'spent', and steps, cost, visits and goal
 pub record SearchAnswer : Type 0 where
@@ -27,11 +28,11 @@ search_answer status steps cost visits goal =
     record { status = status; plan = record { steps = steps; cost = cost; visits = visits; goal = goal } }
 
 -- steps and cost are 0 without a plan, and the goal is FF
-abbrev pub search_of : Search → Answer SearchAnswer
-search_of (Found plan) = told (record { status = 0; plan = plan })
-search_of (NoPlan visits) = told (record { status = 1; plan = planless visits })
-search_of (Spent visits) = told (record { status = 2; plan = planless visits })
-search_of (Refused refusal) = refused (refusal_number refusal)
+abbrev pub search_of : Result Ending Refusal → Answer SearchAnswer
+search_of (Ok (Found plan)) = told (record { status = 0; plan = plan })
+search_of (Ok (NoPlan visits)) = told (record { status = 1; plan = planless visits })
+search_of (Ok (Spent visits)) = told (record { status = 2; plan = planless visits })
+search_of (Err refusal) = refused (refusal_number refusal)
 
 -- the same of an answer of the rounds, with the goal of its plan
 abbrev pub reported : ℕ → rounds.Answer → SearchAnswer

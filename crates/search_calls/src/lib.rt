@@ -4,5 +4,5 @@
 mod searching;
 
 pub use queries::Limits;
-pub use search::Plan;
-pub use searching::{Search, check_tables, find_plan};
+pub use search::{Ending, Plan};
+pub use searching::{check_tables, find_plan};
