@@ -1,4 +1,3 @@
--- What the proofs of the conversions share, and what the calls of the C interface rest on.
--- Each conversion goes by the cases of an enum, and what it gives can be read back.
-pub mod Cases
+-- The laws of reading an answer's numbers back.
+-- The C interface rests on them.
 pub mod ReadBack

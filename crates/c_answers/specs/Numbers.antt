@@ -2,8 +2,7 @@
 -- FF for a goal and 0 in all other members; what is told has 0 for a refusal. `done_told`, `decision_told`, .. read the
 -- answers back.
 -- The contracts of the conversions, and of every call of the C interface, are stated with these.
-use Rattle.std.specs.Prelude.{ℕ, zero, suc, Bool, true, false, cond, eqb}
-use Rattle.std.proofs.Math.Option.{Option, none, some}
+use Rattle.std.specs.Prelude.{ℕ, zero, suc, Bool, true, false, cond, eqb, Option, None, Some}
 use Rattle.refusals.specs.Answers.{Answer, refused, told}
 use Rattle.psvn.specs.Rules.{no_goal, goal_byte}
 use Rattle.runs.specs.declared.replay.RunEnd.{RunEnd}
@@ -91,7 +90,7 @@ applied_told r = told_by r.refusal (cond (eqb r.yes 1) applying.done applying.do
 
 -- the goal that a state meets; FF is none
 abbrev pub goal_read : ℕ → Option ℕ
-goal_read goal = cond (eqb goal no_goal) none (some goal)
+goal_read goal = cond (eqb goal no_goal) None (Some goal)
 
 abbrev pub goal_told : GoalNumbers → Answer (Option ℕ)
 goal_told r = told_by r.refusal (goal_read r.goal)

@@ -1,10 +1,10 @@
 // The call that looks an entry up.
 ghost use Rattle.std.specs.Prelude.{◌≡◌};
-ghost use Rattle.table_calls.specs.Estimating.{look_up_of};
+ghost use Rattle.refusals.specs.Refusals.{answer_of};
 ghost use Rattle.c_answers.specs.Numbers.{entry_of};
 
-use super::verdicts::number_of;
-use engine::Estimate;
+use super::verdicts::wide_number;
+use refusals::Refusal;
 
 // An entry of a table; 'no path' is one.
 #[repr(C)]
@@ -15,14 +15,16 @@ pub struct Entry {
 }
 
 // What a look-up answers.
-pub fn looked_up(estimate: Estimate) -> Entry
-    ensures { result ≡ entry_of (look_up_of estimate) }
-{
-    match estimate {
-        Estimate::Entry(entry) => Entry { refusal: 0, entry },
-        Estimate::Refused(refusal) => Entry {
-            refusal: number_of(refusal),
-            entry: 0,
-        },
+impl From<Result<u32, Refusal>> for Entry {
+    ghost from_gives = { λ answer entry. entry ≡ entry_of (answer_of answer) };
+
+    fn from(answer: Result<u32, Refusal>) -> Entry {
+        match answer {
+            Ok(entry) => Entry { refusal: 0, entry },
+            Err(refusal) => Entry {
+                refusal: wide_number(refusal),
+                entry: 0,
+            },
+        }
     }
 }

@@ -1,10 +1,11 @@
 // The goal test.
 ghost use Rattle.std.specs.Prelude.{◌≡◌};
-ghost use Rattle.psvn_calls.specs.Goals.{goal_test_of};
+ghost use Rattle.refusals.specs.Refusals.{answer_of};
 ghost use Rattle.c_answers.specs.Numbers.{goal_numbers_of};
 
-use super::verdicts::number_of;
-use engine::{GoalTest, NO_GOAL};
+use super::verdicts::wide_number;
+use psvn::rules::NO_GOAL;
+use refusals::Refusal;
 
 // The goal that a state meets; NO_GOAL where it meets none.
 #[repr(C)]
@@ -15,18 +16,19 @@ pub struct GoalNumbers {
 }
 
 // What the goal test answers.
-pub fn met(test: GoalTest) -> GoalNumbers
-    ensures { result ≡ goal_numbers_of (goal_test_of test) }
-{
-    match test {
-        GoalTest::Met(goal) => GoalNumbers { refusal: 0, goal },
-        GoalTest::NotMet => GoalNumbers {
-            refusal: 0,
-            goal: NO_GOAL,
-        },
-        GoalTest::Refused(refusal) => GoalNumbers {
-            refusal: number_of(refusal),
-            goal: NO_GOAL,
-        },
+impl From<Result<Option<u8>, Refusal>> for GoalNumbers {
+    ghost from_gives = { λ answer numbers. numbers ≡ goal_numbers_of (answer_of answer) };
+
+    fn from(answer: Result<Option<u8>, Refusal>) -> GoalNumbers {
+        match answer {
+            Ok(met) => GoalNumbers {
+                refusal: 0,
+                goal: met.unwrap_or(NO_GOAL),
+            },
+            Err(refusal) => GoalNumbers {
+                refusal: wide_number(refusal),
+                goal: NO_GOAL,
+            },
+        }
     }
 }

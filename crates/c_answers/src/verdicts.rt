@@ -1,35 +1,23 @@
 // Calls whose answer is one number: 0 where all went well, or that of the refusal.
 ghost use Rattle.std.specs.Prelude.{◌≡◌};
-ghost use Rattle.refusals.specs.Refusals.{refusal_number, verdict_of};
-ghost use Rattle.table_calls.specs.WholeTables.{filling_of};
+ghost use Rattle.refusals.specs.Refusals.{refusal_number, answer_of};
 ghost use Rattle.c_answers.specs.Numbers.{refusal_of};
 
-use engine::Filling;
-use refusals::{Refusal, Verdict};
+use refusals::Refusal;
 
 // The number of a refusal, as wide as the members of the answers.
-pub fn number_of(refusal: Refusal) -> u32
+pub fn wide_number(refusal: Refusal) -> u32
     ensures { result ≡ refusal_number refusal }
 {
-    refusals::number(refusal) as u32
+    u32::from(u8::from(refusal))
 }
 
-// What checking a block answers, as one number.
-pub fn checked(verdict: Verdict) -> u32
-    ensures { result ≡ refusal_of (verdict_of verdict) }
+// What checking a block and filling a table answer, as one number. No `From`: u32 and `Result` are not this crate's.
+pub fn refusal_of(answer: Result<(), Refusal>) -> u32
+    ensures { result ≡ refusal_of (answer_of answer) }
 {
-    match verdict {
-        Verdict::Accepted => 0,
-        Verdict::Refused(refusal) => number_of(refusal),
-    }
-}
-
-// What a fill answers, as one number.
-pub fn filled(filling: Filling) -> u32
-    ensures { result ≡ refusal_of (filling_of filling) }
-{
-    match filling {
-        Filling::Filled => 0,
-        Filling::Refused(refusal) => number_of(refusal),
+    match answer {
+        Ok(()) => 0,
+        Err(refusal) => wide_number(refusal),
     }
 }
