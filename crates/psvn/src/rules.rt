@@ -37,8 +37,7 @@ fn rewrite(block: &[u8], left: usize, right: usize, state: &[u8], out: &mut [u8]
         at_front (rewritten (length state.now) (side_at block.now left)
         (side_at block.now right) state.now) out.old }
 {
-    let n = state.len();
-    for i in 0..n {
+    for i in 0..state.len() {
         let byte = block[right + i];
         let given = label_given(block, left, state, i, byte);
         out[i] = given.0;

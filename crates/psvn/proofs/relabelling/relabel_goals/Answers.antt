@@ -17,7 +17,7 @@ use Rattle.psvn.proofs.relabelling.relabel_goals.Goals as goal
 use Rattle.psvn.proofs.relabelling.relabel_goals.Goals.{After-slice_known-in-loop-g-1}
 
 pub loop-g-init : goal.loop-g-init
-loop-g-init c = (search rules, search rules, refl, omega arith, refl)
+loop-g-init c = (search rules, refl, omega arith, refl)
 
 pub relabel_side-at-requires : goal.relabel_side-at-requires
 relabel_side-at-requires c =
@@ -56,8 +56,7 @@ loop-g-preserved c =
     let inv = c.loop-g.invariant in
     let more = joined-more f g in (
       inv.0,
-      search rules,
-      c.relabel_side-at.auto.out ∙ inv.2,
+      c.relabel_side-at.auto.out ∙ inv.1,
       omega (
         arith,
         ap length more,
@@ -65,16 +64,16 @@ loop-g-preserved c =
         c.relabel_side-at.ensures.0,
         goal-length b g,
       ),
-      sets_behind a.out.now a.to (joined g f) (f g) inv.4 inv.3 (written c)
+      sets_behind a.out.now a.to (joined g f) (f g) inv.3 inv.2 (written c)
           ∙ ap (sets a.out.now a.to) (sym more),
     )
 
 pub shape_of-out : goal.shape_of-out
-shape_of-out c = c.loop-g.invariant.2
+shape_of-out c = c.loop-g.invariant.1
 
 pub returns : goal.returns
 returns c =
     let a = c.args in
     let b = a.block.now in
     let e : c.loop-g.g ≡ goals b = omega arith in
-    c.loop-g.invariant.4 ∙ ap (λ (k : ℕ). sets a.out.now a.to (joined k (relabel_goal b))) e
+    c.loop-g.invariant.3 ∙ ap (λ (k : ℕ). sets a.out.now a.to (joined k (relabel_goal b))) e

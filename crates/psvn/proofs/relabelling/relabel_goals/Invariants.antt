@@ -1,7 +1,7 @@
 -- `psvn::relabelling::relabel_goals` meets its contract.
 -- The loop's invariant: the goals passed are written, and `at` is the place behind them.
 use mathlib.Core.Path.{◌≡◌}
-use Prim.Native.Nat.{◌+◌, ◌≤◌, ◌-◌}
+use Prim.Native.Nat.{◌+◌}
 use lib.ListN.{length}
 use lib.Seq.{sets}
 use Rattle.basics.specs.Lists.{joined}
@@ -11,9 +11,6 @@ use Rattle.psvn.proofs.relabelling.relabel_goals.Given as goal
 
 abbrev pub invariant-loop-g : goal.invariant-loop-g
 invariant-loop-g l =
-    (l.goals ≡ goals l.block) × (l.g ≤ l.goals) × (length l.out ≡ length l.initial.out)
+    (l.goals ≡ goals l.block) × (length l.out ≡ length l.initial.out)
     × (l.at ≡ l.to + length (joined l.g (relabel_goal l.block)))
     × (l.out ≡ sets l.initial.out l.to (joined l.g (relabel_goal l.block)))
-
-abbrev pub decreases-loop-g : goal.decreases-loop-g
-decreases-loop-g l = l.goals - l.g

@@ -15,7 +15,7 @@ use Rattle.blocks.proofs.Offsets.{left-inside, right-inside}
 use Rattle.blocks.proofs.Accepted.{left-side, right_side}
 use Rattle.psvn.proofs.Relabelled.{side-length, rule-length}
 use Rattle.psvn.proofs.relabelling.relabel_rule.Goals as goal
-use Rattle.psvn.proofs.relabelling.relabel_rule.Goals.{After-relabel_side-arg-2-1, After-slice_known-3-1}
+use Rattle.psvn.proofs.relabelling.relabel_rule.Goals.{After-slice_known-3-1}
 
 pub bounds-out-to : goal.bounds-out-to
 bounds-out-to c =
@@ -33,13 +33,6 @@ relabel_side-middle-requires c =
       simp length-set (omega (arith, rule-length b a.r)),
     )
 
--- the buffer keeps its length
-kept :
-    (c : After-relabel_side-arg-2-1)
-    → length c.relabel_side-middle.new.out
-    ≡ length c.args.out.now
-kept c = c.relabel_side-middle.auto.out ∙ simp length-set
-
 pub relabel_side-requires : goal.relabel_side-requires
 relabel_side-requires c =
     let a = c.args in
@@ -48,18 +41,11 @@ relabel_side-requires c =
       h.0.sized,
       omega (arith, right-inside b h.0.sized a.r h.1),
       ap (λ (at : ℕ). side_ok b (side_at b at)) c.right_at.ensures.0 ∙ right_side b h.0 a.r h.1,
-      omega (arith, rule-length b a.r, kept c),
+      omega (arith, rule-length b a.r, simp length-set at c.relabel_side-middle.auto.out),
     )
 
--- the buffer keeps its length
-kept-2 :
-    (c : After-slice_known-3-1)
-    → length c.relabel_side-middle.new.out
-    ≡ length c.args.out.now
-kept-2 c = c.relabel_side-middle.auto.out ∙ simp length-set
-
 pub shape_of-out : goal.shape_of-out
-shape_of-out c = c.relabel_side.auto.out ∙ kept-2 c
+shape_of-out c = c.relabel_side.auto.out ∙ (simp length-set at c.relabel_side-middle.auto.out)
 
 -- the cost and the relabelled left side
 abbrev front : After-slice_known-3-1 → List ℕ

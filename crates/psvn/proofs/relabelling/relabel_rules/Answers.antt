@@ -13,7 +13,7 @@ use borrow.Author.Rules.{rules as std_rules}
 use Rattle.psvn.proofs.relabelling.relabel_rules.Goals as goal
 
 pub loop-r-init : goal.loop-r-init
-loop-r-init c = (search std_rules, search std_rules, refl, omega arith, refl)
+loop-r-init c = (search std_rules, refl, omega arith, refl)
 
 pub relabel_rule-at-requires : goal.relabel_rule-at-requires
 relabel_rule-at-requires c =
@@ -36,16 +36,15 @@ loop-r-preserved c =
     let inv = c.loop-r.invariant in
     let more = joined-more f r in (
       inv.0,
-      search std_rules,
-      c.relabel_rule-at.auto.out ∙ inv.2,
+      c.relabel_rule-at.auto.out ∙ inv.1,
       omega (arith, ap length more, length-append (joined r f) (f r), c.relabel_rule-at.ensures.0),
-      sets_behind a.out.now a.to (joined r f) (f r) inv.4 inv.3
+      sets_behind a.out.now a.to (joined r f) (f r) inv.3 inv.2
           c.relabel_rule-at.ensures.1
           ∙ ap (sets a.out.now a.to) (sym more),
     )
 
 pub shape_of-out : goal.shape_of-out
-shape_of-out c = c.loop-r.invariant.2
+shape_of-out c = c.loop-r.invariant.1
 
 pub returns : goal.returns
 returns c =
@@ -54,4 +53,4 @@ returns c =
     let inv = c.loop-r.invariant in
     let e : c.loop-r.r ≡ rules b = omega arith in
     let q = ap (λ (k : ℕ). joined k (relabel_rule b)) e in
-    (inv.3 ∙ ap (λ (l : List ℕ). a.to + length l) q, inv.4 ∙ ap (sets a.out.now a.to) q)
+    (inv.2 ∙ ap (λ (l : List ℕ). a.to + length l) q, inv.3 ∙ ap (sets a.out.now a.to) q)

@@ -12,7 +12,6 @@ use Rattle.blocks.specs.Layout.{positions, side_at}
 use Rattle.psvn.specs.Relabelling.{relabel_side}
 use Rattle.blocks.proofs.Accepted.{side-term}
 use Rattle.psvn.proofs.relabelling.relabel_side.Goals as goal
-use Rattle.psvn.proofs.relabelling.relabel_side.Goals.{After-loop-i, After-relabel_term}
 use Rattle.psvn.proofs.relabelling.relabel_side.Invariants.{made}
 
 pub relabel_term-requires : goal.relabel_term-requires
@@ -26,14 +25,14 @@ relabel_term-requires c =
     )
 
 -- the buffer keeps its length
-kept : (c : After-relabel_term) → length c.loop-i.out ≡ length c.args.out.now
-kept c =
-    let a = c.args in
-    ap length c.loop-i.invariant.2
-    ∙ length-sets a.out.now a.to (tabulate c.loop-i.i (made a.block.now a.from))
+kept : (o out : List ℕ) (to i : ℕ) (f : ℕ → ℕ) → out ≡ sets o to (tabulate i f) → length out ≡ length o
+kept o out to i f e = ap length e ∙ length-sets o to (tabulate i f)
 
 pub bounds-out-to : goal.bounds-out-to
-bounds-out-to c = omega (arith, kept c)
+bounds-out-to c =
+    let a = c.args in
+    let f = made a.block.now a.from in
+    omega (arith, kept a.out.now c.loop-i.out a.to c.loop-i.i f c.loop-i.invariant.1)
 
 pub loop-i-preserved : goal.loop-i-preserved
 loop-i-preserved c =
@@ -41,20 +40,14 @@ loop-i-preserved c =
     let i = c.loop-i.i in
     let x = c.relabel_term.result in (
       search rules,
-      search rules,
-      ap (λ (l : List ℕ). set l (a.to + i) x) c.loop-i.invariant.2
+      ap (λ (l : List ℕ). set l (a.to + i) x) c.loop-i.invariant.1
           ∙ sets_more a.out.now a.to i (made a.block.now a.from) x c.relabel_term.ensures,
     )
 
--- the buffer keeps its length
-kept-2 : (c : After-loop-i) → length c.loop-i.out ≡ length c.args.out.now
-kept-2 c =
-    let a = c.args in
-    ap length c.loop-i.invariant.2
-    ∙ length-sets a.out.now a.to (tabulate c.loop-i.i (made a.block.now a.from))
-
 pub shape_of-out : goal.shape_of-out
-shape_of-out c = kept-2 c
+shape_of-out c =
+    let a = c.args in
+    kept a.out.now c.loop-i.out a.to c.loop-i.i (made a.block.now a.from) c.loop-i.invariant.1
 
 pub returns : goal.returns
 unfolding relabel_side
@@ -63,6 +56,6 @@ returns c =
     let b = a.block.now in
     let e : c.loop-i.i ≡ positions b = omega arith in (
       omega arith,
-      c.loop-i.invariant.2
+      c.loop-i.invariant.1
           ∙ ap (λ (k : ℕ). sets a.out.now a.to (tabulate k (made b a.from))) e,
     )

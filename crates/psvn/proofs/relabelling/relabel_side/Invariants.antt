@@ -2,7 +2,7 @@
 -- The loop's invariant: the terms passed are written, relabelled.
 use mathlib.Core.Path.{◌≡◌}
 use mathlib.Core.List.{List}
-use Prim.Native.Nat.{ℕ, ◌≤◌, ◌-◌}
+use Prim.Native.Nat.{ℕ}
 use lib.Seq.{sets}
 use Rattle.basics.specs.Lists.{tabulate}
 use Rattle.blocks.specs.Layout.{positions, map_at, side_at}
@@ -15,7 +15,4 @@ made b from i = relabel_term (map_at b i) (side_at b from i)
 
 abbrev pub invariant-loop-i : goal.invariant-loop-i
 invariant-loop-i l =
-    (l.n ≡ positions l.block) × (l.i ≤ l.n) × (l.out ≡ sets l.initial.out l.to (tabulate l.i (made l.block l.from)))
-
-abbrev pub decreases-loop-i : goal.decreases-loop-i
-decreases-loop-i l = l.n - l.i
+    (l.n ≡ positions l.block) × (l.out ≡ sets l.initial.out l.to (tabulate l.i (made l.block l.from)))
