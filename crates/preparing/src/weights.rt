@@ -6,7 +6,7 @@ ghost use Rattle.maps.specs.Maps.{further_maps, all_maps, exercise_at, Mapped};
 ghost use Rattle.preparing.specs.Weights.{at_first, MapAdded, MapPlaced, WeightsPacked};
 
 use compiling::place_singles;
-use maps::Exercise;
+use maps::Remapped;
 use words::ranking::{LABELS, PerLabel};
 
 // Where a table begins, for a label at position 0, which every state has; nothing for the others. `k` is the label's
@@ -48,7 +48,7 @@ pub fn packed_weights(block: &[u8], maps: &[u8]) -> PerLabel<u64>
     let mut begin = maps::all_entries(block, maps);
     for i in (0..maps::further_maps(block, maps)).rev() {
         begin -= maps::entries_of(block, maps, i);
-        place_map(Exercise::under(block, maps, i).bytes(), begin, &mut singles);
+        place_map(Remapped::under(block, maps, i).bytes(), begin, &mut singles);
     }
     place_map(block, 0, &mut singles);
     singles
