@@ -56,21 +56,21 @@ module _ (f g : ℕ → ℕ) (n k : ℕ) where
 
     pub listed_more :
         (s t s' t' : ℕ → ℕ) (count new : ℕ) → s 0 ≡ f 0 % 16384 → t 0 ≡ g 0 % 16384
-        → LabelsAdded f k p count new s s' → LabelsAdded g k p count new t t' → 0 < new
+        → LabelsAdded f k p count new s s' → LabelsAdded g k p count new t t'
         → Listed f g n k (suc p) s t count → Listed f g n k p s' t' new
-    listed_more s t s' t' count new es et x y z h w l =
+    listed_more s t s' t' count new es et x y h w l =
         let (j, i, a, b) = h w l in
         let d = digit w p in
         ⊎_elim
         (λ e. (
           j,
-          (x.kept z j i).0,
-          (x.kept z j i).1 ∙ a ∙ sum_kept _ _ _ _ (add_f w p l low) (at_zero f d e),
-          (y.kept z j i).1 ∙ b ∙ sum_kept _ _ _ _ (add_g w p l low) (at_zero g d e),
+          (x.kept j i).0,
+          (x.kept j i).1 ∙ a ∙ sum_kept _ _ _ _ (add_f w p l low) (at_zero f d e),
+          (y.kept j i).1 ∙ b ∙ sum_kept _ _ _ _ (add_g w p l low) (at_zero g d e),
         ))
         (λ e.
-        let u = x.more z d j (omega arith) (l.1 p low) i in
-        let v = y.more z d j (omega arith) (l.1 p low) i in (
+        let u = x.more d j (omega arith) (l.1 p low) i in
+        let v = y.more d j (omega arith) (l.1 p low) i in (
           d * count + j,
           u.0,
           sum_more _ _ _ _ (add_f w p l low) _ _ _ a es u.1 u.2,

@@ -1,22 +1,15 @@
--- Two lists of the ranks that two sides lead to, in one array (`source_at`, `target_at`): what one more label makes of
--- a list (`Extended`, `LabelsAdded`), that labels add to ranks (`Additive`), and lists that have all words (`Listed`).
+-- Two lists of the ranks that two sides lead to: what one more label makes of a list (`Extended`, `LabelsAdded`), that
+-- labels add to ranks (`Additive`), and lists that have all words (`Listed`).
 -- The contracts of the functions that find edges are stated with these.
 use Rattle.std.specs.Prelude.{◌≡◌, List, ℕ, suc, ◌+◌, ◌*◌, ◌/◌, ◌%◌, ◌^◌, ◌≤◌, ◌<◌, get_or}
-use Rattle.basics.specs.Parts.{Outside}
 use Rattle.words.specs.Code.{position_count}
 use Rattle.words.specs.Packing.{digit}
 use Rattle.words.specs.Sides.{rewritten_word}
 use Rattle.words.specs.Ranking.{rank_word}
 
--- the array, the ranks of the list in front, and those of the list behind
-abbrev pub lists_length : ℕ
-lists_length = 33024
-
-abbrev pub source_at : List ℕ → ℕ → ℕ
-source_at lists j = get_or lists j 0
-
-abbrev pub target_at : List ℕ → ℕ → ℕ
-target_at lists j = get_or lists (16384 + j) 0
+-- the ranks of a list
+abbrev pub rank_at : List ℕ → ℕ → ℕ
+rank_at list j = get_or list j 0
 
 -- the rank of what the side at place x makes of a word, and of what the side at place y makes of that
 unfoldable pub first_rank : List ℕ → List ℕ → ℕ → ℕ → ℕ
@@ -25,20 +18,17 @@ first_rank code weights x w = rank_word weights (position_count code) (rewritten
 unfoldable pub second_rank : List ℕ → List ℕ → ℕ → ℕ → ℕ → ℕ
 second_rank code weights x y w = first_rank code weights y (rewritten_word code x w)
 
--- the first `count` ranks of the list that begins at `list` stand again from `at` on, each with so much more
-pub record Extended (list count at by : ℕ) (old new : List ℕ) : Type 0 where
-  pub outside : Outside (list + at) (list + at + count) old new
-  pub more : (j : ℕ) → j < count → get_or new (list + at + j) 0 ≡ (get_or old (list + j) 0 + by) % 16384
+-- the ranks before `at` stay, and the first `count` of them stand again from `at` on, each with so much more
+pub record Extended (count at by : ℕ) (old now : ℕ → ℕ) : Type 0 where
+  pub kept : (j : ℕ) → j < at → now j ≡ old j
+  pub more : (j : ℕ) → j < count → now (at + j) ≡ (old j + by) % 16384
 
--- so do they for each label at position p from 1 on, with what its
--- word alone adds to the first rank; where the new count is not 0
+-- so do they for each label at position p from 1 on, with what its word alone adds to the first rank
 pub record LabelsAdded (f : ℕ → ℕ) (labels p count new : ℕ) (old now : ℕ → ℕ) : Type 0 where
   pub few : new ≤ 16384
-  pub not_none : 0 < new → 0 < count
-  pub front : now 0 ≡ old 0
-  pub kept : 0 < new → (j : ℕ) → j < count → (j < new) × (now j ≡ old j)
+  pub kept : (j : ℕ) → j < count → (j < new) × (now j ≡ old j)
   pub more :
-      0 < new → (l j : ℕ) → 1 ≤ l → l < labels → j < count
+      (l j : ℕ) → 1 ≤ l → l < labels → j < count
       → (l * count + j < new) × (now (l * count + j) < 16384)
       × ((now (l * count + j) + old 0) % 16384 ≡ (old j + f (l * 16 ^ p)) % 16384)
 

@@ -2,25 +2,26 @@
 // each position adds so much to both ranks, whatever stands at the others.
 #![tactic(auto)]
 
-ghost use Rattle.std.specs.Prelude.{◌≡◌, true, ℕ, ◌+◌, ◌*◌, ◌%◌, ◌^◌, ◌≤◌, ◌<◌, length};
+ghost use Rattle.std.specs.Prelude.{◌≡◌, true, ℕ, ◌+◌, ◌*◌, ◌%◌, ◌^◌, ◌≤◌, ◌<◌, IfSome};
 ghost use Rattle.words.specs.Code.{position_count};
+ghost use Rattle.words.specs.Ranking.{rank_word};
 ghost use Rattle.words.specs.Sides.{rewritten_word};
-ghost use Rattle.edge_ranks.specs.Lists.{lists_length, source_at, target_at, first_rank, second_rank};
+ghost use Rattle.edge_ranks.specs.Lists.{rank_at, first_rank, second_rank};
 ghost use Rattle.edge_ranks.specs.Lists.{Extended, LabelsAdded, Additive, Listed};
 
 use words::code::{Code, position_count};
 use words::ranking::{Weights, rank_word};
 use words::sides::rewritten_word;
 
-// How many ranks a list has room for, and where the second list begins. The room behind both is not used here: the
-// fill lends the array that its queue is done with.
+// How many ranks a list has room for.
 pub const ROOM: usize = 16384;
 
-pub const TARGETS: usize = 16384;
-
-pub const LISTS: usize = 33024;
-
-pub type Lists = [u16; LISTS];
+// The ranks of the states that edges lead from, and of those that they lead to, in the same order.
+#[derive(Drop)]
+pub struct Lists {
+    pub sources: [u16; ROOM],
+    pub targets: [u16; ROOM],
+}
 
 // A rank as an entry of a list: modulo 16,384, above which no rank is.
 fn narrow(rank: usize) -> u16
@@ -45,113 +46,126 @@ fn difference(rank: u16, base: u16) -> u16
     (rank + 16384 - base) % 16384
 }
 
-// Writes the first `count` ranks of the list that begins at `list` again from `at` on, each with so much more.
-fn extend(lists: &mut Lists, list: usize, count: usize, at: usize, by: u16)
-    requires { (count ≤ at) × (list + at + count ≤ lists_length) ×
-        (by < 16384) }
-    ensures { Extended list count at by lists.old lists.new }
+// Writes the first `count` ranks of a list again from `at` on, each with so much more.
+fn extend(list: &mut [u16; ROOM], count: usize, at: usize, by: u16)
+    requires { (count ≤ at) × (at + count ≤ 16384) × (by < 16384) }
+    ensures { Extended count at by (rank_at list.old) (rank_at list.new) }
 {
     for j in 0..count {
-        lists[list + at + j] = (lists[list + j] % 16384 + by) % 16384;
+        list[at + j] = (list[j] % 16384 + by) % 16384;
     }
 }
 
-// The rank of what the side at place x makes of a word.
-fn rank_by(code: &Code, weights: &Weights, x: usize, word: u64) -> u16
-    requires { (position_count code.now ≤ 16) × (x < 136) }
-    ensures { result ≡ first_rank code.now weights.now x word % 16384 }
-{
-    narrow(rank_word(weights, position_count(code), rewritten_word(code, x, word)))
+// A side of a compiled block, the one at place x, and a second one, at place y, which takes what the first one makes.
+#[derive(Drop)]
+pub struct Sides<'a> {
+    pub code: &'a Code,
+    pub weights: &'a Weights,
+    pub x: usize,
+    pub y: usize,
+    ghost counted: { position_count code.now ≤ 16 },
+    ghost x_place: { x < 136 },
+    ghost y_place: { y < 136 },
 }
 
-// The rank of what the side at place y makes of that.
-fn second_rank_by(code: &Code, weights: &Weights, x: usize, y: usize, word: u64) -> u16
-    requires { (position_count code.now ≤ 16) × (x < 136) × (y < 136) }
-    ensures { result ≡ second_rank code.now weights.now x y word % 16384 }
-{
-    rank_by(code, weights, y, rewritten_word(code, x, word))
-}
+impl<'a> Sides<'a> {
+    // The rank of a state, by its word.
+    fn rank(&self, word: u64) -> u16
+        ensures { result ≡ rank_word self.now.weights.now (position_count self.now.code.now) word % 16384 }
+    {
+        let weights = self.weights;
+        narrow(rank_word(weights, position_count(self.code), word))
+    }
 
-// Whether the label at position p changes nothing in what the side at place x makes, which is `base` of the word 0.
-fn is_idle(code: &Code, x: usize, labels: usize, p: usize, base: u64) -> bool
-    requires { (x < 136) × (labels ≤ 16) × (p < 16) × (base ≡ rewritten_word code.now x 0) }
-    ensures { result ≡ true → (l : ℕ) → 1 ≤ l → l < labels →
-        rewritten_word code.now x (l * 16 ^ p) ≡ rewritten_word code.now x 0 }
-{
-    for label in 1..labels {
-        if rewritten_word(code, x, single(label, p)) != base {
-            return false;
+    // What the first side makes of a word.
+    fn made(&self, word: u64) -> u64
+        ensures { result ≡ rewritten_word self.now.code.now self.now.x word }
+    {
+        rewritten_word(self.code, self.x, word)
+    }
+
+    // The rank of what the first side makes of a word.
+    fn first_rank(&self, word: u64) -> u16
+        ensures { result ≡ first_rank self.now.code.now self.now.weights.now self.now.x word % 16384 }
+    {
+        self.rank(self.made(word))
+    }
+
+    // The rank of what the second side makes of that.
+    fn second_rank(&self, word: u64) -> u16
+        ensures { result ≡
+            second_rank self.now.code.now self.now.weights.now self.now.x self.now.y word % 16384 }
+    {
+        self.rank(rewritten_word(self.code, self.y, self.made(word)))
+    }
+
+    // Whether the label at position p changes nothing in what the first side makes.
+    fn is_idle(&self, labels: usize, p: usize) -> bool
+        requires { (labels ≤ 16) × (p < 16) }
+        ensures { result ≡ true → (l : ℕ) → 1 ≤ l → l < labels →
+            rewritten_word self.now.code.now self.now.x (l * 16 ^ p) ≡ rewritten_word self.now.code.now self.now.x 0 }
+    {
+        let base = self.made(0);
+        // Written with `all` over the range, the proof did not close.
+        for label in 1..labels {
+            if self.made(single(label, p)) != base {
+                return false;
+            }
         }
+        true
     }
-    true
-}
 
-// Takes all ranks again for each further label at position p; and how many there are then, or 0 where there is no
-// room for them.
-fn add_labels(
-    code: &Code,
-    weights: &Weights,
-    x: usize,
-    y: usize,
-    labels: usize,
-    p: usize,
-    lists: &mut Lists,
-    count: usize,
-) -> usize
-    requires code_bound { (position_count code.now ≤ 16) × (x < 136) × (y < 136) × (labels ≤ 16) × (p < 16) ×
-        (count ≤ 16384) }
-    requires lists_len { (source_at lists.old 0 < 16384) ×
-        (target_at lists.old 0 < 16384) }
-    ensures labels_added { LabelsAdded (first_rank code.now weights.now x) labels p count result
-        (source_at lists.old) (source_at lists.new) }
-    ensures labels_added_2 { LabelsAdded (second_rank code.now weights.now x y) labels p count result
-        (target_at lists.old) (target_at lists.new) }
-{
-    let source = lists[0];
-    let target = lists[TARGETS];
-    let mut at = count;
-    for label in 1..labels {
-        if ROOM - at < count {
-            return 0;
+    // Takes all ranks again for each further label at position p; and how many there are then, where there is room
+    // for them.
+    fn add_labels(&self, labels: usize, p: usize, lists: &mut Lists, count: usize) -> Option<usize>
+        requires count_bound { (labels ≤ 16) × (p < 16) × (0 < count) × (count ≤ 16384) }
+        requires first_ranks { (rank_at lists.old.sources 0 < 16384) × (rank_at lists.old.targets 0 < 16384) }
+        ensures sources_added { IfSome result (λ new.
+            LabelsAdded (first_rank self.now.code.now self.now.weights.now self.now.x) labels p count new
+            (rank_at lists.old.sources) (rank_at lists.new.sources)) }
+        ensures targets_added { IfSome result (λ new.
+            LabelsAdded (second_rank self.now.code.now self.now.weights.now self.now.x self.now.y) labels p count new
+            (rank_at lists.old.targets) (rank_at lists.new.targets)) }
+    {
+        let source = lists.sources[0];
+        let target = lists.targets[0];
+        let mut at = count;
+        for label in 1..labels {
+            if ROOM - at < count {
+                return None;
+            }
+            let word = single(label, p);
+            let first = self.first_rank(word);
+            let second = self.second_rank(word);
+            extend(&mut lists.sources, count, at, difference(first, source));
+            extend(&mut lists.targets, count, at, difference(second, target));
+            at += count;
         }
-        let word = single(label, p);
-        let first = rank_by(code, weights, x, word);
-        let second = second_rank_by(code, weights, x, y, word);
-        extend(lists, 0, count, at, difference(first, source));
-        extend(lists, TARGETS, count, at, difference(second, target));
-        at += count;
+        Some(at)
     }
-    at
-}
 
-// Writes the ranks of what the side at place x makes of each word, and of what the side at place y makes of that; and
-// how many there are, or 0 where there is no room for them.
-pub fn find_edges(
-    code: &Code,
-    weights: &Weights,
-    x: usize,
-    y: usize,
-    labels: usize,
-    lists: &mut Lists,
-) -> usize
-    requires code_bound { (position_count code.now ≤ 16) × (x < 136) × (y < 136) × (labels ≤ 16) }
-    requires additive { Additive (position_count code.now) labels (first_rank code.now weights.now x) }
-    requires additive_2 { Additive (position_count code.now) labels (second_rank code.now weights.now x y) }
-    ensures listed { 0 < result → Listed (first_rank code.now weights.now x)
-        (second_rank code.now weights.now x y) (position_count code.now) labels 0
-        (source_at lists.new) (target_at lists.new) result }
-    ensures upper_bound { result ≤ 16384 }
-{
-    let base = rewritten_word(code, x, 0);
-    lists[0] = rank_by(code, weights, x, 0);
-    lists[TARGETS] = second_rank_by(code, weights, x, y, 0);
-    let mut count: usize = 1;
-    let mut p = position_count(code);
-    while p > 0 {
-        p -= 1;
-        if !is_idle(code, x, labels, p, base) {
-            count = add_labels(code, weights, x, y, labels, p, lists, count);
+    // Writes the ranks of what the first side makes of each word, and of what the second side makes of that; and how
+    // many there are, where there is room for them.
+    pub fn find_edges(&self, labels: usize, lists: &mut Lists) -> Option<usize>
+        requires labels_bound { labels ≤ 16 }
+        requires first_additive { Additive (position_count self.now.code.now) labels
+            (first_rank self.now.code.now self.now.weights.now self.now.x) }
+        requires second_additive { Additive (position_count self.now.code.now) labels
+            (second_rank self.now.code.now self.now.weights.now self.now.x self.now.y) }
+        ensures { IfSome result (λ count. (count ≤ 16384) ×
+            Listed (first_rank self.now.code.now self.now.weights.now self.now.x)
+            (second_rank self.now.code.now self.now.weights.now self.now.x self.now.y)
+            (position_count self.now.code.now) labels 0
+            (rank_at lists.new.sources) (rank_at lists.new.targets) count) }
+    {
+        lists.sources[0] = self.first_rank(0);
+        lists.targets[0] = self.second_rank(0);
+        let mut count: usize = 1;
+        for p in (0..position_count(self.code)).rev() {
+            if !self.is_idle(labels, p) {
+                count = self.add_labels(labels, p, lists, count)?;
+            }
         }
+        Some(count)
     }
-    count
 }

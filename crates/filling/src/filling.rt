@@ -7,22 +7,20 @@ ghost use Rattle.blocks.specs.Validity.{Headed, Valid};
 ghost use Rattle.words.specs.Sides.{meets_word};
 ghost use Rattle.distances.specs.LeastCosts.{least_costs};
 ghost use Rattle.distances.specs.Filling.{Good};
-ghost use Rattle.tables.specs.Abstraction.{graph_of, Relabelled, Ready};
+ghost use Rattle.tables.specs.Abstraction.{graph_of, Relabelled};
 ghost use Rattle.filling.specs.FilledTables.{filled, Lowered};
 ghost use Rattle.filling.specs.RankWords.{Ranked};
 
 use super::queue::END;
-use super::rank_words::{RankWords, word_at};
-use super::spreading::spread;
-use super::sweeping::settle;
+use super::rank_words::{RankWords, RankedBlock, word_at};
 use blocks::layout;
 use blocks::validity::MOST_STATES;
 use compiling::{compile, place_weights};
-use edge_ranks::LISTS;
+use edge_ranks::{Lists, ROOM};
 use psvn::relabelling::relabel_block;
-use tables::edges::MARK;
+use tables::edges::{Compiled, MARK};
 use words::code::{CODE, Code};
-use words::ranking::{WEIGHTS, Weights};
+use words::ranking::WEIGHTS;
 use words::sides::meets_word;
 
 // The entry of a state before any rule is used: 0 at a goal, the mark elsewhere.
@@ -31,23 +29,23 @@ fn cleared_entry(block: &[u8], code: &Code, word: u64) -> u32
     ensures { result ≡ cond (meets_word code.now (goals block.now) word) 0 mark }
 {
     if meets_word(code, layout::goals(block), word) {
-        return 0;
+        0
+    } else {
+        MARK
     }
-    MARK
 }
 
 // Writes the word of each rank, and the entries before any rule is used.
-fn clear(block: &[u8], code: &Code, weights: &Weights, ranked: &mut RankWords, table: &mut [u32])
-    requires { Ready block.now code.now weights.now ×
-        (length table.old ≡ abstract_states block.now) }
-    ensures { Ranked block.now ranked.new ×
-        Good (graph_of block.now) table.new }
+fn clear(compiled: &Compiled, words: &mut RankWords, table: &mut [u32])
+    requires { length table.old ≡ abstract_states compiled.now.block.now }
+    ensures { Ranked compiled.now.block.now words.new ×
+        Good (graph_of compiled.now.block.now) table.new }
 {
     let mut word: u64 = 0;
     for u in 0..table.len() {
-        word = word_at(block, word, u);
-        ranked[u] = word;
-        table[u] = cleared_entry(block, code, word);
+        word = word_at(compiled.block, word, u);
+        words[u] = word;
+        table[u] = cleared_entry(compiled.block, compiled.code, word);
     }
 }
 
@@ -60,14 +58,26 @@ fn fill_relabelled(block: &[u8], sweeps: bool, table: &mut [u32])
 {
     let mut code = [0u64; CODE];
     let mut weights = [0u16; WEIGHTS];
-    let mut ranked = [0u64; MOST_STATES];
-    let mut links = [END; LISTS];
+    let mut words = [0u64; MOST_STATES];
+    let mut lists = Lists {
+        sources: [END; ROOM],
+        targets: [END; ROOM],
+    };
     compile(block, &mut code);
     place_weights(block, &mut weights);
-    clear(block, &code, &weights, &mut ranked, table);
-    spread(block, &code, &weights, &ranked, table, &mut links);
+    let compiled = Compiled {
+        block,
+        code: &code,
+        weights: &weights,
+    };
+    clear(&compiled, &mut words, table);
+    let ranked = RankedBlock {
+        compiled,
+        words: &words,
+    };
+    ranked.spread(table, &mut lists);
     if sweeps {
-        settle(block, &code, &weights, &ranked, table, &mut links);
+        ranked.settle(table, &mut lists);
     }
 }
 

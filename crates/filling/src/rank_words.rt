@@ -3,22 +3,31 @@ ghost use Rattle.std.specs.Prelude.{◌≡◌, ◌+◌, ◌-◌, ◌^◌, ◌<�
 ghost use Rattle.blocks.specs.Layout.{abstract_states};
 ghost use Rattle.blocks.specs.Validity.{Headed};
 ghost use Rattle.words.specs.Ranking.{word_of};
+ghost use Rattle.filling.specs.RankWords.{Ranked};
 
 use blocks::layout;
 use blocks::validity::MOST_STATES;
+use tables::edges::Compiled;
 use words::packing::digit;
 use words::ranking::word_of;
 
 // The word of each rank.
 pub type RankWords = [u64; MOST_STATES];
 
+// A compiled block, and the word of each rank.
+#[derive(Drop)]
+pub struct RankedBlock<'a> {
+    pub compiled: Compiled<'a>,
+    pub words: &'a RankWords,
+    ghost ranked: { Ranked compiled.block.now words.now },
+}
+
 // What a label of 1 at position i counts in a word.
 fn unit(i: usize) -> u64
     requires { i < 16 }
     ensures { result ≡ 16 ^ i }
 {
-    let one: u64 = 1;
-    one << (4 * i)
+    1 << (4 * i)
 }
 
 // The word of the rank behind u, from the word of rank u: the last label that can rise does, and those behind it
@@ -29,13 +38,11 @@ fn next_word(block: &[u8], word: u64, u: usize) -> u64
 {
     let labels = layout::abstracts(block) as u64;
     let mut next = word;
-    let mut i = layout::positions(block);
-    while i > 0 {
-        i -= 1;
+    for i in (0..layout::positions(block)).rev() {
         if digit(next, i) + 1 < labels {
             return next + unit(i);
         }
-        next = next % unit(i);
+        next %= unit(i);
     }
     next
 }

@@ -1,14 +1,16 @@
 -- The test by sides, over the lists that `find_edges` leaves: labels add to the ranks by a
 -- rule's sides and a goal's (`rule-first`, `rule-second`, `goal-first`, `goal-second`), each
 -- state that a side matches stands in its list, and so does where the rule leads
--- (`rule-listed`, `goal-listed`); and what passes by every rule and goal passes (`sides-pass`).
+-- (`rule-listed`, `goal-listed`; `edges-listed`, `zeros-listed` at the fronts of arrays); and what passes by every
+-- rule and goal passes (`sides-pass`).
 use mathlib.Core.Path.{◌≡◌, refl, sym, ap, ◌∙◌}
 use mathlib.Core.Bool.{Bool, true, false}
 use mathlib.Core.List.{List}
 use Prim.Native.Nat.{ℕ, ◌%◌, ◌<◌}
 use native.Mathlib.Nat.{mod-eq_of_lt}
 use native.Mathlib.Omega.{arith}
-use lib.ListN.{get_or}
+use lib.ListN.{length, get_or, take}
+use lib.Seq.{get_or-take}
 use Rattle.basics.proofs.Bounded.{first_holds}
 use Rattle.blocks.specs.Terms.{term_of, term_ok}
 use Rattle.blocks.specs.Layout.{positions, labels, label_count, rules, goals, cost_of, left_of, right_of, goal_of}
@@ -29,7 +31,7 @@ use Rattle.words.proofs.Meaning.{cost-word, rank-word, unpack-word-of, word-of-s
 use Rattle.words.proofs.WordDigits.{unpack-injective, unpack-at}
 use Rattle.distances.specs.LowerBounds.{passes}
 use Rattle.distances.proofs.Passing.{passes-intro}
-use Rattle.edge_ranks.specs.Lists.{first_rank, second_rank, Labels, Additive, Listed}
+use Rattle.edge_ranks.specs.Lists.{rank_at, first_rank, second_rank, Labels, Additive, Listed}
 use Rattle.edge_ranks.proofs.Listing.{from_all}
 use Rattle.edge_ranks.proofs.Additivity.{additive-first, additive-second}
 use Rattle.tables.specs.Abstraction.{step_rank, graph_of, Ready}
@@ -176,6 +178,20 @@ module _ (a code weights : List ℕ) (ready : Ready a code weights) where
       listed-there u i (goal_place g) (goal_of a g) (ready.compiled.goal g l).sided m (goal_place g) sources targets
       count h in
       ap (λ (x : ℕ). get_or t x 0) (sym es) ∙ z j k
+
+-- the ranks listed stand at the front of their arrays
+module _ (t sources : List ℕ) (count : ℕ) (long : length (take count sources) ≡ count) where
+  pub zeros-listed :
+      Zeros t (rank_at (take count sources)) (length (take count sources)) → Zeros t (rank_at sources) count
+  zeros-listed h j l = rw (get_or-take count sources j 0 l) at (h j (omega arith))
+
+  pub edges-listed :
+      (targets : List ℕ) (cost : ℕ)
+      → EdgesPass t (rank_at (take count sources)) (rank_at (take count targets)) (length (take count sources)) cost
+      → EdgesPass t (rank_at sources) (rank_at targets) count cost
+  edges-listed targets cost h j l =
+      rw (get_or-take count sources j 0 l, get_or-take count targets j 0 l) at
+      (h j (omega arith))
 
 -- all rules and goals
 pub sides-pass :

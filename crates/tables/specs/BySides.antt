@@ -1,6 +1,6 @@
 -- The lower-bound test by rules and goals, each at every state (`RulePasses`, `GoalPasses`), and over lists of ranks
 -- (`EdgesPass`, `Zeros`).
-use Rattle.std.specs.Prelude.{◌≡◌, true, ◌≢◌, List, ℕ, ◌+◌, ◌≤◌, ◌<◌, length, get_or}
+use Rattle.std.specs.Prelude.{◌≡◌, true, ◌≢◌, List, ℕ, ◌+◌, ◌≤◌, ◌<◌, get_or}
 use Rattle.basics.specs.Marks.{mark}
 use Rattle.blocks.specs.Layout.{abstract_states}
 use Rattle.psvn.specs.Rules.{goal_met}
@@ -11,9 +11,9 @@ use Rattle.distances.specs.Graphs.{Graph}
 abbrev pub Bounded : ℕ → ℕ → ℕ → Type 0
 Bounded e c f = f ≢ mark → (e ≢ mark) × (e ≤ c + f)
 
--- the ranks of a list have entries
-abbrev pub InTable : List ℕ → (ℕ → ℕ) → ℕ → Type 0
-InTable t ranks n = (j : ℕ) → j < n → ranks j < length t
+-- the ranks of a list are below a bound: below a table's length they have entries
+abbrev pub InTable : ℕ → (ℕ → ℕ) → ℕ → Type 0
+InTable bound ranks n = (j : ℕ) → j < n → ranks j < bound
 
 -- the entries at the ranks of two lists are so, in pairs
 abbrev pub EdgesPass : List ℕ → (ℕ → ℕ) → (ℕ → ℕ) → ℕ → ℕ → Type 0

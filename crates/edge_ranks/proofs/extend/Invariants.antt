@@ -1,13 +1,10 @@
 -- `edge_ranks::extend` meets its contract.
--- The loop's invariant: only ranks passed are written, from `at` on, and they are the new ones.
-use mathlib.Core.Path.{◌≡◌}
-use Prim.Native.Nat.{ℕ, ◌+◌, ◌%◌, ◌<◌}
-use lib.ListN.{get_or}
-use Rattle.basics.specs.Parts.{Outside}
+-- The loop's invariant: the ranks before `at` stay, and those passed stand again from `at` on.
+use Rattle.std.proofs.Common.{◌≡◌, ℕ, ◌+◌, ◌%◌, ◌<◌}
+use Rattle.edge_ranks.specs.Lists.{rank_at}
 use Rattle.edge_ranks.proofs.extend.Given as goal
 
 abbrev pub invariant-loop-j : goal.invariant-loop-j
 invariant-loop-j l =
-    Outside (l.list + l.at) (l.list + l.at + l.count) l.initial.lists l.lists
-    × ((i : ℕ) → i < l.j → get_or l.lists (l.list + l.at + i) 0
-    ≡ (get_or l.initial.lists (l.list + i) 0 + l.by) % 16384)
+    ((i : ℕ) → i < l.at → rank_at l.list i ≡ rank_at l.initial.list i)
+    × ((i : ℕ) → i < l.j → rank_at l.list (l.at + i) ≡ (rank_at l.initial.list i + l.by) % 16384)

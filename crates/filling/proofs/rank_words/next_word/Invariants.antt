@@ -8,6 +8,3 @@ use Rattle.filling.proofs.rank_words.next_word.Given as goal
 
 abbrev pub invariant-loop-i : goal.invariant-loop-i
 invariant-loop-i l = (l.labels ≡ abstracts l.block) × (l.i ≤ 16) × Counting l.block l.u l.next l.i
-
-abbrev pub decreases-loop-i : goal.decreases-loop-i
-decreases-loop-i l = l.i

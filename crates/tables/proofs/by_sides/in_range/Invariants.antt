@@ -1,14 +1,9 @@
 -- `tables::by_sides::in_range` meets its contract.
 -- The loop's invariant: where it still says so, the ranks passed are below the bound.
-use mathlib.Core.Path.{◌≡◌}
-use mathlib.Core.Bool.{true}
-use Prim.Native.Nat.{ℕ, ◌+◌, ◌-◌, ◌≤◌, ◌<◌}
-use lib.ListN.{get_or}
+use Rattle.std.proofs.Common.{◌≡◌, true}
+use Rattle.edge_ranks.specs.Lists.{rank_at}
+use Rattle.tables.specs.BySides.{InTable}
 use Rattle.tables.proofs.by_sides.in_range.Given as goal
 
-abbrev pub invariant-loop-j : goal.invariant-loop-j
-invariant-loop-j l =
-    (l.j ≤ l.count) × (l.below ≡ true → (i : ℕ) → i < l.j → get_or l.lists (l.list + i) 0 < l.bound)
-
-abbrev pub decreases-loop-j : goal.decreases-loop-j
-decreases-loop-j l = l.count - l.j
+abbrev pub invariant-loop-rank : goal.invariant-loop-rank
+invariant-loop-rank l = l.below ≡ true → InTable l.bound (rank_at l.ranks) l.rank-index

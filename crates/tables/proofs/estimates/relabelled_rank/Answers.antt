@@ -8,7 +8,7 @@ use Rattle.blocks.specs.Layout.{positions}
 use Rattle.blocks.proofs.StateLaws.{state-length, state-label}
 use Rattle.tables.proofs.RelabelledRanks.{part_rank, part-more, part-all, part_small, whole_below}
 use Rattle.tables.proofs.estimates.relabelled_rank.Goals as goal
-use Rattle.tables.proofs.estimates.relabelled_rank.Goals.{After-wide}
+use Rattle.tables.proofs.estimates.relabelled_rank.Goals.{After-from}
 
 pub loop-i-init : goal.loop-i-init
 loop-i-init c = (c.positions-n.ensures.0, search rules, refl)
@@ -35,16 +35,16 @@ overflow_mul-k c =
 
 -- one label more
 more :
-    (c : After-wide)
+    (c : After-from)
     → let a = c.args in
     let l = c.loop-i in
-    l.k * c.abstract_count.result + c.wide.result
+    l.k * c.abstract_count.result + c.from.result
     ≡ part_rank a.block.now a.state.now (l.i + 1)
 more c =
     let a = c.args in
     let l = c.loop-i in
     ap₂ ◌+◌ (ap₂ ◌*◌ l.invariant.2 c.abstract_count.ensures.0)
-    (c.wide.ensures.0 ∙ c.byte_of.ensures ∙ c.abstract_label-label.ensures)
+    (c.from.ensures ∙ c.byte_of.ensures ∙ c.abstract_label-label.ensures)
     ∙ sym (part-more a.block.now a.state.now l.i (omega arith))
 
 pub overflow_add-k : goal.overflow_add-k
