@@ -29,8 +29,8 @@ fn pivot(block: &[u8], reversal: &Reversal, earlier: &[u8]) -> Option<usize>
     requires { Headed block.now × (reversal.now.sides.n ≡ positions block.now) ×
         (length earlier.now ≡ reversal.now.sides.n) }
     ensures { result ≡ last (length reversal.now.state.now)
-        (raisable_at (label_count block.now) (choices_of (left_terms reversal.now.sides) (right_terms reversal.now.sides)
-        reversal.now.state.now) earlier.now) }
+        (raisable_at (label_count block.now) (choices_of (left_terms reversal.now.sides)
+        (right_terms reversal.now.sides) reversal.now.state.now) earlier.now) }
 {
     let mut best = None;
     for i in 0..reversal.sides.n {
@@ -58,7 +58,8 @@ fn raise(reversal: &Reversal, earlier: &[u8], candidate: &mut [u8], i: usize)
     complete(reversal, candidate, i + 1);
 }
 
-// Writes the candidate out if rule r takes it to `state`.
+// Writes the candidate out if rule r takes it to `state`. A flag beside the caller's buffer, as the C interface has it: a
+// state is as long as the caller's block says, and there is no heap to make one on.
 fn settle(block: &[u8], r: usize, candidate: &[u8], state: &[u8], out: &mut [u8]) -> bool
     requires { Sized block.now × (r < rules block.now) × (length candidate.now ≡ positions block.now) ×
         (length state.now ≡ positions block.now) × (positions block.now ≤ length out.old) }
