@@ -1,17 +1,20 @@
 -- Laws of lines: the line at a place goes up to its line feed (`line-feed`, `line-more`), it is a part of the text
--- (`line-part`), and the lines from a place on are that line and the lines behind it (`lines_from`).
+-- (`line-part`), and the lines from a place on are that line and the lines behind it (`lines_from`); the first line is
+-- as long as the first line feed tells (`first-long`), and a text that is cut there is that line and the lines behind it
+-- (`lines-cut`).
 -- The loops of the reader and of `par` rest on these.
-use mathlib.Core.Path.{◌≡◌, refl, ap, ◌∙◌}
+use mathlib.Core.Path.{◌≡◌, refl, sym, ap, ap₂, ◌∙◌, subst}
 use mathlib.Core.Logic.{⊎_elim}
 use mathlib.Core.Bool.{Bool, true, false, not, cond}
 use Rattle.std.specs.Prelude.{Option, Some, None, min, nat_lt}
-use Rattle.std.specs.List.{position, position_or_len}
-use mathlib.Core.List.{List, [], ◌∷◌}
+use Rattle.std.specs.List.{position, position_or_len, IsFirstMatchOrLen}
+use Rattle.std.proofs.lemmas.List.Sums.{position_or_len_is}
+use mathlib.Core.List.{List, [], ◌∷◌, ◌++◌}
 use Prim.Native.Nat.{ℕ, suc, ◌+◌, ◌≤◌, ◌<◌}
 use native.Mathlib.Omega.{arith}
 use lib.Dec.{eqb}
 use lib.ListN.{length, get_or, take, drop, length-take, length-drop, drop_of_length-le}
-use lib.Seq.{drop-cons, drop-drop}
+use lib.Seq.{drop-cons, drop-drop, take_at, drop_at}
 use borrow.Author.Tests.{ltb-true, ltb-false, eq-eqb, ne_eqb}
 use Rattle.basics.proofs.Truth.{true-false}
 use Rattle.basics.proofs.Comparing.{below?, same?}
@@ -61,7 +64,7 @@ abbrev pub up_to : List ℕ → Option ℕ → ℕ
 up_to x (Some i) = i + 1
 up_to x None = length x
 
-abbrev is_feed : ℕ → Bool
+abbrev pub is_feed : ℕ → Bool
 is_feed c = eqb c line_feed
 
 first_long : (x : List ℕ) → length (first_line (lines_of x)) ≡ min (suc (position_or_len is_feed x)) (length x)
@@ -84,6 +87,24 @@ first-long x = go (nat_lt (position_or_len is_feed x) (length x)) refl
         → length (first_line (lines_of x)) ≡ up_to x (cond t (Some (position_or_len is_feed x)) None)
     go true h = omega (arith, first_long x, ltb-true (position_or_len is_feed x) (length x) h)
     go false h = omega (arith, first_long x, ltb-false (position_or_len is_feed x) (length x) h)
+
+-- a text that is cut behind its first line feed
+pub lines-cut :
+    (x line rest : List ℕ) (i : ℕ) → x ≡ line ++ rest → 0 < length x → length line ≡ min (i + 1) (length x)
+    → IsFirstMatchOrLen is_feed x i → lines_of x ≡ line ∷ lines_of rest
+lines-cut x line rest i e some long at =
+    let j = min i (length x) in
+    let none : (k : ℕ) → k < j → is_feed (get_or x k 0) ≡ false = λ k h. at.0 k 0 (omega arith) (omega arith) in
+    let feed : j < length x → is_feed (get_or x j 0) ≡ true =
+    λ h. let same : i ≡ j = omega arith in subst (λ (k : ℕ). is_feed (get_or x k 0) ≡ true) same (at.1 (omega arith) 0) in
+    let first = position_or_len_is is_feed x j 0 (omega arith) none feed in
+    let n : length (first_line (lines_of x)) ≡ length line = omega (arith, first_long x, first, long) in
+    let taken : take (length line) x ≡ line = ap (take (length line)) e ∙ take_at line rest (length line) refl in
+    let left : drop (length line) x ≡ rest = ap (drop (length line)) e ∙ drop_at line rest (length line) refl in
+    lines-some x some
+    ∙ ap₂ (λ (l r : List ℕ). l ∷ lines_of r)
+    (sym (first_taken x) ∙ ap (λ (k : ℕ). take k x) n ∙ taken)
+    (ap (λ (k : ℕ). drop k x) n ∙ left)
 
 module _ (x : List ℕ) (at : ℕ) where
   -- behind the end there is no line

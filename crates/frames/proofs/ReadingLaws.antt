@@ -1,10 +1,11 @@
--- Conditions and bytes of the lines from a place on, by the line there and the lines behind it: `ok_from`, `fit-from`,
--- `block-from`, and at the end `ok_end`, `fit-end`, `block-end`; the lines behind the first (`lines-tail`), and what
--- decides the conditions on frames (`lines-refused`, `head-refused`, `frames-decided`).
+-- Conditions of the lines from a place on, by the line there and the lines behind it: `ok_from`, `fit-from`, and at the
+-- end `ok_end`, `fit-end`; the lines behind the first (`lines-tail`); what is told or refused behind a verdict
+-- (`answered-told`, `answered-refused`), and what decides the conditions on frames (`lines-refused`, `head-refused`,
+-- `frames-decided`).
 -- The functions that read an exercise rest on these.
 use mathlib.Core.Path.{◌≡◌, refl, sym, ap, ap₂, ◌∙◌}
 use mathlib.Core.Bool.{Bool, true, false, ◌&&◌}
-use mathlib.Core.List.{List, [], ◌∷◌, ◌++◌, flat_map, tail}
+use mathlib.Core.List.{List, [], ◌∷◌, tail}
 use Prim.Native.Nat.{ℕ, suc, ◌+◌, ◌≤◌, ◌<◌}
 use native.Mathlib.Nat.{zero-add}
 use native.Mathlib.Omega.{arith}
@@ -16,7 +17,7 @@ use Rattle.blocks.specs.Layout.{block_length, frame_count, frame_length}
 use Rattle.blocks.specs.Validity.{head_ok}
 use Rattle.frames.specs.Lines.{lines_of, line_ok, line_bytes}
 use Rattle.frames.specs.Places.{line_from}
-use Rattle.frames.specs.Reading.{head_of, block_of, lines_ok, head_line_ok, lines_fit}
+use Rattle.frames.specs.Reading.{head_of, lines_ok, head_line_ok, lines_fit}
 use Rattle.frames.specs.Reading.{head_conditions, frame_conditions}
 use Rattle.frames.proofs.LineLaws.{lines_from}
 
@@ -36,10 +37,6 @@ module _ (x : List ℕ) (at : ℕ) where
         && (eqb (length (line_bytes (line_from x at))) (frame_length head i) && lines_fit head (suc i) behind))
     fit-from head i = ap (lines_fit head i) (lines_from x at l)
 
-    pub block-from : block_of (lines_of (drop at x)) ≡ line_bytes (line_from x at) ++ block_of behind
-    unfolding flat_map
-    block-from = ap block_of (lines_from x at l)
-
   module _ (l : length x ≤ at) where
     lines_end : lines_of (drop at x) ≡ []
     lines_end = ap lines_of (drop_of_length-le x l)
@@ -49,10 +46,6 @@ module _ (x : List ℕ) (at : ℕ) where
 
     pub fit-end : (head : List ℕ) (i : ℕ) → lines_fit head i (lines_of (drop at x)) ≡ eqb i (frame_count head)
     fit-end head i = ap (lines_fit head i) lines_end
-
-    pub block-end : block_of (lines_of (drop at x)) ≡ []
-    unfolding flat_map
-    block-end = ap block_of lines_end
 
 -- the lines behind the first
 pub lines-tail : (x : List ℕ) → tail (lines_of x) ≡ lines_of (drop (length (line_from x 0)) x)

@@ -11,7 +11,7 @@ use super::digits::{digit, digit_of};
 const LINE_FEED: u8 = b'\n';
 
 // What stands at a place of a text: whether the line there is pairs of digits with a line feed, how many bytes its
-// pairs make, and the place behind it.
+// pairs make, and the place behind it. The number is told of a wrong line too, whose length is refused behind it.
 #[derive(Drop)]
 pub struct Line {
     pub ok: bool,

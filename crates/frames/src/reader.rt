@@ -1,5 +1,6 @@
 // The reader: a text and how far it has been read, one line at a time.
-ghost use Rattle.std.specs.Prelude.{◌≡◌};
+ghost use Rattle.std.specs.Prelude.{◌≡◌, ◌-◌, ◌<◌, ◌≤◌, length, MatchOption};
+ghost use Rattle.std.specs.Iterator.{at_most};
 ghost use Rattle.frames.specs.Places.{line_at};
 
 use super::lines::{Line, line_at};
@@ -20,6 +21,25 @@ impl<'a> Reader<'a> {
         let line = line_at(self.text, self.at);
         self.at = line.next;
         line
+    }
+}
+
+// The lines that a reader has not taken yet.
+impl<'a> Iterator for Reader<'a> {
+    type Item = Line;
+
+    ghost next_gives = { λ s r t. MatchOption r (length s.text.now ≤ s.at)
+        (λ line. (s.at < length s.text.now) × (line ≡ line_at s.text.now s.at)
+        × (t.text ≡ s.text) × (t.at ≡ line.next)) };
+
+    ghost remaining = { λ s. at_most (length s.text.now - s.at) };
+
+    fn next(&mut self) -> Option<Line> {
+        if self.at < self.text.len() {
+            Some(self.next_line())
+        } else {
+            None
+        }
     }
 }
 

@@ -9,7 +9,7 @@ ghost use Rattle.frames.specs.Reading.{head_of, block_of, lines_ok, head_line_ok
 ghost use Rattle.frames.specs.Reading.{head_conditions, frame_conditions, read_exercise};
 
 use super::lines::{decode_line, line_end};
-use super::reader::read_line;
+use super::reader::{Reader, read_line};
 use blocks::layout;
 use blocks::layout::{BLOCK_ROOM, HEAD_LENGTH, Head};
 use refusals::Refusal;
@@ -27,13 +27,10 @@ pub struct Heading {
 fn lines_ok(text: &[u8]) -> bool
     ensures { result ≡ lines_ok (lines_of text.now) }
 {
-    let mut at: usize = 0;
-    while at < text.len() {
-        let line = read_line(text, at);
+    for line in (Reader { text, at: 0 }) {
         if !line.ok {
             return false;
         }
-        at = line.next;
     }
     true
 }
@@ -122,12 +119,9 @@ fn decode_lines(text: &[u8], out: &mut [u8]) -> usize
     ensures { (result ≡ length (block_of (lines_of text.now)))
         × (out.new ≡ at_front (block_of (lines_of text.now)) out.old) }
 {
-    let mut at: usize = 0;
     let mut to: usize = 0;
-    while at < text.len() {
-        let next = line_end(text, at);
-        to += decode_line(&text[at..next], &mut out[to..]);
-        at = next;
+    for line in text.split_inclusive(|c| *c == b'\n') {
+        to += decode_line(line, &mut out[to..]);
     }
     to
 }

@@ -1,105 +1,74 @@
 -- `frames::reading::decode_lines` meets its contract.
 use mathlib.Core.Path.{◌≡◌, refl, sym, ap, ◌∙◌}
-use mathlib.Core.List.{List, [], ◌++◌, append_assoc, append-nil}
-use Prim.Native.Nat.{ℕ, ◌+◌, ◌-◌, ◌≤◌, ◌<◌}
+use mathlib.Core.List.{List, [], ◌∷◌, ◌++◌, flat_map, append_assoc, append-nil}
+use Prim.Native.Nat.{ℕ}
 use native.Mathlib.Omega.{arith}
-use lib.ListN.{length, take, drop, length-append, length-drop}
+use borrow.Author.Rules.{rules}
+use lib.ListN.{length, length-append, length-drop}
+use Rattle.std.proofs.lemmas.List.{nil_from_length}
+use Rattle.std.proofs.lemmas.List.Sorted.{answers_always}
 use Rattle.basics.specs.Lists.{at_front}
 use Rattle.basics.proofs.Lists.{front-behind, rest-whole}
 use Rattle.frames.specs.Lines.{lines_of, line_bytes}
-use Rattle.frames.specs.Places.{line_from}
 use Rattle.frames.specs.Reading.{block_of}
-use Rattle.frames.proofs.LineLaws.{line-some, line-part, line-inside}
-use Rattle.frames.proofs.ReadingLaws.{behind, block-from, block-end}
+use Rattle.frames.proofs.LineLaws.{is_feed, lines-cut}
 use Rattle.frames.proofs.reading.decode_lines.Goals as goal
 
--- the bytes of the line at a place, and of those behind it
-abbrev mine : List ℕ → ℕ → List ℕ
-mine x at = line_bytes (line_from x at)
-
-abbrev rest : List ℕ → ℕ → List ℕ
-rest x at = block_of (behind x at)
-
--- the next line begins at `next`
-module _ (x : List ℕ) (at next : ℕ) (onward : next ≡ at + length (line_from x at)) where
-  inside : at < length x → next ≤ length x
-  inside l = omega (arith, line-inside x at (omega arith))
-
-  -- the part that is decoded is this line
-  part : take (next - at) (drop at x) ≡ line_from x at
-  part =
-      let e : next - at ≡ length (line_from x at) = omega arith in
-      ap (λ (k : ℕ). take k (drop at x)) e ∙ line-part x at
-
--- all bytes are those that are written, those of the line there, and the rest
+-- all bytes are those that are written, those of this line, and the rest
 all_bytes :
-    (front : List ℕ) (x : List ℕ) (at : ℕ) → at < length x
-    → front ++ block_of (lines_of (drop at x)) ≡ (front ++ mine x at) ++ rest x at
-all_bytes front x at l =
-    ap (λ (y : List ℕ). front ++ y) (block-from x at l) ∙ sym (append_assoc front (mine x at) (rest x at))
-
-pub loop-at-init : goal.loop-at-init
-loop-at-init c = ([], refl, refl, refl)
-
-pub slice_bounds-decode_line-count : goal.slice_bounds-decode_line-count
-slice_bounds-decode_line-count c = omega (arith, c.line_end-next.ensures)
-
-pub slice_bounds-decode_line-start : goal.slice_bounds-decode_line-start
-slice_bounds-decode_line-start c = omega (arith, c.line_end-next.ensures)
-
-pub slice_bounds-decode_line-end : goal.slice_bounds-decode_line-end
-slice_bounds-decode_line-end c =
-    let e = c.line_end-next.ensures in
-    omega (arith, e, inside c.args.text.now c.loop-at.at _ e c.loop-at-test.true)
+    (front line : List ℕ) (x : List ℕ) (rest all : List ℕ) → lines_of x ≡ line ∷ lines_of rest
+    → front ++ block_of (lines_of x) ≡ all → (front ++ line_bytes line) ++ block_of (lines_of rest) ≡ all
+unfolding flat_map
+all_bytes front line x rest all e h =
+    append_assoc front (line_bytes line) (block_of (lines_of rest))
+    ∙ ap (λ (ls : List (List ℕ)). front ++ block_of ls) (sym e)
+    ∙ h
 
 pub decode_line-to-requires : goal.decode_line-to-requires
 decode_line-to-requires c =
-    let x = c.args.text.now in
-    let at = c.loop-at.at in
-    let front = c.loop-at.invariant.0 in
-    let p = part x at _ c.line_end-next.ensures in
-    let all = all_bytes front x at c.loop-at-test.true in
-    let out = c.loop-at.out in
+    let s = c.in-Some.ensures.steps in
+    let l = c.loop-line in
+    let front = l.invariant.0 in
+    let line = c.in-Some.line.now in
+    let at = s.1.2 is_feed (answers_always _ _ _ (λ f a r g h. search rules)) in
+    let cut = lines-cut l.line-iterator.rest.now line c.next.new.self.rest.now s.1.0 s.0 s.2 s.1.1 at.1 in
+    let bytes = block_of (lines_of c.args.text.now) in
+    let all = all_bytes front line l.line-iterator.rest.now c.next.new.self.rest.now bytes cut l.invariant.3 in
     omega (
       arith,
-      ap (λ (l : List ℕ). length (line_bytes l)) p,
-      c.loop-at.invariant.1,
-      ap length (sym c.loop-at.invariant.3 ∙ all),
-      length-append (front ++ mine x at) (rest x at),
-      length-append front (mine x at),
-      ap length (rest-whole c.loop-at.to out),
-      length-drop c.loop-at.to out,
+      l.invariant.1,
+      ap length all,
+      length-append (front ++ line_bytes line) (block_of (lines_of c.next.new.self.rest.now)),
+      length-append front (line_bytes line),
+      ap length (rest-whole l.to l.out),
+      length-drop l.to l.out,
     )
 
-pub loop-at-smaller : goal.loop-at-smaller
-loop-at-smaller c =
-    omega (arith, c.line_end-next.ensures, line-some c.args.text.now c.loop-at.at c.loop-at-test.true)
-
-pub loop-at-preserved : goal.loop-at-preserved
-loop-at-preserved c =
-    let x = c.args.text.now in
-    let loop = c.loop-at in
-    let front = loop.invariant.0 in
-    let call = c.decode_line-to in
-    let onward = c.line_end-next.ensures in
-    let p = ap line_bytes (part x loop.at _ onward) in
-    let bytes = ap length p in
-    let written = call.ensures.1 ∙ ap (λ (l : List ℕ). at_front l (take (length loop.out - loop.to) (drop loop.to loop.out))) p in
-    let left = ap (λ (k : ℕ). (front ++ mine x loop.at) ++ block_of (lines_of (drop k x))) onward in (
-      front ++ mine x loop.at,
-      omega (arith, call.ensures.0, bytes, loop.invariant.1, length-append front (mine x loop.at)),
-      front-behind front (mine x loop.at) c.args.out.now loop.invariant.1 loop.invariant.2 refl written,
-      left ∙ sym (all_bytes front x loop.at c.loop-at-test.true) ∙ loop.invariant.3,
+pub loop-line-preserved : goal.loop-line-preserved
+loop-line-preserved c =
+    let s = c.in-Some.ensures.steps in
+    let l = c.loop-line in
+    let front = l.invariant.0 in
+    let line = c.in-Some.line.now in
+    let at = s.1.2 is_feed (answers_always _ _ _ (λ f a r g h. search rules)) in
+    let cut = lines-cut l.line-iterator.rest.now line c.next.new.self.rest.now s.1.0 s.0 s.2 s.1.1 at.1 in
+    let call = c.decode_line-to in (
+      front ++ line_bytes line,
+      omega (arith, call.ensures.0, l.invariant.1, length-append front (line_bytes line)),
+      front-behind front (line_bytes line) c.args.out.now l.invariant.1 l.invariant.2 refl call.ensures.1,
+      all_bytes front line l.line-iterator.rest.now c.next.new.self.rest.now _ cut l.invariant.3,
     )
 
 pub returns : goal.returns
+unfolding flat_map
 returns c =
-    let loop = c.loop-at in
-    let front = loop.invariant.0 in
+    let l = c.loop-line in
+    let front = l.invariant.0 in
+    let none : l.line-iterator.rest.now ≡ [] = nil_from_length _ c.in-None.ensures.steps.0 in
     let all =
     sym (append-nil front)
-    ∙ ap (λ (l : List ℕ). front ++ l) (sym (block-end c.args.text.now loop.at c.loop-at-test.false))
-    ∙ loop.invariant.3 in (
-      loop.invariant.1 ∙ ap length all,
-      loop.invariant.2 ∙ ap (λ (l : List ℕ). at_front l c.args.out.now) all,
+    ∙ ap (λ (x : List ℕ). front ++ block_of (lines_of x)) (sym none)
+    ∙ l.invariant.3 in (
+      l.invariant.1 ∙ ap length all,
+      l.invariant.2 ∙ ap (λ (x : List ℕ). at_front x c.args.out.now) all,
     )

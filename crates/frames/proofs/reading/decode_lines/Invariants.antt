@@ -3,19 +3,16 @@
 -- lines.
 use mathlib.Core.Path.{◌≡◌}
 use mathlib.Core.List.{List, ◌++◌}
-use Prim.Native.Nat.{ℕ, ◌-◌}
-use lib.ListN.{length, drop}
+use Prim.Native.Nat.{ℕ}
+use lib.ListN.{length}
 use Rattle.basics.specs.Lists.{at_front}
 use Rattle.frames.specs.Lines.{lines_of}
 use Rattle.frames.specs.Reading.{block_of}
 use Rattle.frames.proofs.reading.decode_lines.Given as goal
 
-abbrev pub invariant-loop-at : goal.invariant-loop-at
-invariant-loop-at l =
+abbrev pub invariant-loop-line : goal.invariant-loop-line
+invariant-loop-line l =
     (front : List ℕ)
     × (l.to ≡ length front)
     × (l.out ≡ at_front front l.initial.out)
-    × (front ++ block_of (lines_of (drop l.at l.text)) ≡ block_of (lines_of l.text))
-
-abbrev pub decreases-loop-at : goal.decreases-loop-at
-decreases-loop-at l = length l.text - l.at
+    × (front ++ block_of (lines_of l.line-iterator.rest.now) ≡ block_of (lines_of l.text))

@@ -1,14 +1,11 @@
 -- `frames::reading::lines_ok` meets its contract.
--- The loop's invariant: the lines that are left are as good as all of them.
+-- The loop's invariant: the lines that the reader has left are as good as all of them.
 use mathlib.Core.Path.{◌≡◌}
-use Prim.Native.Nat.{◌-◌}
-use lib.ListN.{length, drop}
+use lib.ListN.{drop}
 use Rattle.frames.specs.Lines.{lines_of}
 use Rattle.frames.specs.Reading.{lines_ok}
 use Rattle.frames.proofs.reading.lines_ok.Given as goal
 
-abbrev pub invariant-loop-at : goal.invariant-loop-at
-invariant-loop-at l = lines_ok (lines_of (drop l.at l.text)) ≡ lines_ok (lines_of l.text)
-
-abbrev pub decreases-loop-at : goal.decreases-loop-at
-decreases-loop-at l = length l.text - l.at
+abbrev pub invariant-loop-line : goal.invariant-loop-line
+invariant-loop-line l =
+    (l.line-iterator.text.now ≡ l.text) × (lines_ok (lines_of (drop l.line-iterator.at l.text)) ≡ lines_ok (lines_of l.text))
