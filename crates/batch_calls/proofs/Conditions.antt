@@ -1,30 +1,21 @@
--- What decides the conditions of the call on many queries, part by part (`exercise-refused`, `records-refused`,
--- `tables-decide`), the records' own test by test (`records-so`); and what an accepting verdict says
--- (`batch-accepted`).
+-- What an accepting verdict on the conditions of the call on many queries says (`batch-accepted`). `checks` are the
+-- lemmas that the check rests on.
 -- The call rests on these once it has refused what is to be refused.
-use mathlib.Core.Path.{◌≡◌, ap, ◌∙◌}
-use mathlib.Core.Bool.{Bool, true, false, ◌&&◌}
+use mathlib.Core.Path.{◌≡◌}
+use mathlib.Core.Bool.{true, ◌&&◌}
 use mathlib.Core.List.{List, ◌∷◌}
 use Prim.Native.Nat.{ℕ, ◌*◌, ◌≤◌}
 use lib.Dec.{leb, eqb}
 use borrow.Author.Tests.{leb-true, eqb-true}
 use Rattle.basics.proofs.Truth.{and-true}
-use Rattle.refusals.specs.Answers.{refused, told, verdict, ◌unless◌}
+use Rattle.refusals.specs.Answers.{told, verdict, ◌unless◌}
 use Rattle.refusals.proofs.Verdicts.{verdict-told, verdict-behind, verdict-before, verdict-parts}
 use Rattle.maps.specs.Maps.{exercise_conditions}
 use Rattle.records.specs.Records.{query_length, record_room}
 use Rattle.search_calls.specs.Searching.{tables_conditions}
 use Rattle.batch_calls.specs.Batches.{most_records, record_count, records_ok, batch_conditions}
 
--- the records, test by test
 module _ (b : List ℕ) (bytes room : ℕ) where
-  pub records-so :
-      (some few whole fits : Bool) → leb 1 (record_count b bytes) ≡ some → leb (record_count b bytes) most_records ≡ few
-      → eqb (record_count b bytes * query_length b) bytes ≡ whole → leb (record_count b bytes * record_room) room ≡ fits
-      → records_ok b bytes room ≡ (some && few && whole && fits)
-  unfolding records_ok
-  records-so some few whole fits p q r s = rw (p, q, r, s)
-
   pub record RecordsAccepted : Type 0 where
     pub few : record_count b bytes ≤ most_records
     pub whole : record_count b bytes * query_length b ≡ bytes
@@ -45,29 +36,6 @@ module _ (b : List ℕ) (bytes room : ℕ) where
       }
 
 module _ (b maps : List ℕ) (bytes : ℕ) (t : List ℕ) (room : ℕ) where
-  -- block and maps are refused, or the records are, or the tables decide
-  pub exercise-refused :
-      (k : ℕ) → verdict (exercise_conditions b maps) ≡ refused k
-      → verdict (batch_conditions b maps bytes t room) ≡ refused k
-  unfolding batch_conditions
-  exercise-refused k h = verdict-before (exercise_conditions b maps) _ k h
-
-  module _ (valid : verdict (exercise_conditions b maps) ≡ told tt) where
-    pub records-refused :
-        records_ok b bytes room ≡ false → verdict (batch_conditions b maps bytes t room) ≡ refused 16
-    unfolding batch_conditions
-    records-refused h =
-        verdict-behind (exercise_conditions b maps) _ valid
-        ∙ ap (λ (x : Bool). verdict (16 unless x ∷ tables_conditions b maps t)) h
-
-    pub tables-decide :
-        records_ok b bytes room ≡ true
-        → verdict (batch_conditions b maps bytes t room) ≡ verdict (tables_conditions b maps t)
-    unfolding batch_conditions
-    tables-decide h =
-        verdict-behind (exercise_conditions b maps) _ valid
-        ∙ ap (λ (x : Bool). verdict (16 unless x ∷ tables_conditions b maps t)) h
-
   pub record BatchAccepted : Type 0 where
     pub exercise : verdict (exercise_conditions b maps) ≡ told tt
     pub records : RecordsAccepted b bytes room
@@ -80,3 +48,6 @@ module _ (b maps : List ℕ) (bytes : ℕ) (t : List ℕ) (room : ℕ) where
       let p = verdict-parts (exercise_conditions b maps) behind h in
       let q = verdict-told 16 (records_ok b bytes room) (tables_conditions b maps t) p.1 in
       record { exercise = p.0; records = records-accepted b bytes room q.0; tables = q.1 }
+
+-- what decides the conditions part by part
+pub ruleset checks = (verdict-behind, verdict-before)

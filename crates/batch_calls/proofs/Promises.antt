@@ -15,18 +15,18 @@ use Rattle.batch_calls.proofs.Conditions.{batch-accepted}
 use Rattle.batch_calls.proofs.AnswerRecords.{record-at, query-small}
 use Rattle.batch_calls.proofs.SingleCalls.{batch-valid, batch-passing, record-kept}
 
+-- the answer records at the front
+abbrev pub written : List ℕ → List ℕ → List ℕ → List ℕ → List ℕ → List ℕ
+written b maps queries t answers = at_front (answers_of b (estimate_of b maps t) queries) answers
+
 module _
     (b maps queries t answers : List ℕ) (bytes : Bytes queries) (small : (k : ℕ) → get_or t k 0 ≤ mark) where
   abbrev count : ℕ
   count = record_count b (length queries)
 
-  -- the answer records at the front
-  abbrev written : List ℕ
-  written = at_front (answers_of b (estimate_of b maps t) queries) answers
-
   pub accepted-kept :
       verdict (batch_conditions b maps (length queries) t (length answers)) ≡ told tt
-      → BatchKept b maps queries t (told (count * record_room)) written
+      → BatchKept b maps queries t (told (count * record_room)) (written b maps queries t answers)
   accepted-kept h =
       let k = batch-accepted b maps (length queries) t (length answers) h in
       let valid = batch-valid b maps t k.exercise k.tables in
@@ -42,7 +42,7 @@ module _
   batch-kept = by-verdict (verdict (batch_conditions b maps (length queries) t (length answers))) refl where
     by-verdict :
         (v : Answer (Unit {0})) → verdict (batch_conditions b maps (length queries) t (length answers)) ≡ v
-        → (let o = guarded v answers (outcome (told (count * record_room)) written) in
+        → (let o = guarded v answers (outcome (told (count * record_room)) (written b maps queries t answers)) in
         BatchKept b maps queries t o.answer o.out)
     by-verdict (refused k) e = tt
     by-verdict (told u) e = accepted-kept e

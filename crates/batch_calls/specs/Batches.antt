@@ -1,12 +1,11 @@
 -- Many queries in one call (document 02, F-4): `find_plans` is the answer with the final contents of the answer
 -- records, for every input, defined record by record (`answers_of`), and `BatchKept` what the call promises: each
--- record is what a single call gives for its query (`call_bytes`), with demand 3. `batch_of` gives the document's
--- answer for each case of the enum, `batch_conditions` turn the call back.
+-- record is what a single call gives for its query (`call_bytes`), with demand 3. `batch_conditions` turn the call
+-- back.
 use Rattle.std.specs.Prelude.{◌≡◌, Bool, ◌&&◌, List, ◌∷◌, ◌++◌, ℕ, ◌*◌, ◌/◌, ◌≤◌, ◌<◌, leb, eqb, length, take, drop}
 use Rattle.std.specs.Prelude.{replicate}
 use Rattle.basics.specs.Lists.{at_front, joined}
 use Rattle.refusals.specs.Answers.{Answer, refused, told, Condition, ◌unless◌, verdict, Outcome, outcome, guarded}
-use Rattle.refusals.specs.Refusals.{refusal_number}
 use Rattle.maps.specs.Maps.{exercise_conditions}
 use Rattle.queries.specs.Queries.{longest_plan}
 use Rattle.rounds.specs.Systems.{Estimate}
@@ -15,8 +14,6 @@ use Rattle.records.specs.Records.{query_length, start_of, limits_of, record_cond
 use Rattle.records.specs.Records.{answer_bytes, refusal_bytes, goal_asked, answer_record}
 use Rattle.records.specs.Meaning.{AnswerMeans}
 use Rattle.search_calls.specs.Searching.{SearchAnswer, tables_conditions, find_plan, told_by_status}
-use Rattle.batch_calls.specs.declared.batches.Batch.{Batch}
-use Rattle.batch_calls.specs.declared.batches.Batch.TheVariants.{Done, Refused}
 
 -- the most query records, and how many of them so many bytes hold
 abbrev pub most_records : ℕ
@@ -52,12 +49,8 @@ unfoldable pub batch_conditions : List ℕ → List ℕ → ℕ → List ℕ →
 batch_conditions b maps bytes t room =
     exercise_conditions b maps ++ (16 unless records_ok b bytes room ∷ tables_conditions b maps t)
 
--- done: how many bytes were written
-abbrev pub batch_of : Batch → Answer ℕ
-batch_of (Done bytes) = told bytes
-batch_of (Refused refusal) = refused (refusal_number refusal)
-
--- the answer records stand at the front, by the estimate of the tables of all maps; further bytes keep their contents
+-- the answer records stand at the front, by the estimate of the tables of all maps, and how many bytes they have is
+-- told; further bytes keep their contents
 unfoldable pub find_plans : List ℕ → List ℕ → List ℕ → List ℕ → List ℕ → Outcome ℕ
 find_plans b maps queries t answers =
     guarded (verdict (batch_conditions b maps (length queries) t (length answers))) answers

@@ -4,4 +4,4 @@
 mod answering;
 mod batches;
 
-pub use batches::{Batch, find_plans};
+pub use batches::find_plans;
