@@ -1,6 +1,6 @@
 -- Laws of lines: the line at a place goes up to its line feed (`line-feed`, `line-more`), it is a part of the text
--- (`line-part`), and the lines from a place on are that line and the lines behind it (`lines_from`); the first line is
--- as long as the first line feed tells (`first-long`), and a text that is cut there is that line and the lines behind it
+-- (`line-part`), and the lines from a place on are that line and the lines behind it (`lines_from`). The first line is
+-- as long as the first line feed tells (`first-long`), and a text that is cut there is that line and those behind it
 -- (`lines-cut`).
 -- The loops of the reader and of `par` rest on these.
 use mathlib.Core.Path.{◌≡◌, refl, sym, ap, ap₂, ◌∙◌, subst}
@@ -96,7 +96,9 @@ lines-cut x line rest i e some long at =
     let j = min i (length x) in
     let none : (k : ℕ) → k < j → is_feed (get_or x k 0) ≡ false = λ k h. at.0 k 0 (omega arith) (omega arith) in
     let feed : j < length x → is_feed (get_or x j 0) ≡ true =
-    λ h. let same : i ≡ j = omega arith in subst (λ (k : ℕ). is_feed (get_or x k 0) ≡ true) same (at.1 (omega arith) 0) in
+    λ h.
+    let same : i ≡ j = omega arith in
+    subst (λ (k : ℕ). is_feed (get_or x k 0) ≡ true) same (at.1 (omega arith) 0) in
     let first = position_or_len_is is_feed x j 0 (omega arith) none feed in
     let n : length (first_line (lines_of x)) ≡ length line = omega (arith, first_long x, first, long) in
     let taken : take (length line) x ≡ line = ap (take (length line)) e ∙ take_at line rest (length line) refl in

@@ -1,7 +1,8 @@
 -- Text as lines (`lines_of`), and a line as bytes: whether it is pairs of digits with a line feed (`line_ok`), the
 -- bytes of its pairs (`line_bytes`), and the line that bytes are written as (`line_of`).
 -- The reader and all that `par` prints are stated with these.
-use Rattle.std.specs.Prelude.{ℕ, ◌+◌, ◌-◌, ◌*◌, ◌/◌, ◌%◌, Bool, true, false, cond, ◌&&◌, ◌||◌, Option, Some, None, List, [], ◌∷◌, ltb, eqb}
+use Rattle.std.specs.Prelude.{ℕ, ◌+◌, ◌-◌, ◌*◌, ◌/◌, ◌%◌, Bool, true, false, cond, ◌&&◌, ◌||◌, List, [], ◌∷◌, ltb, eqb}
+use Rattle.std.specs.Prelude.{Option, Some, None}
 use Rattle.blocks.specs.Validity.{within}
 
 -- hexadecimal 0A

@@ -19,7 +19,8 @@ tested :
     (l digits : List ℕ) (last : ℕ) → l ≡ digits ++ (last ∷ []) → (feed even : Bool) → eqb last line_feed ≡ feed
     → eqb (length digits % 2) 0 ≡ even → (feed && (even && list_all is_digit digits)) ≡ line_ok l
 tested l digits last e feed even p q =
-    ap₂ (λ (f n : Bool). f && (n && list_all is_digit digits)) (sym p) (sym q) ∙ sym (ap line_ok e ∙ ended_ok digits last)
+    ap₂ (λ (f n : Bool). f && (n && list_all is_digit digits)) (sym p) (sym q)
+    ∙ sym (ap line_ok e ∙ ended_ok digits last)
 
 pub returns-then-digits-eq0 : goal.returns-then-digits-eq0
 returns-then-digits-eq0 c =

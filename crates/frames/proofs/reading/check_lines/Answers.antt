@@ -25,7 +25,8 @@ use Rattle.frames.proofs.reading.check_lines.Goals as goal
 
 -- the head is accepted
 module _
-    (x : List ℕ) (heading : Heading) (read : HeadRead (lines_of x) heading) (head : List ℕ) (is : heading.head ≡ Ok head)
+    (x : List ℕ) (heading : Heading) (read : HeadRead (lines_of x) heading)
+    (head : List ℕ) (is : heading.head ≡ Ok head)
   where
     judged : (verdict (head_conditions (lines_of x)) ≡ told tt) × (head ≡ head_of (lines_of x))
     judged = answered-told _ _ _ (sym (ap answer_of is) ∙ read.judged)

@@ -16,7 +16,8 @@ use Rattle.frames.proofs.reading.lines_ok.Goals as goal
 
 -- the lines from here on are right exactly where this one and those behind it are
 turn :
-    (x y : List ℕ) (at : ℕ) (line : Line) → y ≡ x → at < length y → line ≡ line_at y at → (right : Bool) → line.ok ≡ right
+    (x y : List ℕ) (at : ℕ) (line : Line) → y ≡ x → at < length y → line ≡ line_at y at
+    → (right : Bool) → line.ok ≡ right
     → lines_ok (lines_of (drop at x)) ≡ (right && lines_ok (lines_of (drop line.next x)))
 turn x y at line same l is right e =
     let here = is ∙ ap (λ (z : List ℕ). line_at z at) same in

@@ -8,4 +8,5 @@ use Rattle.frames.proofs.reading.lines_ok.Given as goal
 
 abbrev pub invariant-loop-line : goal.invariant-loop-line
 invariant-loop-line l =
-    (l.line-iterator.text.now ≡ l.text) × (lines_ok (lines_of (drop l.line-iterator.at l.text)) ≡ lines_ok (lines_of l.text))
+    (l.line-iterator.text.now ≡ l.text)
+    × (lines_ok (lines_of (drop l.line-iterator.at l.text)) ≡ lines_ok (lines_of l.text))

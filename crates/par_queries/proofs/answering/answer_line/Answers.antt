@@ -88,14 +88,18 @@ module _ (b x : List ℕ) (at : ℕ) (found : Line) (is : found ≡ line_at x at
           line-accepted b line (line-decided b line _ _ good fits)
 
       -- its bytes stand at the front of a buffer
-      module _ (m : ℕ) (query : List ℕ) (w : (m ≡ length (line_bytes part)) × (query ≡ at_front (line_bytes part) (replicate 25 0))) where
+      module _
+          (m : ℕ) (query : List ℕ)
+          (w : (m ≡ length (line_bytes part)) × (query ≡ at_front (line_bytes part) (replicate 25 0)))
+        where
         count : m ≡ length (line_bytes line)
         count = w.0 ∙ ap length decoded
 
         asked : take m query ≡ line_bytes line
         asked =
             let room : List ℕ = replicate 25 0 in
-            ap (take m) (w.1 ∙ ap (λ (l : List ℕ). at_front l room) decoded) ∙ front-taken (line_bytes line) room m count
+            ap (take m) (w.1 ∙ ap (λ (l : List ℕ). at_front l room) decoded)
+            ∙ front-taken (line_bytes line) room m count
 
         answered :
             (k : ℕ) (answer : List ℕ)
