@@ -1,5 +1,5 @@
 -- A side whose n positions are compiled, once its six elements are stored, is `Sided`, and a left side `Tested`
--- (`side-placed`). Placing a side rests on this; the counts are stored likewise (`counts-placed`).
+-- (`side-placed`). Placing a side rests on this.
 use mathlib.Core.Path.{◌≡◌, sym, ap, ◌∙◌, subst}
 use mathlib.Core.Bool.{true}
 use mathlib.Core.List.{List}
@@ -15,16 +15,14 @@ use Rattle.basics.specs.Parts.{Outside}
 use Rattle.basics.proofs.Parts.{outside-none}
 use Rattle.basics.proofs.Lists.{tabulate-ext}
 use Rattle.blocks.specs.Terms.{term_of}
-use Rattle.blocks.specs.Layout.{positions, rules, goals}
 use Rattle.psvn.specs.Rules.{given, rewritten}
 use Rattle.psvn.specs.TwoParts.{variables_agree}
 use Rattle.words.specs.Packing.{digit, unpack}
-use Rattle.words.specs.Code.{code_length}
 use Rattle.words.specs.Sides.{mask_at, value_at, keep_at, count_at, from_at, to_at, join_moves, rewritten_word}
 use Rattle.words.specs.Sides.{mask_allows, move_agrees}
 use Rattle.words.specs.Sides.{variables_word}
 use Rattle.words.specs.Compiled.{Sided, Tested}
-use Rattle.compiling.specs.PlacingSides.{made_by, Begun, SidePlaced, CountsPlaced}
+use Rattle.compiling.specs.PlacingSides.{made_by, Begun, SidePlaced}
 use Rattle.compiling.specs.declared.placing_sides.Side.{Side}
 use Rattle.words.proofs.WordDigits.{digit-high}
 
@@ -152,19 +150,3 @@ module _ (code : List ℕ) (x : ℕ) (s : Side) (room : 6 * x + 6 ≤ length cod
         tested = tested n left side s with_side x ln b stored.0;
         code = stored.1;
       }
-
--- the counts stored
-pub counts-placed :
-    (b code : List ℕ) (n r g : ℕ) → length code ≡ code_length → n ≡ positions b → r ≡ rules b → g ≡ goals b
-    → CountsPlaced b code (set (set (set code 1137 n) 1138 r) 1139 g)
-counts-placed b code n r g room en er eg =
-    let code' = set (set (set code 1137 n) 1138 r) 1139 g in
-    let room' : length code' ≡ code_length = simp length-set room in
-    let none = outside-none code_length code_length code' in
-    let last = written code' 1139 g none (omega arith) (omega arith) (omega arith) in
-    let second = written code' 1138 r last.0 (omega arith) (omega arith) (omega arith) in
-    let first = written code' 1137 n second.0 (omega arith) (omega arith) (omega arith) in
-    record {
-      counted = record { positions_told = first.1 ∙ en; rules_told = second.1 ∙ er; goals_told = last.1 ∙ eg };
-      code = first.0;
-    }
