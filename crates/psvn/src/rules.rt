@@ -8,8 +8,8 @@ ghost use Rattle.psvn.specs.Rules.{given, rewritten, applies, step, same, leads}
 ghost use Rattle.psvn.specs.Rules.{goal_met, met_goal};
 
 use super::matching::{label_bound, side_matches};
+use blocks::exercise::Block;
 use blocks::labels::ConcreteLabel;
-use blocks::layout;
 use blocks::terms::{Term, decode};
 
 // What stands for a goal in bytes and in answers for C where none is met: hexadecimal FF.
@@ -56,51 +56,55 @@ fn makes(block: &[u8], left: usize, right: usize, old: &[u8], new: &[u8]) -> boo
 }
 
 // Whether rule r applies to a state.
-pub fn applies(block: &[u8], r: usize, state: &[u8]) -> bool
-    requires { Sized block.now × (r < rules block.now) × (length state.now ≡ positions block.now) }
+pub fn applies(block: &Block<'_>, r: usize, state: &[u8]) -> bool
+    requires { (r < rules block.now) × (length state.now ≡ positions block.now) }
     ensures { result ≡ applies block.now r state.now }
 {
-    side_matches(block, layout::left_at(block, r), state)
+    side_matches(block.bytes(), block.left_at(r), state)
 }
 
 // Writes the state that rule r makes of a state at the front of `out`.
-pub fn step(block: &[u8], r: usize, state: &[u8], out: &mut [u8])
-    requires { Sized block.now × (r < rules block.now) × (length state.now ≡ positions block.now) ×
+pub fn step(block: &Block<'_>, r: usize, state: &[u8], out: &mut [u8])
+    requires { (r < rules block.now) × (length state.now ≡ positions block.now) ×
         (positions block.now ≤ length out.old) }
     ensures { out.new ≡ at_front (step block.now r state.now) out.old }
 {
-    let left = layout::left_at(block, r);
-    let right = layout::right_at(block, r);
-    rewrite(block, left, right, state, out);
+    rewrite(
+        block.bytes(),
+        block.left_at(r),
+        block.right_at(r),
+        state,
+        out,
+    );
 }
 
 // Whether rule r takes the state `old` to `new`.
-pub fn leads(block: &[u8], r: usize, old: &[u8], new: &[u8]) -> bool
-    requires { Sized block.now × (r < rules block.now) × (length old.now ≡ positions block.now) ×
+pub fn leads(block: &Block<'_>, r: usize, old: &[u8], new: &[u8]) -> bool
+    requires { (r < rules block.now) × (length old.now ≡ positions block.now) ×
         (length new.now ≡ positions block.now) }
     ensures { result ≡ leads block.now r old.now new.now }
 {
-    let left = layout::left_at(block, r);
-    if side_matches(block, left, old) {
-        return makes(block, left, layout::right_at(block, r), old, new);
+    let left = block.left_at(r);
+    if side_matches(block.bytes(), left, old) {
+        return makes(block.bytes(), left, block.right_at(r), old, new);
     }
     false
 }
 
 // Whether a state matches goal g.
-fn goal_met(block: &[u8], g: usize, state: &[u8]) -> bool
-    requires { Sized block.now × (g < goals block.now) × (length state.now ≡ positions block.now) }
+fn goal_met(block: &Block<'_>, g: usize, state: &[u8]) -> bool
+    requires { (g < goals block.now) × (length state.now ≡ positions block.now) }
     ensures { result ≡ goal_met block.now g state.now }
 {
-    side_matches(block, layout::goal_at(block, g), state)
+    side_matches(block.bytes(), block.goal_at(g), state)
 }
 
 // The goal that a state meets, the lowest number of a met one, if one is met.
-pub fn met_goal(block: &[u8], state: &[u8]) -> Option<u8>
-    requires { Sized block.now × (length state.now ≡ positions block.now) }
+pub fn met_goal(block: &Block<'_>, state: &[u8]) -> Option<u8>
+    requires { length state.now ≡ positions block.now }
     ensures { result ≡ met_goal block.now state.now }
 {
-    let goals = layout::goals(block);
+    let goals = block.goals();
     for g in 0..goals {
         if goal_met(block, g, state) {
             return Some(g as u8);

@@ -1,23 +1,12 @@
 -- `psvn::rules::goal_met` meets its contract.
--- The goal lies in the block, and the state has n labels.
-use mathlib.Core.Path.{ap₂, ◌∙◌}
-use Prim.Native.Nat.{ℕ}
-use native.Mathlib.Omega.{arith}
-use Rattle.blocks.specs.Layout.{side_at}
-use Rattle.psvn.specs.Rules.{matches, goal_met}
-use Rattle.blocks.proofs.Offsets.{goal-inside}
+-- The side lies in the block, and the state has n labels.
+use Rattle.std.proofs.Common.{refl, ◌∙◌}
+use Rattle.psvn.specs.Rules.{goal_met}
 use Rattle.psvn.proofs.rules.goal_met.Goals as goal
 
 pub side_matches-requires : goal.side_matches-requires
-side_matches-requires c =
-    let a = c.args in
-    let h = c.requires in
-    omega (arith, goal-inside a.block.now h.0 a.g h.1)
+side_matches-requires c = rw (c.bytes.ensures.same, c.requires.1) c.goal_at.ensures.inside
 
 pub returns : goal.returns
 unfolding goal_met
-returns c =
-    let a = c.args in
-    c.side_matches.ensures
-    ∙ ap₂ (λ (n at : ℕ). matches n (side_at a.block.now at) a.state.now) c.requires.2
-    c.goal_at.ensures.0
+returns c = c.side_matches.ensures ∙ rw (c.bytes.ensures.same, c.goal_at.ensures.place, c.requires.1) refl

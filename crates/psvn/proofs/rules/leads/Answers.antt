@@ -1,61 +1,33 @@
 -- `psvn::rules::leads` meets its contract.
 -- Both sides lie in the block, and the states have n labels.
-use mathlib.Core.Path.{◌≡◌, sym, ap, ap₂, ◌∙◌}
-use mathlib.Core.Bool.{Bool, ◌&&◌}
-use mathlib.Core.List.{List}
-use Prim.Native.Nat.{ℕ}
-use native.Mathlib.Omega.{arith}
-use borrow.Author.Rules.{rules}
-use Rattle.blocks.specs.Layout.{positions, left_at, right_at, side_at}
-use Rattle.psvn.specs.Rules.{matches, rewritten, applies, step, same, leads}
-use Rattle.blocks.proofs.Offsets.{left-inside, right-inside}
+use Rattle.std.proofs.Common.{refl, sym, ◌∙◌}
+use Rattle.psvn.specs.Rules.{applies, step, leads}
 use Rattle.psvn.proofs.rules.leads.Goals as goal
 
--- whether the left side matches, at the places where the code finds it
-matched :
-    (b : List ℕ) (r : ℕ) (old : List ℕ) (n left : ℕ) {t : Bool} → n ≡ positions b → left ≡ left_at b r
-    → t ≡ matches n (side_at b left) old → matches (positions b) (side_at b (left_at b r)) old ≡ t
-matched b r old n left p q h = sym (h ∙ ap₂ (λ (n at : ℕ). matches n (side_at b at) old) p q)
-
 pub side_matches-requires : goal.side_matches-requires
-side_matches-requires c =
-    let a = c.args in
-    let h = c.requires in
-    omega (arith, left-inside a.block.now h.0 a.r h.1)
+side_matches-requires c = rw (c.bytes.ensures.same, c.requires.1) c.left_at-left.ensures.inside
 
 pub makes-requires : goal.makes-requires
 makes-requires c =
-    let a = c.args in
-    let h = c.requires in (
-      omega (arith, left-inside a.block.now h.0 a.r h.1),
-      omega (arith, right-inside a.block.now h.0 a.r h.1),
-      search rules,
+    let n = c.requires.1 in (
+      rw (c.bytes-then-side_matches.ensures.same, n) c.left_at-left.ensures.inside,
+      rw (c.bytes-then-side_matches.ensures.same, n) c.right_at.ensures.inside,
+      c.requires.2 ∙ sym n,
     )
 
 pub returns-then-side_matches : goal.returns-then-side_matches
 unfolding leads applies step
 returns-then-side_matches c =
-    let a = c.args in
-    let b = a.block.now in
-    let h = c.requires in
     let m =
-    matched b a.r a.old.now _ _ h.2 c.left_at-left.ensures.0
-    (sym c.if-side_matches.true ∙ c.side_matches.ensures) in
-    let made : ℕ → ℕ → ℕ → Bool =
-    λ n left right. same n (rewritten n (side_at b left) (side_at b right) a.old.now) a.new.now in
+    rw (c.bytes.ensures.same, c.left_at-left.ensures.place, c.requires.1) at
+    (sym c.side_matches.ensures ∙ c.if-side_matches.true) in
     c.makes.ensures
-    ∙ ap₂ (λ (n left : ℕ). made n left c.right_at.result) h.2 c.left_at-left.ensures.0
-    ∙ ap (made (positions b) (left_at b a.r)) c.right_at.ensures.0
-    ∙ sym (ap (λ (t : Bool). t && made (positions b) (left_at b a.r) (right_at b a.r)) m)
+    ∙ rw (c.bytes-then-side_matches.ensures.same, c.left_at-left.ensures.place, c.right_at.ensures.place, c.requires.1, m) refl
 
 pub returns : goal.returns
 unfolding leads applies step
 returns c =
-    let a = c.args in
-    let b = a.block.now in
     let m =
-    matched b a.r a.old.now _ _ c.requires.2
-    c.left_at-left.ensures.0 (sym c.if-side_matches.false ∙ c.side_matches.ensures) in
-    sym (ap (λ (t : Bool). t
-    && same (positions b) (rewritten (positions b) (side_at b (left_at b a.r)) (side_at b (right_at b a.r))
-    a.old.now) a.new.now) m)
+    rw (c.bytes.ensures.same, c.left_at-left.ensures.place, c.requires.1) at
+    (sym c.side_matches.ensures ∙ c.if-side_matches.false) in
+    sym (rw m refl)
