@@ -1,30 +1,31 @@
 // Applying a rule to a state.
 ghost use Rattle.std.specs.Prelude.{◌≡◌};
-ghost use Rattle.refusals.specs.Answers.{verdict, outcome};
+ghost use Rattle.refusals.specs.Answers.{verdict, outcome, answered};
 ghost use Rattle.refusals.specs.Refusals.{answer_of};
 ghost use Rattle.psvn_calls.specs.Applying.{application_of, apply_conditions, apply_rule, ApplicationKept};
 
 use super::checking::check_state;
+use blocks::exercise::Exercise;
 use refusals::Refusal;
 
-// Checks a block, a state of it, one of its rules, and the room for a state; `room` is the length of the buffer.
+// The exercise of a block that has a state and a rule, with room for a state; `room` is the length of the buffer.
 #[tactic(auto, using(crate::proofs::Conditions::checks), unfolding(crate::specs::Applying::apply_conditions))]
-pub fn check_application(
-    block: &[u8],
+pub fn check_application<'a>(
+    block: &'a [u8],
     rule: usize,
     state: &[u8],
     room: usize,
-) -> Result<(), Refusal>
-    ensures { answer_of result ≡ verdict (apply_conditions block.now rule state.now room) }
+) -> Result<Exercise<'a>, Refusal>
+    ensures { answer_of result ≡ answered (verdict (apply_conditions block.now rule state.now room)) block.now }
 {
-    check_state(block, state)?;
-    if blocks::layout::rules(block) <= rule {
+    let exercise = check_state(block, state)?;
+    if exercise.rules() <= rule {
         return Err(Refusal::Rule);
     }
-    if room < blocks::layout::positions(block) {
+    if room < exercise.positions() {
         return Err(Refusal::Buffer);
     }
-    Ok(())
+    Ok(exercise)
 }
 
 // Applies a rule: writes the new state at the front of `out` and is done, or the rule does not apply and nothing is
@@ -35,9 +36,9 @@ pub fn apply_rule(block: &[u8], rule: usize, state: &[u8], out: &mut [u8]) -> Re
         apply_rule block.now rule state.now out.old }
     ensures application_kept { ApplicationKept block.now rule state.now (application_of result) out.new }
 {
-    check_application(block, rule, state, out.len())?;
-    if psvn::rules::applies(block, rule, state) {
-        psvn::rules::step(block, rule, state, out);
+    let exercise = check_application(block, rule, state, out.len())?;
+    if psvn::rules::applies(&exercise, rule, state) {
+        psvn::rules::step(&exercise, rule, state, out);
         return Ok(true);
     }
     Ok(false)

@@ -1,9 +1,10 @@
 // Whether a block, and a state of it, are accepted.
 ghost use Rattle.std.specs.Prelude.{◌≡◌};
-ghost use Rattle.refusals.specs.Answers.{verdict};
+ghost use Rattle.refusals.specs.Answers.{verdict, answered};
 ghost use Rattle.refusals.specs.Refusals.{answer_of};
 ghost use Rattle.psvn_calls.specs.Checking.{check_block, CheckKept, state_conditions};
 
+use blocks::exercise::Exercise;
 use refusals::Refusal;
 
 // Checks a block: accepted, or refused with 3 to 7.
@@ -15,14 +16,14 @@ pub fn check_block(block: &[u8]) -> Result<(), Refusal>
     blocks::validity::check(block)
 }
 
-// Checks a block and a state of it: accepted, or refused with 3 to 8.
+// The exercise of a block that has a state: accepted, or refused with 3 to 8.
 #[tactic(auto, using(crate::proofs::Conditions::checks), unfolding(crate::specs::Checking::state_conditions))]
-pub fn check_state(block: &[u8], state: &[u8]) -> Result<(), Refusal>
-    ensures { answer_of result ≡ verdict (state_conditions block.now state.now) }
+pub fn check_state<'a>(block: &'a [u8], state: &[u8]) -> Result<Exercise<'a>, Refusal>
+    ensures { answer_of result ≡ answered (verdict (state_conditions block.now state.now)) block.now }
 {
-    blocks::validity::check(block)?;
-    if blocks::states::state_ok(block, state) {
-        return Ok(());
+    let exercise = Exercise::of(block)?;
+    if exercise.state_ok(state) {
+        return Ok(exercise);
     }
     Err(Refusal::State)
 }

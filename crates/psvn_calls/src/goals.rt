@@ -13,6 +13,6 @@ pub fn test_goals(block: &[u8], state: &[u8]) -> Result<Option<u8>, Refusal>
     ensures result_value { answer_of result ≡ test_goals block.now state.now }
     ensures goal_test_kept { GoalTestKept block.now state.now (answer_of result) }
 {
-    check_state(block, state)?;
-    Ok(met_goal(block, state))
+    let exercise = check_state(block, state)?;
+    Ok(met_goal(&exercise, state))
 }
