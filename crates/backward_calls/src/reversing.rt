@@ -3,6 +3,7 @@ ghost use Rattle.std.specs.Prelude.{◌≡◌};
 ghost use Rattle.refusals.specs.Refusals.{answer_of};
 ghost use Rattle.backward_calls.specs.Reversing.{test_reversible, ReversibilityKept};
 
+use blocks::exercise::Exercise;
 use refusals::Refusal;
 
 // Whether a rule is reversible by form. Refused with 3 to 7, 9.
@@ -11,9 +12,9 @@ pub fn test_reversible(block: &[u8], rule: usize) -> Result<bool, Refusal>
     ensures result_value { answer_of result ≡ test_reversible block.now rule }
     ensures reversibility_kept { ReversibilityKept block.now rule (answer_of result) }
 {
-    blocks::validity::check(block)?;
-    if blocks::layout::rules(block) <= rule {
+    let exercise = Exercise::of(block)?;
+    if exercise.rules() <= rule {
         return Err(Refusal::Rule);
     }
-    Ok(backward::reversible::reversible(block, rule))
+    Ok(backward::reversible::reversible(exercise.bytes(), rule))
 }

@@ -20,6 +20,6 @@ pub fn relabel_block(block: &[u8], out: &mut [u8]) -> Result<usize, Refusal>
     if out.len() < length {
         return Err(Refusal::Buffer);
     }
-    psvn::relabelling::relabel_block(&exercise, out);
+    psvn::relabelling::relabel_block(exercise.bytes(), out);
     Ok(length)
 }

@@ -1,30 +1,36 @@
 // Replaying a recorded run.
 ghost use Rattle.std.specs.Prelude.{◌≡◌};
-ghost use Rattle.refusals.specs.Answers.{verdict, outcome};
+ghost use Rattle.refusals.specs.Answers.{verdict, outcome, answered};
 ghost use Rattle.refusals.specs.Refusals.{answer_of};
 ghost use Rattle.run_calls.specs.Replaying.{replay_conditions, replay_run, ReplayKept};
 
+use blocks::exercise::Exercise;
 use psvn_calls::check_state;
 use refusals::Refusal;
 use runs::replay::{LONGEST_LIST, Replayed};
 
-// Checks what a replay is handed; `room` is the length of the buffer.
+// The exercise of what a replay is handed; `room` is the length of the buffer.
 #[tactic(auto, using(crate::proofs::Conditions::checks), unfolding(crate::specs::Replaying::replay_conditions))]
-fn check_replay(block: &[u8], start: &[u8], list: &[u8], room: usize) -> Result<(), Refusal>
+fn check_replay<'a>(
+    block: &'a [u8],
+    start: &[u8],
+    list: &[u8],
+    room: usize,
+) -> Result<Exercise<'a>, Refusal>
     ensures { answer_of result ≡
-        verdict (replay_conditions block.now start.now list.now room) }
+        answered (verdict (replay_conditions block.now start.now list.now room)) block.now }
 {
-    check_state(block, start)?;
+    let exercise = check_state(block, start)?;
     if !runs::replay::numbers_ok(block, list) {
         return Err(Refusal::Rule);
     }
     if LONGEST_LIST < list.len() {
         return Err(Refusal::Limit);
     }
-    if room < blocks::layout::positions(block) {
+    if room < exercise.positions() {
         return Err(Refusal::Buffer);
     }
-    Ok(())
+    Ok(exercise)
 }
 
 // Replays a list of rule numbers from a start: done, and the goal of the final state is told; or stuck at the first
@@ -42,6 +48,6 @@ pub fn replay_run(
     ensures replay_kept { ReplayKept block.now start.now list.now
         (answer_of result) out.new }
 {
-    check_replay(block, start, list, out.len())?;
-    Ok(runs::replay::replay(block, start, list, out))
+    let exercise = check_replay(block, start, list, out.len())?;
+    Ok(runs::replay::replay(&exercise, start, list, out))
 }

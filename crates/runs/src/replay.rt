@@ -7,6 +7,7 @@ ghost use Rattle.psvn.specs.Rules.{step};
 ghost use Rattle.psvn.specs.Runs.{RuleNumbers};
 ghost use Rattle.runs.specs.Replay.{numbers_ok, longest_list, replay_ending, replay_state};
 
+use blocks::exercise::Block;
 use blocks::layout;
 use blocks::layout::MOST_POSITIONS;
 use psvn::rules;
@@ -43,19 +44,19 @@ pub fn numbers_ok(block: &[u8], list: &[u8]) -> bool
 }
 
 // Replaces a state by the one that rule r makes of it.
-fn advance(block: &[u8], r: usize, state: &mut [u8])
-    requires { Sized block.now × (r < rules block.now) × (length state.old ≡ positions block.now) }
+fn advance(block: &Block<'_>, r: usize, state: &mut [u8])
+    requires { (r < rules block.now) × (length state.old ≡ positions block.now) }
     ensures { state.new ≡ step block.now r state.old }
 {
     let mut room = [0u8; MOST_POSITIONS];
-    let old = &mut room[..state.len()];
+    let old = &mut room[..block.positions()];
     old.copy_from_slice(state);
     rules::step(block, r, old, state);
 }
 
 // Replays the list from a state, which becomes the one where it ends.
-fn replay_in(block: &[u8], list: &[u8], state: &mut [u8]) -> Replayed
-    requires { Sized block.now × RuleNumbers block.now list.now × (length list.now ≤ longest_list) ×
+fn replay_in(block: &Block<'_>, list: &[u8], state: &mut [u8]) -> Replayed
+    requires { RuleNumbers block.now list.now × (length list.now ≤ longest_list) ×
         (length state.old ≡ positions block.now) }
     ensures value { result ≡ replay_ending block.now state.old list.now }
     ensures state_after { state.new ≡
@@ -72,7 +73,7 @@ fn replay_in(block: &[u8], list: &[u8], state: &mut [u8]) -> Replayed
             });
         }
         advance(block, rule, state);
-        cost += u32::from(layout::cost(block, rule));
+        cost += u32::from(block.cost(rule));
     }
     let goal = rules::met_goal(block, state).unwrap_or(NO_GOAL);
     Replayed::Done(RunEnd {
@@ -83,8 +84,8 @@ fn replay_in(block: &[u8], list: &[u8], state: &mut [u8]) -> Replayed
 }
 
 // Replays the list from the start, and writes the state where it ends at the front of `out`.
-pub fn replay(block: &[u8], start: &[u8], list: &[u8], out: &mut [u8]) -> Replayed
-    requires { Sized block.now × RuleNumbers block.now list.now × (length list.now ≤ longest_list) ×
+pub fn replay(block: &Block<'_>, start: &[u8], list: &[u8], out: &mut [u8]) -> Replayed
+    requires { RuleNumbers block.now list.now × (length list.now ≤ longest_list) ×
         (length start.now ≡ positions block.now) × (positions block.now ≤ length out.old) }
     ensures value { result ≡ replay_ending block.now start.now list.now }
     ensures out_after { out.new ≡
