@@ -10,6 +10,7 @@ ghost use Rattle.map_fills.specs.MapFills.{all_filled};
 
 use blocks::layout;
 use filling::fill;
+use maps::Remapped;
 
 // Fills the table of further map i.
 fn fill_further(block: &[u8], maps: &[u8], i: usize, table: &mut [u32])
@@ -18,10 +19,7 @@ fn fill_further(block: &[u8], maps: &[u8], i: usize, table: &mut [u32])
     ensures { table.new ≡
         at_front (filled (exercise_at block.now maps.now (suc i))) table.old }
 {
-    let length = block.len();
-    let mut own = [0u8; layout::BLOCK_ROOM];
-    maps::remap(block, maps, i, &mut own);
-    fill(&own[..length], table);
+    fill(Remapped::under(block, maps, i).bytes(), table);
 }
 
 // Fills the tables of all maps; further elements keep their contents.
@@ -30,10 +28,9 @@ pub fn fill_all(block: &[u8], maps: &[u8], table: &mut [u32])
     ensures { table.new ≡
         at_front (all_filled block.now maps.now) table.old }
 {
-    let count = maps::further_maps(block, maps);
     fill(block, table);
     let mut at = layout::abstract_states(block);
-    for i in 0..count {
+    for i in 0..maps::further_maps(block, maps) {
         fill_further(block, maps, i, &mut table[at..]);
         at += maps::entries_of(block, maps, i);
     }

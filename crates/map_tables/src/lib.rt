@@ -2,7 +2,7 @@
 // all of them, and the lower-bound test of each under its own map.
 #![tactic(auto)]
 
-ghost use Rattle.std.specs.Prelude.{◌≡◌, true, suc, ◌≤◌, ◌<◌, max, length};
+ghost use Rattle.std.specs.Prelude.{◌≡◌, true, suc, ◌≤◌, ◌<◌, length};
 ghost use Rattle.blocks.specs.Layout.{abstract_states};
 ghost use Rattle.blocks.specs.States.{state_ok};
 ghost use Rattle.maps.specs.Maps.{further_maps, exercise_at, all_entries, Mapped};
@@ -10,18 +10,9 @@ ghost use Rattle.tables.specs.Tables.{estimate, passes_test};
 ghost use Rattle.map_tables.specs.MapTables.{largest_entry, all_pass};
 
 use blocks::layout;
+use maps::Remapped;
 use tables::estimates::estimate;
 use tables::lower_bound::passes;
-
-// The larger of two entries: the mark is the largest number that an entry can be.
-fn larger(a: u32, b: u32) -> u32
-    ensures { result ≡ max a b }
-{
-    if a < b {
-        return b;
-    }
-    a
-}
 
 // The entry of a state under further map i, by its table.
 fn further_entry(block: &[u8], maps: &[u8], i: usize, state: &[u8], table: &[u32]) -> u32
@@ -31,24 +22,21 @@ fn further_entry(block: &[u8], maps: &[u8], i: usize, state: &[u8], table: &[u32
     ensures { result ≡ estimate (exercise_at block.now maps.now (suc i))
         table.now state.now }
 {
-    let length = block.len();
-    let mut own = [0u8; layout::BLOCK_ROOM];
-    maps::remap(block, maps, i, &mut own);
-    estimate(&own[..length], state, table)
+    estimate(Remapped::under(block, maps, i).bytes(), state, table)
 }
 
-// The estimate of a state by all tables: the largest of its entries.
+// The estimate of a state by all tables: the largest of its entries. The mark is the largest number that an entry can
+// be.
 pub fn largest_entry(block: &[u8], maps: &[u8], state: &[u8], table: &[u32]) -> u32
     requires { Mapped block.now maps.now × (state_ok block.now state.now ≡ true) ×
         (all_entries block.now maps.now ≤ length table.now) }
     ensures { result ≡
         largest_entry block.now maps.now table.now state.now }
 {
-    let count = maps::further_maps(block, maps);
     let mut largest = estimate(block, state, table);
     let mut at = layout::abstract_states(block);
-    for i in 0..count {
-        largest = larger(largest, further_entry(block, maps, i, state, &table[at..]));
+    for i in 0..maps::further_maps(block, maps) {
+        largest = largest.max(further_entry(block, maps, i, state, &table[at..]));
         at += maps::entries_of(block, maps, i);
     }
     largest
@@ -61,10 +49,7 @@ fn further_passes(block: &[u8], maps: &[u8], i: usize, table: &[u32]) -> bool
     ensures { result ≡ passes_test (exercise_at block.now maps.now (suc i))
         table.now }
 {
-    let length = block.len();
-    let mut own = [0u8; layout::BLOCK_ROOM];
-    maps::remap(block, maps, i, &mut own);
-    passes(&own[..length], table)
+    passes(Remapped::under(block, maps, i).bytes(), table)
 }
 
 // Whether every table passes the lower-bound test under its own map: one that fails is enough.
@@ -75,9 +60,8 @@ pub fn all_pass(block: &[u8], maps: &[u8], table: &[u32]) -> bool
     if !passes(block, table) {
         return false;
     }
-    let count = maps::further_maps(block, maps);
     let mut at = layout::abstract_states(block);
-    for i in 0..count {
+    for i in 0..maps::further_maps(block, maps) {
         if !further_passes(block, maps, i, &table[at..]) {
             return false;
         }
