@@ -3,7 +3,6 @@
 #![tactic(auto)]
 
 ghost use Rattle.std.specs.Prelude.{◌≡◌, ℕ, suc, ◌+◌, ◌*◌, ◌≤◌, ◌<◌, min, List, length, take};
-ghost use Rattle.basics.specs.Lists.{at_front};
 ghost use Rattle.refusals.specs.Answers.{verdict};
 ghost use Rattle.refusals.specs.Refusals.{answer_of};
 ghost use Rattle.blocks.specs.Layout.{abstracts, abstract_states};
@@ -54,15 +53,6 @@ fn further_map<'a>(block: &[u8], maps: &'a [u8], i: usize) -> &'a [u8]
         (map_width block.now ≤ length result.now) }
 {
     &maps[map_at(block, maps, i)..]
-}
-
-// Writes the exercise under further map i at the front of `out`.
-pub fn remap(block: &[u8], maps: &[u8], i: usize, out: &mut BlockBuffer)
-    requires { Sized block.now × (i < further_maps block.now maps.now) }
-    ensures { out.new ≡
-        at_front (exercise_at block.now maps.now (suc i)) out.old }
-{
-    blocks::remapping::remap(block, further_map(block, maps, i), out);
 }
 
 // The exercise under a further map, at the front of a buffer with room for every block. Contracts see its bytes.
