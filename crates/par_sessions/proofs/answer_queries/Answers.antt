@@ -1,6 +1,5 @@
 -- `par_sessions::answer_queries` meets its contract.
 -- The block is prepared with no further map, and states are rated by the filled table at the front of the array.
-use mathlib.Core.Path.{refl}
 use native.Mathlib.Omega.{arith}
 use Rattle.maps.proofs.MapLaws.{none-entries, none-mapped}
 use Rattle.filling.proofs.LeastEntries.{cost-bytes, filled-length}
@@ -9,7 +8,7 @@ use Rattle.par_queries.proofs.QueryLineLaws.{filled-passing}
 use Rattle.par_sessions.proofs.answer_queries.Goals as goal
 
 pub prepare-requires : goal.prepare-requires
-prepare-requires g c = (none-mapped c.args.block.now c.requires.filled.0, refl, refl)
+prepare-requires g c = none-mapped c.args.block.now c.requires.filled.0
 
 pub answer_lines-requires-clause-prepared : goal.answer_lines-requires-clause-prepared
 answer_lines-requires-clause-prepared g c =
