@@ -58,9 +58,9 @@ fn check_batch(
 }
 
 // Searches from the start of each query record, within its limits, and writes an answer record for each, one behind
-// the other at the front of `answers`; how many bytes they have is told. The block is prepared and the tables are tested
-// once. A query that is refused by itself, with 8 or 10, gets an answer record that says so. Refused with 3 to 7, 14,
-// 15, 16, 12, 13.
+// the other at the front of `answers`; how many bytes they have is told. The block is prepared and the tables are
+// tested once. A query that is refused by itself, with 8 or 10, gets an answer record that says so. Refused with 3 to
+// 7, 14, 15, 16, 12, 13.
 #[tactic(auto, unfolding(crate::specs::Batches::find_plans))]
 pub fn find_plans(
     block: &[u8],

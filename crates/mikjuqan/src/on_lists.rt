@@ -22,8 +22,7 @@ pub extern "C" fn mikjuqan_replay_run(
     ensures replay_kept { ReplayKept block.now start.now list.now
         (replay_told result) out.new }
 {
-    let replay = engine::replay_run(block, start, list, out);
-    c_answers::replayed(replay)
+    ReplayNumbers::from(engine::replay_run(block, start, list, out))
 }
 
 // The answer of a search by the tables of all maps; a plan that is found then stands at the front of `plan`.
@@ -42,8 +41,7 @@ pub extern "C" fn mikjuqan_find_plan(
     ensures plan_kept { PlanKept block.now maps.now start.now limits
         table.now (search_told result) plan.new }
 {
-    let search = engine::find_plan(block, maps, start, limits, table, plan);
-    c_answers::searched(search)
+    SearchNumbers::from(engine::find_plan(block, maps, start, limits, table, plan))
 }
 
 // Searches from the start of each query record; the length is that of the answer records, which then stand at the front
@@ -62,6 +60,5 @@ pub extern "C" fn mikjuqan_find_plans(
     ensures batch_kept { BatchKept block.now maps.now queries.now
         table.now (length_told result) answers.new }
 {
-    let batch = engine::find_plans(block, maps, queries, table, answers);
-    c_answers::answered(batch)
+    Length::from(engine::find_plans(block, maps, queries, table, answers))
 }

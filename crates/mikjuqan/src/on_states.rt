@@ -22,8 +22,7 @@ pub extern "C" fn mikjuqan_apply_rule(
         in (result ≡ applied_of o.answer) × (out.new ≡ o.out) }
     ensures application_kept { ApplicationKept block.now rule state.now (applied_told result) out.new }
 {
-    let application = engine::apply_rule(block, rule, state, out);
-    c_answers::applied(application)
+    Decision::from(engine::apply_rule(block, rule, state, out))
 }
 
 // The goal that the state meets, the lowest number of a met one; FF where it meets none.
@@ -32,8 +31,7 @@ pub extern "C" fn mikjuqan_test_goals(block: &[u8], state: &[u8]) -> GoalNumbers
     ensures value { result ≡ goal_numbers_of (test_goals block.now state.now) }
     ensures goal_test_kept { GoalTestKept block.now state.now (goal_told result) }
 {
-    let test = engine::test_goals(block, state);
-    c_answers::met(test)
+    GoalNumbers::from(engine::test_goals(block, state))
 }
 
 // Yes where the rule takes some state to `state`; the first one in rank order then stands at the front of `out`.
@@ -49,8 +47,7 @@ pub extern "C" fn mikjuqan_first_predecessor(
     ensures predecessor_kept { PredecessorKept block.now rule state.now from_first
         (decision_told result) out.new }
 {
-    let predecessor = engine::first_predecessor(block, rule, state, out);
-    c_answers::stepped_back(predecessor)
+    Decision::from(engine::first_predecessor(block, rule, state, out))
 }
 
 // The same for the next one in rank order after `earlier`, which may be any state.
@@ -68,8 +65,7 @@ pub extern "C" fn mikjuqan_next_predecessor(
     ensures predecessor_kept { PredecessorKept block.now rule state.now (after earlier.now)
         (decision_told result) out.new }
 {
-    let predecessor = engine::next_predecessor(block, rule, state, earlier, out);
-    c_answers::stepped_back(predecessor)
+    Decision::from(engine::next_predecessor(block, rule, state, earlier, out))
 }
 
 // Yes where the rule is reversible by form.
@@ -78,6 +74,5 @@ pub extern "C" fn mikjuqan_test_reversible(block: &[u8], rule: usize) -> Decisio
     ensures value { result ≡ decision_of (test_reversible block.now rule) }
     ensures reversibility_kept { ReversibilityKept block.now rule (decision_told result) }
 {
-    let reversibility = engine::test_reversible(block, rule);
-    c_answers::reversible(reversibility)
+    Decision::from(engine::test_reversible(block, rule))
 }

@@ -4,7 +4,7 @@ ghost use Rattle.table_calls.specs.Estimating.{look_up_estimate, EstimateKept};
 ghost use Rattle.table_calls.specs.WholeTables.{fill_table, FillingKept, test_table, TableTestKept};
 ghost use Rattle.c_answers.specs.Numbers.{refusal_of, decision_of, entry_of, done_told, decision_told, entry_told};
 
-use c_answers::{Decision, Entry};
+use c_answers::{Decision, Entry, refusal_of};
 
 // 0 where the tables were filled, or the number that the call is refused with.
 #[unsafe(no_mangle)]
@@ -13,8 +13,7 @@ pub extern "C" fn mikjuqan_fill_table(block: &[u8], maps: &[u8], table: &mut [u3
         in (result ≡ refusal_of o.answer) × (table.new ≡ o.out) }
     ensures filling_kept { FillingKept block.now maps.now (done_told result) table.new }
 {
-    let filling = engine::fill_table(block, maps, table);
-    c_answers::filled(filling)
+    refusal_of(engine::fill_table(block, maps, table))
 }
 
 // Yes where every table passes the lower-bound test under its own map.
@@ -23,8 +22,7 @@ pub extern "C" fn mikjuqan_test_table(block: &[u8], maps: &[u8], table: &[u32]) 
     ensures value { result ≡ decision_of (test_table block.now maps.now table.now) }
     ensures table_test_kept { TableTestKept block.now maps.now table.now (decision_told result) }
 {
-    let test = engine::test_table(block, maps, table);
-    c_answers::passes(test)
+    Decision::from(engine::test_table(block, maps, table))
 }
 
 // The largest of a state's entries in the tables of all maps; the tables are not tested.
@@ -40,6 +38,5 @@ pub extern "C" fn mikjuqan_look_up_estimate(
     ensures estimate_kept { EstimateKept block.now maps.now state.now table.now
         (entry_told result) }
 {
-    let estimate = engine::look_up_estimate(block, maps, state, table);
-    c_answers::looked_up(estimate)
+    Entry::from(engine::look_up_estimate(block, maps, state, table))
 }

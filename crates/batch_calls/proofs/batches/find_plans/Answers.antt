@@ -63,7 +63,8 @@ returns c =
     ready-rates (exercise-accepted b a.maps.now k.exercise) c.make_ready.ensures
     (batch-passing b a.maps.now a.table.now k.exercise k.tables (λ i. omega (arith, small i))) in
     let n = ap (λ (count : ℕ). count * record_room) c.record_count-count.ensures in
-    let left : c.answer_records.new.answers ≡ written b a.maps.now a.queries.now a.table.now a.answers.now =
+    let out = c.answer_records.new.answers in
+    let left : out ≡ written b a.maps.now a.queries.now a.table.now a.answers.now =
     c.answer_records.ensures rate rated
     ∙ ap (λ (count : ℕ). at_front (joined count (answer_at b rate a.queries.now)) a.answers.now)
     c.record_count-count.ensures in
@@ -76,6 +77,6 @@ returns c =
           (outcome (told (record_count b (length a.queries.now) * record_room))
           (written b a.maps.now a.queries.now a.table.now a.answers.now))) accepted);
       batch_kept =
-          subst (λ (count : ℕ). BatchKept b a.maps.now a.queries.now a.table.now (told count) c.answer_records.new.answers)
-          (sym n) (rw left kept);
+          subst (λ (count : ℕ). BatchKept b a.maps.now a.queries.now a.table.now (told count) out) (sym n)
+          (rw left kept);
     }

@@ -7,9 +7,8 @@ use Rattle.mikjuqan.proofs.on_lists.mikjuqan_find_plan.Goals as goal
 
 pub returns : goal.returns
 returns c =
-    let call = c.find_plan-search in
+    let call = c.find_plan in
     record {
-      fact = carried search_numbers_of call.ensures.plan_after c.searched.ensures;
-      plan_kept =
-          rw (tells search_told c.searched.ensures (search_told_lem call.result)) call.ensures.plan_kept;
+      fact = carried search_numbers_of call.ensures.plan_after c.from.ensures;
+      plan_kept = rw (tells search_told c.from.ensures (search_told_lem call.result)) call.ensures.plan_kept;
     }

@@ -7,9 +7,8 @@ use Rattle.mikjuqan.proofs.on_lists.mikjuqan_replay_run.Goals as goal
 
 pub returns : goal.returns
 returns c =
-    let call = c.replay_run-replay in
+    let call = c.replay_run in
     record {
-      fact = carried replay_numbers_of call.ensures.out_after c.replayed.ensures;
-      replay_kept =
-          rw (tells replay_told c.replayed.ensures (replay_told_lem call.result)) call.ensures.replay_kept;
+      fact = carried replay_numbers_of call.ensures.out_after c.from.ensures;
+      replay_kept = rw (tells replay_told c.from.ensures (replay_told_lem call.result)) call.ensures.replay_kept;
     }

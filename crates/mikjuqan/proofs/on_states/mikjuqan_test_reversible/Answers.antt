@@ -2,17 +2,15 @@
 -- The answer is that of the call of `engine`, and so is the promise.
 use mathlib.Core.Path.{ap, ◌∙◌}
 use Rattle.c_answers.specs.Numbers.{decision_of, decision_told}
-use Rattle.c_answers.proofs.ReadBack.{reversibility-told}
+use Rattle.c_answers.proofs.ReadBack.{decision_told_lem}
 use Rattle.mikjuqan.proofs.Carried.{tells}
 use Rattle.mikjuqan.proofs.on_states.mikjuqan_test_reversible.Goals as goal
 
 pub returns : goal.returns
 returns c =
-    let call = c.test_reversible-reversibility in
+    let call = c.test_reversible in
     record {
-      value = c.reversible.ensures
-          ∙ ap decision_of call.ensures.result_value;
+      value = c.from.ensures ∙ ap decision_of call.ensures.result_value;
       reversibility_kept =
-          rw (tells decision_told c.reversible.ensures (reversibility-told call.result))
-          call.ensures.reversibility_kept;
+          rw (tells decision_told c.from.ensures (decision_told_lem call.result)) call.ensures.reversibility_kept;
     }
