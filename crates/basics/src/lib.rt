@@ -1,30 +1,11 @@
-// What every layer uses: two tests joined, a byte as an index, powers, bytes copied and looked for; sets of small
-// numbers as words.
+// What every layer uses: powers that are capped, bytes that are looked for, and sets of small numbers as words.
 #![tactic(auto)]
 
-ghost use Rattle.std.specs.Prelude.{◌≡◌, ◌&&◌, ◌+◌, ◌^◌, ◌≤◌, min, eqb, length, get_or, take, ◌==◌};
+ghost use Rattle.std.specs.Prelude.{◌≡◌, ◌+◌, ◌^◌, ◌≤◌, min, eqb, length, get_or, ◌==◌};
 ghost use Rattle.std.specs.List.{position};
 ghost use Rattle.basics.specs.Bounded.{find};
-ghost use Rattle.basics.specs.Lists.{at_front};
 
 pub mod sets;
-
-// Both tests.
-pub fn and(a: bool, b: bool) -> bool
-    ensures { result ≡ (a && b) }
-{
-    if a {
-        return b;
-    }
-    false
-}
-
-// A byte as an index.
-pub fn wide(x: u8) -> usize
-    ensures { (result ≡ x) × (result ≤ 255) }
-{
-    x as usize
-}
 
 // k to the power n, or one more than `most` where it is above that.
 pub fn power_within(k: usize, n: usize, most: usize) -> usize
@@ -33,22 +14,12 @@ pub fn power_within(k: usize, n: usize, most: usize) -> usize
 {
     let mut power: usize = 1;
     for i in 0..n {
-        power = power * k;
+        power *= k;
         if most < power {
             return most + 1;
         }
     }
     power
-}
-
-// Writes the first n bytes of `from` at the front of `to`.
-pub fn copy(from: &[u8], n: usize, to: &mut [u8])
-    requires { (n ≤ length from.now) × (n ≤ length to.old) }
-    ensures { to.new ≡ at_front (take n from.now) to.old }
-{
-    for i in 0..n {
-        to[i] = from[i];
-    }
 }
 
 // The first place that holds the byte v, if one does.

@@ -15,7 +15,7 @@ pub fn lowest_of(set: u64) -> usize
     requires { 0 < set }
     ensures { (result ≡ lowest set) × (result < 64) }
 {
-    u64::trailing_zeros(set) as usize
+    set.trailing_zeros() as usize
 }
 
 // A set without its lowest number.

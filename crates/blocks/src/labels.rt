@@ -18,8 +18,10 @@ pub fn mapped(bytes: &[u8], at: usize, label: ConcreteLabel) -> AbstractLabel
 }
 
 // The byte that stands for an abstract label.
-pub fn byte_of(label: AbstractLabel) -> u8
-    ensures { result ≡ label.0 }
-{
-    label.0
+impl From<AbstractLabel> for u8 {
+    ghost from_gives = { λ label byte. byte ≡ label.0 };
+
+    fn from(label: AbstractLabel) -> u8 {
+        label.0
+    }
 }

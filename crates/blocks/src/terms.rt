@@ -13,7 +13,8 @@ pub enum Term {
     Refused,
 }
 
-// The term that a byte stands for, by its range.
+// The term that a byte stands for, by its range. A function of this name and no `From`: some bytes are no term, and
+// `Term::from(byte)` would not say that the range decides.
 pub fn decode(byte: u8) -> Term
     ensures { result ≡ term_of byte }
 {

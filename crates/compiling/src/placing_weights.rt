@@ -6,7 +6,7 @@ ghost use Rattle.blocks.specs.Validity.{Valid};
 ghost use Rattle.words.specs.Compiled.{Weighted};
 ghost use Rattle.compiling.specs.PlacingWeights.{RowPlaced, SinglesPlaced, PairsPlaced};
 
-use blocks::labels::{ConcreteLabel, byte_of};
+use blocks::labels::ConcreteLabel;
 use blocks::layout;
 use words::ranking::{LABELS, PerLabel, Weights};
 
@@ -18,7 +18,8 @@ fn place_row(block: &[u8], i: usize, p: usize, singles: &mut PerLabel<u16>)
     let count = layout::label_count(block, i);
     for x in 0..count {
         let label = ConcreteLabel(x as u8);
-        let y = usize::from(byte_of(layout::abstract_label(block, i, label)));
+        let byte = u8::from(layout::abstract_label(block, i, label));
+        let y = usize::from(byte);
         singles[16 * i + x] = (y * p) as u16;
     }
 }

@@ -8,7 +8,6 @@ ghost use Rattle.blocks.specs.Validity.{Sized, Valid, side_ok};
 ghost use Rattle.psvn.specs.Relabelling.{relabel_term, relabel_side, relabel_rule, relabel_rules, relabel_goals};
 ghost use Rattle.psvn.specs.Relabelling.{relabel_block};
 
-use blocks::labels::byte_of;
 use blocks::layout;
 use blocks::terms::{Term, decode};
 
@@ -19,7 +18,7 @@ fn relabel_term(block: &[u8], i: usize, byte: u8) -> u8
     ensures { result ≡ relabel_term (map_at block.now i) byte }
 {
     match decode(byte) {
-        Term::Label(label) => byte_of(layout::abstract_label(block, i, label)),
+        Term::Label(label) => u8::from(layout::abstract_label(block, i, label)),
         Term::Variable(_) | Term::Dash | Term::Refused => byte,
     }
 }

@@ -7,7 +7,7 @@ ghost use Rattle.psvn.specs.Relabelling.{relabel_state};
 ghost use Rattle.psvn.specs.Ranks.{rank};
 ghost use Rattle.tables.specs.Tables.{estimate};
 
-use blocks::labels::{ConcreteLabel, byte_of};
+use blocks::labels::ConcreteLabel;
 use blocks::layout;
 
 // The rank of the relabelled state.
@@ -20,7 +20,8 @@ fn relabelled_rank(block: &[u8], state: &[u8]) -> usize
     let mut k: usize = 0;
     for i in 0..n {
         let label = layout::abstract_label(block, i, ConcreteLabel(state[i]));
-        k = k * layout::abstract_count(block, i) + usize::from(byte_of(label));
+        let byte = u8::from(label);
+        k = k * layout::abstract_count(block, i) + usize::from(byte);
     }
     k
 }

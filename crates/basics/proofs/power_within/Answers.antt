@@ -8,7 +8,7 @@ use Rattle.basics.proofs.Digits.{power-more}
 use Rattle.basics.proofs.power_within.Goals as goal
 
 pub loop-i-init : goal.loop-i-init
-loop-i-init c = (search rules, sym (pow-zero _), search rules)
+loop-i-init c = (sym (pow-zero _), search rules)
 
 pub overflow_mul-power : goal.overflow_mul-power
 overflow_mul-power c =
@@ -24,13 +24,13 @@ returns-then-most-power c =
     let i = c.loop-i.i in
     let g : a.k ^ suc i ≤ a.k ^ a.n = pow-le-pow_right (omega arith) (omega arith) in
     let e = pow-suc a.k i in
-    let q = ap (λ (x : ℕ). x * a.k) c.loop-i.invariant.1 in
+    let q = ap (λ (x : ℕ). x * a.k) c.loop-i.invariant.0 in
     omega arith
 
 pub loop-i-preserved : goal.loop-i-preserved
 loop-i-preserved c =
     let l = c.loop-i in
-    (search rules, power-more c.args.k l.i l.power l.invariant.1, search rules)
+    (power-more c.args.k l.i l.power l.invariant.0, search rules)
 
 pub returns : goal.returns
 returns c =

@@ -44,14 +44,14 @@ pub overflow_mul-singles : goal.overflow_mul-singles
 overflow_mul-singles c =
     let a = c.args in
     let h = c.requires in
-    let e = c.from-y.ensures ∙ c.byte_of.ensures ∙ c.abstract_label.ensures in
+    let e = c.from-y.ensures ∙ c.from-byte.ensures ∙ c.abstract_label.ensures in
     omega (arith, high a.block.now a.i c.loop-x.x a.p c.from-y.result h.0 (omega arith) h.2 e)
 
 pub overflow_cast-singles : goal.overflow_cast-singles
 overflow_cast-singles c =
     let a = c.args in
     let h = c.requires in
-    let e = c.from-y.ensures ∙ c.byte_of.ensures ∙ c.abstract_label.ensures in
+    let e = c.from-y.ensures ∙ c.from-byte.ensures ∙ c.abstract_label.ensures in
     omega (arith, high a.block.now a.i c.loop-x.x a.p c.from-y.result h.0 (omega arith) h.2 e)
 
 pub loop-x-preserved : goal.loop-x-preserved
@@ -61,7 +61,7 @@ loop-x-preserved c =
     let l = c.loop-x in
     let at = 16 * a.i + l.x in
     let y = c.from-y.result * a.p in
-    let e = c.from-y.ensures ∙ c.byte_of.ensures ∙ c.abstract_label.ensures in
+    let e = c.from-y.ensures ∙ c.from-byte.ensures ∙ c.abstract_label.ensures in
     let low = high a.block.now a.i l.x a.p c.from-y.result h.0 (omega arith) h.2 e in
     let within : at < length l.singles = omega arith in (
       l.invariant.0,

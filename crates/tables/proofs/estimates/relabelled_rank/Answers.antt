@@ -44,7 +44,7 @@ more c =
     let a = c.args in
     let l = c.loop-i in
     ap₂ ◌+◌ (ap₂ ◌*◌ l.invariant.2 c.abstract_count.ensures.0)
-    (c.from.ensures ∙ c.byte_of.ensures ∙ c.abstract_label-label.ensures)
+    (c.from.ensures ∙ c.from-byte.ensures ∙ c.abstract_label-label.ensures)
     ∙ sym (part-more a.block.now a.state.now l.i (omega arith))
 
 pub overflow_add-k : goal.overflow_add-k
