@@ -23,6 +23,7 @@ pub fn read_full<R: Read>(reader: &mut R, buffer: &mut [u8]) -> Received
         (result.read < length buffer.new → IsAtEnd (R.remaining reader.new)) }
 {
     let mut read = 0;
+    // Each read tells how far it went: there is nothing to count, and no iterator to ask.
     while read < buffer.len() {
         match reader.read(&mut buffer[read..]) {
             Ok(0) => break,

@@ -118,6 +118,7 @@ fn answer_lines<W: Write + AsRawFd>(
     let mut at = from;
     let mut to: usize = 0;
     let mut outcome = Ok(());
+    // No line is known before the one in front of it is answered, which tells where the next begins.
     while at < input.len() {
         let answered = par_queries::answer_line(
             block,

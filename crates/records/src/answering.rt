@@ -100,6 +100,7 @@ fn write_answer(ending: Ending, rules: &Rules, out: &mut [u8]) -> usize
 }
 
 // Answers a query at the front of `out`, and gives the answer's length, by arrays that are prepared from the block.
+// They are handed on one by one: what is promised speaks of each by itself, and a struct would stand before each name.
 pub fn answer_query(
     block: &[u8],
     code: &Code,
