@@ -119,6 +119,7 @@ impl<'a> RankedBlock<'a> {
     {
         let rules = layout::rules(self.compiled.block);
         let mut rest = agreeing_with(back, layout::positions(self.compiled.block), self.words[v]);
+        // No count: rules are taken from a set.
         while rest > 0 {
             let r = lowest_of(rest);
             if rules <= r {

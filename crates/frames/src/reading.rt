@@ -15,7 +15,7 @@ use blocks::layout::{BLOCK_ROOM, HEAD_LENGTH, Head};
 use refusals::Refusal;
 
 // The head line of a text: whether it is pairs of digits with a line feed, and the place behind it; the head, or what
-// turns it back.
+// turns it back, which is told of a line of other characters too.
 #[derive(Clone, Copy)]
 pub struct Heading {
     pub ok: bool,

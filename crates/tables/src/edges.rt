@@ -11,7 +11,7 @@ use words::code::Code;
 use words::ranking::{Weights, rank_word};
 use words::sides::{applies_word, cost_word, step_word};
 
-// The mark 'no path'.
+// The mark 'no path': a number, since C lends tables with it.
 pub const MARK: u32 = u32::MAX;
 
 // What stands for no cost: a number above every entry plus a cost. It is no Option, since there None comes before all
