@@ -4,7 +4,7 @@
 -- The contract of every public call is an equation with the value that is named here; proofs/Demands.antt shows
 -- `Demands` by the theorems of those crates.
 use Rattle.std.specs.Prelude.{◌≡◌, ◌↔◌, true, false, List, [], ◌∷◌, ◌++◌, ℕ, ◌≤◌, ◌<◌, leb, length, get_or}
-use Rattle.std.proofs.Math.Option.{none, some}
+use Rattle.std.specs.Prelude.{None, Some}
 use Rattle.basics.specs.Marks.{mark}
 use Rattle.basics.specs.Lists.{at_front, Bytes}
 use Rattle.refusals.specs.Answers.{Answer, refused, told, Condition, ◌unless◌, verdict, answered}
@@ -150,8 +150,8 @@ pub record Demand2 (b : List ℕ) : Type 0 where
   -- "all constants are to be tested before any variable" (document 02, F-3)
   pub matching_parts : (side : ℕ → ℕ) (s : List ℕ) → TwoParts (positions b) side s
   -- "the lowest number of a met goal" (document 02, F-1), or none, and then no goal is met
-  pub goal_lowest : (s : List ℕ) (g : ℕ) → met_goal b s ≡ some g → LowestMet b s g
-  pub goal_none : (s : List ℕ) → met_goal b s ≡ none → NoneMet b s
+  pub goal_lowest : (s : List ℕ) (g : ℕ) → met_goal b s ≡ Some g → LowestMet b s g
+  pub goal_none : (s : List ℕ) → met_goal b s ≡ None → NoneMet b s
   -- each successor: a rule takes s to t exactly where its left side matches s and its right side makes t of s; what
   -- applying writes is that state
   pub successor :
