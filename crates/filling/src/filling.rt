@@ -12,7 +12,7 @@ ghost use Rattle.filling.specs.FilledTables.{filled, Lowered};
 ghost use Rattle.filling.specs.RankWords.{Ranked};
 
 use super::queue::END;
-use super::rank_words::{RankWords, RankedBlock, word_at};
+use super::rank_words::{RankWords, RankedBlock, next_word};
 use blocks::layout;
 use blocks::validity::MOST_STATES;
 use compiling::{compile, place_weights};
@@ -20,7 +20,7 @@ use edge_ranks::{Lists, ROOM};
 use psvn::relabelling::relabel_block;
 use tables::edges::{Compiled, MARK};
 use words::code::{CODE, Code};
-use words::ranking::WEIGHTS;
+use words::ranking::{WEIGHTS, word_of};
 use words::sides::meets_word;
 
 // The entry of a state before any rule is used: 0 at a goal, the mark elsewhere.
@@ -41,17 +41,16 @@ fn clear(compiled: &Compiled, words: &mut RankWords, table: &mut [u32])
     ensures { Ranked compiled.now.block.now words.new ×
         Good (graph_of compiled.now.block.now) table.new }
 {
-    let mut word: u64 = 0;
+    let mut word = word_of(compiled.block, 0);
     for u in 0..table.len() {
-        word = word_at(compiled.block, word, u);
         words[u] = word;
         table[u] = cleared_entry(compiled.block, compiled.code, word);
+        word = next_word(compiled.block, word, u);
     }
 }
 
 // Compiles a relabelled block and lowers entries backwards from the goals; then, where it is wanted, sweeps until
-// nothing falls, which leaves the least costs. A flag is plainer than a closure: that would be lent the block, the table
-// and the lists, which are made here.
+// nothing falls, which leaves the least costs.
 fn fill_relabelled(block: &[u8], sweeps: bool, table: &mut [u32])
     requires { Relabelled block.now × (length table.old ≡ abstract_states block.now) }
     ensures { Good (graph_of block.now) table.new ×

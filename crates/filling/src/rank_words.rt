@@ -1,6 +1,5 @@
 // The words of all ranks in an array, and the word of a rank from that of the rank before it, without a division.
-ghost use Rattle.std.specs.Prelude.{◌≡◌, ◌+◌, ◌-◌, ◌^◌, ◌<◌};
-ghost use Rattle.blocks.specs.Layout.{abstract_states};
+ghost use Rattle.std.specs.Prelude.{◌≡◌, ◌+◌, ◌^◌, ◌<◌};
 ghost use Rattle.blocks.specs.Validity.{Headed};
 ghost use Rattle.words.specs.Ranking.{word_of};
 ghost use Rattle.filling.specs.RankWords.{Ranked};
@@ -9,13 +8,12 @@ use blocks::layout;
 use blocks::validity::MOST_STATES;
 use tables::edges::Compiled;
 use words::packing::digit;
-use words::ranking::word_of;
 
 // The word of each rank.
 pub type RankWords = [u64; MOST_STATES];
 
 // A compiled block, and the word of each rank.
-#[derive(Drop)]
+#[derive(Clone, Copy)]
 pub struct RankedBlock<'a> {
     pub compiled: Compiled<'a>,
     pub words: &'a RankWords,
@@ -32,7 +30,7 @@ fn unit(i: usize) -> u64
 
 // The word of the rank behind u, from the word of rank u: the last label that can rise does, and those behind it
 // begin again.
-fn next_word(block: &[u8], word: u64, u: usize) -> u64
+pub fn next_word(block: &[u8], word: u64, u: usize) -> u64
     requires { Headed block.now × (word ≡ word_of block.now u) }
     ensures { result ≡ word_of block.now (u + 1) }
 {
@@ -45,16 +43,4 @@ fn next_word(block: &[u8], word: u64, u: usize) -> u64
         next %= unit(i);
     }
     next
-}
-
-// The word of rank u, from the word of the rank before it.
-pub fn word_at(block: &[u8], before: u64, u: usize) -> u64
-    requires { Headed block.now × (u < abstract_states block.now) ×
-        (0 < u → before ≡ word_of block.now (u - 1)) }
-    ensures { result ≡ word_of block.now u }
-{
-    if u == 0 {
-        return word_of(block, u);
-    }
-    next_word(block, before, u - 1)
 }

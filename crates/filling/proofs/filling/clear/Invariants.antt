@@ -1,6 +1,6 @@
 -- `filling::filling::clear` meets its contract.
 -- The loop's invariant: the words and the entries below u are written.
-use Rattle.std.proofs.Common.{◌≡◌, ℕ, ◌≤◌, ◌<◌, ◌-◌, length, get_or}
+use Rattle.std.proofs.Common.{◌≡◌, ℕ, ◌≤◌, ◌<◌, length, get_or}
 use Rattle.blocks.specs.Layout.{abstract_states}
 use Rattle.words.specs.Ranking.{word_of}
 use Rattle.distances.proofs.Writing.{Cleared}
@@ -14,5 +14,5 @@ invariant-loop-u l =
       long : length l.table ≡ abstract_states b;
       ranked : (w : ℕ) → w < l.u → get_or l.words w 0 ≡ word_of b w;
       cleared : Cleared (graph_of b) l.table l.u;
-      before : 0 < l.u → l.word ≡ word_of b (l.u - 1);
+      next : l.word ≡ word_of b l.u;
     }
