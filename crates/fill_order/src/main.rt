@@ -17,7 +17,9 @@ fn main(rt: HostRuntime) -> io::Result<()> {
     let mut input = [0u8; INPUT_ROOM];
     let received = read_full(&mut rt.stdin(), &mut input);
     received.outcome?;
-    for text in (Texts { rest: &input[..received.read] }) {
+    for text in (Texts {
+        rest: &input[..received.read],
+    }) {
         fills::print_fill(&rt, text)?;
     }
     Ok(())

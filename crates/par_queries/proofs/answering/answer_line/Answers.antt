@@ -92,20 +92,20 @@ module _ (b x : List ℕ) (at : ℕ) (found : Line) (is : found ≡ line_at x at
           (m : ℕ) (query : List ℕ)
           (w : (m ≡ length (line_bytes part)) × (query ≡ at_front (line_bytes part) (replicate 25 0)))
         where
-        count : m ≡ length (line_bytes line)
-        count = w.0 ∙ ap length decoded
+          count : m ≡ length (line_bytes line)
+          count = w.0 ∙ ap length decoded
 
-        asked : take m query ≡ line_bytes line
-        asked =
-            let room : List ℕ = replicate 25 0 in
-            ap (take m) (w.1 ∙ ap (λ (l : List ℕ). at_front l room) decoded)
-            ∙ front-taken (line_bytes line) room m count
+          asked : take m query ≡ line_bytes line
+          asked =
+              let room : List ℕ = replicate 25 0 in
+              ap (take m) (w.1 ∙ ap (λ (l : List ℕ). at_front l room) decoded)
+              ∙ front-taken (line_bytes line) room m count
 
-        answered :
-            (k : ℕ) (answer : List ℕ)
-            → Written (answer_record b (filled_estimate b) (take m query)) (replicate 75 0) k answer
-            → take k answer ≡ answer_record b (filled_estimate b) (line_bytes line)
-        answered k answer written = written-taken written ∙ ap (answer_record b (filled_estimate b)) asked
+          answered :
+              (k : ℕ) (answer : List ℕ)
+              → Written (answer_record b (filled_estimate b) (take m query)) (replicate 75 0) k answer
+              → take k answer ≡ answer_record b (filled_estimate b) (line_bytes line)
+          answered k answer written = written-taken written ∙ ap (answer_record b (filled_estimate b)) asked
 
 pub returns-then-not-found : goal.returns-then-not-found
 returns-then-not-found c =
