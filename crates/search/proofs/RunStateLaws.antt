@@ -1,13 +1,17 @@
 -- The running state once a part of it is written: what is kept of the list at a depth, once more and further on
--- (`kept_same`, `kept_then`, `kept-before`), also where another tally is carried (`kept-carried`); what is carried
--- already (`carried_same`), as it is read (`carried-read`), and once more (`carried_then`).
+-- (`kept_same`, `kept_then`, `kept-before`), also where an element behind it is written (`kept_set`) or another tally is
+-- carried (`kept-outside`); a tally that is carried (`carried-tally`), already (`carried_same`), as it is read
+-- (`carried-read`), and once more (`carried_then`); and a list with one rule more (`put_one`).
 -- The functions on the running state, and the visits and extensions, rest on these.
 use mathlib.Core.Path.{◌≡◌, refl, ap, ◌∙◌}
-use Prim.Native.Nat.{ℕ, suc}
+use Prim.Native.Nat.{ℕ, suc, ◌<◌}
+use mathlib.Core.List.{List}
+use lib.ListN.{length, get_or, set}
+use lib.Seq.{get_or-set_same, get_or-set_other}
 use native.Mathlib.Omega.{arith}
 use Rattle.tallies.specs.declared.Tally.{Tally}
 use Rattle.search.specs.declared.run.Run.{Run}
-use Rattle.search.specs.Run.{state_at, rank_at, cost_at, rule_at, ListKept, Carried}
+use Rattle.search.specs.Run.{state_at, rank_at, cost_at, rule_at, ListKept, Carried, Put}
 
 -- ---- what is kept
 
@@ -49,9 +53,58 @@ kept-before a =
       steps_kept = a.steps_kept;
     }
 
+-- an element that is none of the list's may be written
+module _ (depth i x : ℕ) (run : Run) where
+  pub kept_set :
+      depth < i
+      → ListKept depth run (record run { states = set run.states i x })
+      × ListKept depth run (record run { ranks = set run.ranks i x })
+      × ListKept depth run (record run { costs = set run.costs i x })
+      × ListKept depth run (record run { rules = set run.rules i x })
+  kept_set behind =
+      let apart : (l : List ℕ) (j : ℕ) → j < suc depth → get_or (set l i x) j 0 ≡ get_or l j 0 =
+      λ l j low. get_or-set_other l i j x 0 (omega arith) in (
+        record {
+          states = apart run.states;
+          ranks = λ j low. refl;
+          costs = λ j low. refl;
+          rules = λ j low. refl;
+          threshold_kept = refl;
+          allowance_kept = refl;
+          steps_kept = refl;
+        },
+        record {
+          states = λ j low. refl;
+          ranks = apart run.ranks;
+          costs = λ j low. refl;
+          rules = λ j low. refl;
+          threshold_kept = refl;
+          allowance_kept = refl;
+          steps_kept = refl;
+        },
+        record {
+          states = λ j low. refl;
+          ranks = λ j low. refl;
+          costs = apart run.costs;
+          rules = λ j low. refl;
+          threshold_kept = refl;
+          allowance_kept = refl;
+          steps_kept = refl;
+        },
+        record {
+          states = λ j low. refl;
+          ranks = λ j low. refl;
+          costs = λ j low. refl;
+          rules = λ j low. apart run.rules j (omega arith);
+          threshold_kept = refl;
+          allowance_kept = refl;
+          steps_kept = refl;
+        },
+      )
+
 -- what changes the tally alone keeps every list
-pub kept-carried : (depth : ℕ) {run run' : Run} {tally : Tally} → Carried tally run run' → ListKept depth run run'
-kept-carried depth c =
+pub kept-outside : (depth : ℕ) {run run' : Run} {tally : Tally} → Carried tally run run' → ListKept depth run run'
+kept-outside depth c =
     let e = c.told in
     record {
       states = λ j l. ap (λ (x : Run). state_at x j) e;
@@ -62,6 +115,10 @@ kept-carried depth c =
       allowance_kept = ap (λ (x : Run). x.allowance) e;
       steps_kept = ap (λ (x : Run). x.steps) e;
     }
+
+-- another tally
+pub carried-tally : (run : Run) (tally : Tally) → Carried tally run (record run { tally = tally })
+carried-tally run tally = record { told = refl }
 
 -- the tally that is carried already
 pub carried_same : {run : Run} {tally : Tally} → run.tally ≡ tally → Carried tally run run
@@ -75,3 +132,35 @@ carried-read c = ap (λ (x : Run). x.tally) c.told
 pub carried_then :
     {run run' run'' : Run} {x y : Tally} → Carried x run run' → Carried y run' run'' → Carried y run run''
 carried_then {y = y} a b = record { told = b.told ∙ ap (λ (r : Run). record r { tally = y }) a.told }
+
+-- ---- a list with one rule more
+
+pub put_one :
+    (run : Run) (depth rule word rank cost : ℕ)
+    → suc depth < length run.states → suc depth < length run.ranks → suc depth < length run.costs
+    → depth < length run.rules
+    → Put depth rule word rank cost run
+    (record run {
+      states = set run.states (suc depth) word;
+      ranks = set run.ranks (suc depth) rank;
+      costs = set run.costs (suc depth) cost;
+      rules = set run.rules depth rule;
+    })
+put_one run depth rule word rank cost s r c l =
+    record {
+      state = get_or-set_same run.states (suc depth) word 0 s;
+      ranked = get_or-set_same run.ranks (suc depth) rank 0 r;
+      cost_told = get_or-set_same run.costs (suc depth) cost 0 c;
+      ruled = get_or-set_same run.rules depth rule 0 l;
+      kept =
+          record {
+            states = λ j low. get_or-set_other run.states (suc depth) j word 0 (omega arith);
+            ranks = λ j low. get_or-set_other run.ranks (suc depth) j rank 0 (omega arith);
+            costs = λ j low. get_or-set_other run.costs (suc depth) j cost 0 (omega arith);
+            rules = λ j low. get_or-set_other run.rules depth j rule 0 (omega arith);
+            threshold_kept = refl;
+            allowance_kept = refl;
+            steps_kept = refl;
+          };
+      tally_kept = refl;
+    }

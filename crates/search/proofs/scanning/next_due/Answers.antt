@@ -1,7 +1,7 @@
 -- `search::scanning::next_due` meets its contract.
 use mathlib.Core.Path.{◌≡◌, sym}
 use native.Mathlib.Omega.{arith}
-use Rattle.search.proofs.RunStateLaws.{kept-carried}
+use Rattle.search.proofs.RunStateLaws.{kept-outside}
 use Rattle.search.proofs.Scans.{here-kept, passed-found}
 use Rattle.search.proofs.Rests.{come-first, come-low, come-lowest, come-own, come-on, come-over}
 use Rattle.search.proofs.scanning.next_due.Goals as goal
@@ -25,7 +25,7 @@ pub returns-then-try_rule : goal.returns-then-try_rule
 returns-then-try_rule c =
     let k = c.loop-left.invariant in
     let found = rw (c.if-try_rule.true, c.lowest_of.ensures.0) at c.try_rule.ensures in
-    let same = (kept-carried c.args.depth k.come.passed.carried).states c.args.depth (omega arith) in
+    let same = (kept-outside c.args.depth k.come.passed.carried).states c.args.depth (omega arith) in
     record {
       fewer = k.fewer;
       none_left = λ z. absurd (omega (arith, c.loop-left-test.true));
@@ -43,7 +43,7 @@ loop-left-preserved c =
     let l = c.loop-left in
     let k = l.invariant in
     let passed = rw (c.if-try_rule.false, c.lowest_of.ensures.0) at c.try_rule.ensures in
-    let kept = kept-carried c.args.depth passed.carried in
+    let kept = kept-outside c.args.depth passed.carried in
     let same = kept.states c.args.depth (omega arith) in
     record {
       fewer = omega (arith, k.fewer, c.without_lowest-left.ensures.1);

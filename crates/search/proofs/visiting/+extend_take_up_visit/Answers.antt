@@ -8,7 +8,7 @@ use Rattle.tallies.specs.Tallies.{with_visit}
 use Rattle.search.specs.declared.run.Run.{Run}
 use Rattle.search.specs.Run.{state_at, Carried}
 use Rattle.search.specs.Parts.{Here, Rest}
-use Rattle.search.proofs.RunStateLaws.{kept-carried}
+use Rattle.search.proofs.RunStateLaws.{kept-outside}
 use Rattle.search.proofs.Scans.{rules-low, here-kept}
 use Rattle.search.proofs.Rests.{agreeing-small, rest-here, rest-own, come-first, come-over}
 use Rattle.search.proofs.Visits.{visit-stop, visit-goal, visit-leaf, visit-more}
@@ -93,7 +93,7 @@ counted {run} one = record { told = ap (λ (x : Tally). record run { tally = x }
 here :
     {code changes : List ℕ} {run : Run} {depth : ℕ} {more : Tally} → Here code changes run depth
     → more ≡ with_visit run.tally → Here code changes (record run { tally = more }) depth
-here {depth = depth} k one = here-kept k (kept-carried depth (counted one))
+here {depth = depth} k one = here-kept k (kept-outside depth (counted one))
 
 -- what the goal test shows
 tested :
