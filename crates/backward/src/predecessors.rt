@@ -59,8 +59,8 @@ fn raise(reversal: &Reversal, earlier: &[u8], candidate: &mut [u8], i: usize)
     complete(reversal, candidate, i + 1);
 }
 
-// Writes the candidate out if rule r takes it to `state`. A flag beside the caller's buffer, as the C interface has it: a
-// state is as long as the caller's block says, and there is no heap to make one on.
+// Writes the candidate out if rule r takes it to `state`. A flag beside the caller's buffer, as the C interface has it:
+// a state is as long as the caller's block says, and there is no heap to make one on.
 fn settle(block: &[u8], r: usize, candidate: &[u8], state: &[u8], out: &mut [u8]) -> bool
     requires { Sized block.now × (r < rules block.now) × (length candidate.now ≡ positions block.now) ×
         (length state.now ≡ positions block.now) × (positions block.now ≤ length out.old) }

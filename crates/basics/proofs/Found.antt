@@ -19,10 +19,13 @@ module _ (p : ℕ → Bool) (xs : List ℕ) where
       go : (t : Bool) → some (length xs) at ≡ t → position p xs ≡ find (length xs) at
       go true e =
           let h = first_holds at (length xs) e in
-          let same = position_or_len_is p xs (first (length xs) at) 0 (omega arith) (first-least at (length xs)) (λ l. h.1) in
+          let same =
+          position_or_len_is p xs (first (length xs) at) 0 (omega arith) (first-least at (length xs)) (λ l. h.1) in
           rw (same, e, lt-ltb _ _ h.0) refl
       go false e =
-          let same = position_or_len_is p xs (length xs) 0 (omega arith) (some-false at (length xs) e) (λ l. absurd (omega arith)) in
+          let same =
+          position_or_len_is p xs (length xs) 0 (omega arith) (some-false at (length xs) e)
+          (λ l. absurd (omega arith)) in
           rw (same, e, le-ltb (length xs) (length xs) (omega arith)) refl
 
 -- the same over n elements from a place on

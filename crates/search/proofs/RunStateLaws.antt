@@ -1,6 +1,6 @@
 -- The running state once a part of it is written: what is kept of the list at a depth, once more and further on
--- (`kept_same`, `kept_then`, `kept-before`), also where an element behind it is written (`kept_set`) or another tally is
--- carried (`kept-outside`); a tally that is carried (`carried-tally`), already (`carried_same`), as it is read
+-- (`kept_same`, `kept_then`, `kept-before`), also where an element behind it is written (`kept_set`) or another tally
+-- is carried (`kept-outside`); a tally that is carried (`carried-tally`), already (`carried_same`), as it is read
 -- (`carried-read`), and once more (`carried_then`); and a list with one rule more (`put_one`).
 -- The functions on the running state, and the visits and extensions, rest on these.
 use mathlib.Core.Path.{◌≡◌, refl, ap, ◌∙◌}

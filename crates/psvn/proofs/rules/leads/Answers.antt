@@ -22,7 +22,13 @@ returns-then-side_matches c =
     rw (c.bytes.ensures.same, c.left_at-left.ensures.place, c.requires.1) at
     (sym c.side_matches.ensures ∙ c.if-side_matches.true) in
     c.makes.ensures
-    ∙ rw (c.bytes-then-side_matches.ensures.same, c.left_at-left.ensures.place, c.right_at.ensures.place, c.requires.1, m) refl
+    ∙ rw (
+      c.bytes-then-side_matches.ensures.same,
+      c.left_at-left.ensures.place,
+      c.right_at.ensures.place,
+      c.requires.1,
+      m,
+    ) refl
 
 pub returns : goal.returns
 unfolding leads applies step

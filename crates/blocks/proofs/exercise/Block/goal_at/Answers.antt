@@ -4,4 +4,5 @@ use Rattle.blocks.proofs.exercise.Block.goal_at.Goals as goal
 
 pub returns-clause-inside : goal.returns-clause-inside
 returns-clause-inside c =
-    rw (c.goal_at.ensures.0, c.bytes.ensures.same) (goal-inside c.args.self.now c.bytes.ensures.sized c.args.g c.requires)
+    rw (c.goal_at.ensures.0, c.bytes.ensures.same)
+    (goal-inside c.args.self.now c.bytes.ensures.sized c.args.g c.requires)

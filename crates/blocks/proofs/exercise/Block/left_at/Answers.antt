@@ -4,4 +4,5 @@ use Rattle.blocks.proofs.exercise.Block.left_at.Goals as goal
 
 pub returns-clause-inside : goal.returns-clause-inside
 returns-clause-inside c =
-    rw (c.left_at.ensures.0, c.bytes.ensures.same) (left-inside c.args.self.now c.bytes.ensures.sized c.args.r c.requires)
+    rw (c.left_at.ensures.0, c.bytes.ensures.same)
+    (left-inside c.args.self.now c.bytes.ensures.sized c.args.r c.requires)

@@ -35,7 +35,8 @@ returns-then-meets_word c =
     let a = c.args in
     sym (test-goal (graph_of a.self.now.block.now) a.table.now a.u
     (goal-there a.self.now.block.now a.self.now.code.now a.self.now.weights.now a.u a.word c.goals.result
-    c.meets_word.result a.self.now.ready c.requires.u_bound.1 c.goals.ensures.0 c.meets_word.ensures ∙ c.if-meets_word.true)
+    c.meets_word.result a.self.now.ready c.requires.u_bound.1 c.goals.ensures.0
+    c.meets_word.ensures ∙ c.if-meets_word.true)
     (λ z. omega (arith, z, c.if-entry-gt0.true)))
 
 -- the entries are numbers of 32 bits, and the costs bytes
@@ -56,7 +57,8 @@ zero-there c e =
     elim c.if-entry-gt0.branch [
       | then-entry-gt0+else-meets_word w ↦
           absurd (true-false e (goal-there a.self.now.block.now a.self.now.code.now a.self.now.weights.now a.u a.word
-          w.goals.result w.meets_word.result a.self.now.ready c.requires.u_bound.1 w.goals.ensures.0 w.meets_word.ensures ∙ w.if-meets_word.false))
+          w.goals.result w.meets_word.result a.self.now.ready c.requires.u_bound.1 w.goals.ensures.0
+          w.meets_word.ensures ∙ w.if-meets_word.false))
       | else-entry-gt0 w ↦ omega (arith, w.if-entry-gt0.false)
     ]
 
@@ -84,7 +86,8 @@ zero-there-2 c e =
     elim c.if-entry-gt0.branch [
       | then-entry-gt0+else-meets_word w ↦
           absurd (true-false e (goal-there a.self.now.block.now a.self.now.code.now a.self.now.weights.now a.u a.word
-          w.goals.result w.meets_word.result a.self.now.ready c.requires.u_bound.1 w.goals.ensures.0 w.meets_word.ensures ∙ w.if-meets_word.false))
+          w.goals.result w.meets_word.result a.self.now.ready c.requires.u_bound.1 w.goals.ensures.0
+          w.meets_word.ensures ∙ w.if-meets_word.false))
       | else-entry-gt0 w ↦ omega (arith, w.if-entry-gt0.false)
     ]
 
