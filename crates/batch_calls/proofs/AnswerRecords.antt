@@ -2,12 +2,12 @@
 -- records is that of query record i (`record-at`); query records have a query's length (`query-whole`) and are lists of
 -- bytes where all of them are (`query-small`).
 -- The functions that answer query records, and their promise, rest on these.
-use mathlib.Core.Path.{◌≡◌, ap, ◌∙◌}
-use mathlib.Core.List.{List}
-use Prim.Native.Nat.{ℕ, ◌+◌, ◌*◌, ◌≤◌, ◌<◌}
+use mathlib.Core.Path.{◌≡◌, sym, ap, ap₂, ◌∙◌}
+use mathlib.Core.List.{List, ◌++◌}
+use Prim.Native.Nat.{ℕ, ◌+◌, ◌-◌, ◌*◌, ◌≤◌, ◌<◌}
 use native.Mathlib.Omega.{arith}
 use native.Mathlib.Nat.{mul-le-mul_right, suc-mul}
-use lib.ListN.{length, drop, replicate, length-append, length-drop, length-replicate}
+use lib.ListN.{length, take, drop, replicate, length-append, length-drop, length-replicate}
 use lib.Seq.{length-take-le}
 use Rattle.basics.specs.Lists.{at_front, joined, Bytes}
 use Rattle.basics.proofs.Lists.{front-within, joined-part}
@@ -28,6 +28,14 @@ whole_length bytes l =
     let zeros : List ℕ = replicate record_room 0 in
     let behind = drop (length bytes) zeros in
     omega (arith, length-append bytes behind, length-drop (length bytes) zeros, zeros-length)
+
+-- as many zeros as a record has bytes, at the front
+pub zeros-front :
+    {zeros : List ℕ} (old : List ℕ) → zeros ≡ replicate record_room 0
+    → zeros ++ drop record_room old ≡ at_front (replicate record_room 0) old
+zeros-front old e =
+    ap (λ (z : List ℕ). z ++ drop record_room old) e
+    ∙ ap (λ (k : ℕ). replicate record_room 0 ++ drop k old) (sym zeros-length)
 
 -- an answer over zeros at the front is a whole record there
 pub written-whole :
@@ -55,6 +63,17 @@ module _ (b queries : List ℕ) where
       → i * query_length b + query_length b ≤ length queries
   query-inside count i l whole =
       omega (arith, whole, suc-mul i (query_length b), mul-le-mul_right (query_length b) l)
+
+  -- the part of the queries from record i on, as long as a query, is that record
+  module _ (i w : ℕ) (e : w ≡ query_length b) where
+    pub query_inside :
+        (count : ℕ) → i < count → count * query_length b ≤ length queries → i * w + w ≤ length queries
+    query_inside count l whole = rw e (query-inside count i l whole)
+
+    pub query-part : take (i * w + w - i * w) (drop (i * w) queries) ≡ query_at b queries i
+    query-part =
+        let n : i * w + w - i * w ≡ query_length b = omega (arith, e) in
+        ap₂ (λ (k m : ℕ). take k (drop m queries)) n (ap (λ (k : ℕ). i * k) e)
 
   pub query-whole :
       (count i : ℕ) → i < count → count * query_length b ≤ length queries

@@ -3,7 +3,7 @@
 -- at the front, and the rest is as it was.
 use mathlib.Core.Path.{◌≡◌}
 use mathlib.Core.List.{List}
-use Prim.Native.Nat.{ℕ, ◌-◌, ◌≤◌}
+use Prim.Native.Nat.{ℕ}
 use lib.ListN.{length}
 use Rattle.basics.specs.Lists.{at_front, joined}
 use Rattle.rounds.specs.Systems.{Estimate}
@@ -13,10 +13,6 @@ use Rattle.batch_calls.proofs.answering.answer_records.Given as goal
 
 abbrev pub invariant-loop-i : goal.invariant-loop-i
 invariant-loop-i l =
-    (l.i ≤ l.count)
-    × (length l.answers ≡ length l.initial.answers)
+    (length l.answers ≡ length l.initial.answers)
     × ((h : List ℕ → Estimate) → Rates l.block l.changes l.entries h
     → l.answers ≡ at_front (joined l.i (answer_at l.block h l.queries)) l.initial.answers)
-
-abbrev pub decreases-loop-i : goal.decreases-loop-i
-decreases-loop-i l = l.count - l.i

@@ -37,7 +37,7 @@ answer_records-requires c =
     (sym c.in_ok-check_batch.ensures) in
     let e = c.record_count-count.ensures in
     let whole = k.records.whole in
-    (c.make_ready.ensures.prepared, rw e (omega (arith, whole)), rw e k.records.fits, rw e k.records.few)
+    (c.make_ready.ensures.prepared, rw e (omega (arith, whole)), rw e k.records.fits)
 
 pub overflow_mul-result : goal.overflow_mul-result
 overflow_mul-result c =
