@@ -2,9 +2,10 @@
 // what the rule's result must show, and the reversed right side makes the predecessor, with 0 where the rule loses a
 // label; such labels then run through all values, a group of positions with one variable together. Nothing is proved
 // of a candidate: whoever takes one tests it by the rule itself.
-ghost use Rattle.std.specs.Prelude.{◌≡◌, ◌≤◌, ◌<◌, length};
-ghost use Rattle.blocks.specs.Layout.{rules};
+ghost use Rattle.std.specs.Prelude.{◌≡◌, ◌+◌, ◌≤◌, ◌<◌, length};
+ghost use Rattle.blocks.specs.Layout.{positions, rules};
 ghost use Rattle.blocks.specs.Validity.{Sized};
+ghost use Rattle.candidates.specs.Reversed.{Fronted};
 
 use basics::sets::lowest_of;
 use blocks::layout;
@@ -130,6 +131,7 @@ impl<'a> Rule<'a> {
 // Compiles rule r backwards. A rule read backwards costs nothing: where its cost would stand its groups do.
 fn reverse_rule(block: &[u8], r: usize, code: &mut Code)
     requires { Sized block.now × (r < rules block.now) }
+    ensures { Fronted code.old r (positions block.now) → Fronted code.new (r + 1) (positions block.now) }
 {
     let n = layout::positions(block);
     let left = layout::left_at(block, r);
@@ -152,6 +154,7 @@ fn reverse_rule(block: &[u8], r: usize, code: &mut Code)
 // Compiles all rules backwards.
 pub fn reverse_rules(block: &[u8], code: &mut Code)
     requires { Sized block.now }
+    ensures { Fronted code.new (rules block.now) (positions block.now) }
 {
     for r in 0..layout::rules(block) {
         reverse_rule(block, r, code);

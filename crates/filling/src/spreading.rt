@@ -1,10 +1,12 @@
 // The fast pass of the fill: entries are lowered backwards from the goals, the least first. Each write is one that a
 // rule justifies, tested by the rule itself, so that the table stays good whatever the queue and the candidates are;
 // sweeps afterwards show that nothing was missed.
-ghost use Rattle.std.specs.Prelude.{◌≡◌, ◌+◌, ◌≤◌, ◌<◌, get_or};
+ghost use Rattle.std.specs.Prelude.{◌≡◌, true, ◌+◌, ◌≤◌, ◌<◌, get_or};
 ghost use Rattle.blocks.specs.Layout.{positions, rules, cost_of, abstract_states};
 ghost use Rattle.distances.specs.Filling.{Good, Lowering};
+ghost use Rattle.words.specs.Sides.{left_place, constants_word};
 ghost use Rattle.rule_sets.specs.Agreeing.{Indexed};
+ghost use Rattle.candidates.specs.Reversed.{Fronted};
 ghost use Rattle.tables.specs.Abstraction.{graph_of};
 
 use super::queue::{END, LISTS, Queue};
@@ -16,6 +18,7 @@ use edge_ranks::Lists;
 use rule_sets::{agreeing_with, place_sets};
 use tables::edges::MARK;
 use words::code::{CODE, Code};
+use words::matching::variables_match_word;
 use words::ranking::rank_word;
 use words::sides::{applies_word, cost_word, step_word};
 
@@ -55,6 +58,7 @@ struct Backwards<'a> {
     ranked: RankedBlock<'a>,
     back: &'a Code,
     ghost indexed: { Indexed back.now (rules ranked.compiled.block.now) (positions ranked.compiled.block.now) },
+    ghost fronted: { Fronted back.now (rules ranked.compiled.block.now) (positions ranked.compiled.block.now) },
 }
 
 impl<'a> Backwards<'a> {
@@ -107,15 +111,18 @@ impl<'a> Backwards<'a> {
         true
     }
 
-    // The edge backwards, by the rules compiled backwards: each candidate for the word of the state before it in turn.
+    // The edge backwards, by its rule compiled backwards, whose constants agree: each candidate for the word of the state
+    // before it in turn.
     fn pull(&self, table: &mut [u32], queue: &mut Queue, edge: Edge)
         requires good { Good (graph_of self.now.ranked.compiled.block.now) table.old }
         requires in_block { (edge.rule < rules self.now.ranked.compiled.block.now) ×
             (edge.to < abstract_states self.now.ranked.compiled.block.now) }
+        requires agrees { constants_word self.now.back.now (left_place edge.rule)
+            (get_or self.now.ranked.words.now edge.to 0) ≡ true }
         ensures { Good (graph_of self.now.ranked.compiled.block.now) table.new }
     {
         let after = self.ranked.words[edge.to];
-        if !applies_word(self.back, edge.rule, after) {
+        if !variables_match_word(self.back, 2 * edge.rule, after) {
             return;
         }
         let start = step_word(self.back, edge.rule, after);
