@@ -50,7 +50,8 @@ fn clear(compiled: &Compiled, words: &mut RankWords, table: &mut [u32])
 }
 
 // Compiles a relabelled block and lowers entries backwards from the goals; then, where it is wanted, sweeps until
-// nothing falls, which leaves the least costs.
+// nothing falls, which leaves the least costs. A flag is plainer than a closure: that would be lent the
+// block, the table and the lists, which are made here.
 fn fill_relabelled(block: &[u8], sweeps: bool, table: &mut [u32])
     requires { Relabelled block.now × (length table.old ≡ abstract_states block.now) }
     ensures { Good (graph_of block.now) table.new ×

@@ -150,6 +150,7 @@ impl<'a> Backwards<'a> {
             layout::positions(self.ranked.compiled.block),
             self.ranked.words[v],
         );
+        // No count: rules are taken from a set.
         while rest > 0 {
             let rule = lowest_of(rest);
             self.pull(table, queue, Edge { rule, to: v });

@@ -35,6 +35,7 @@ impl<'a> RankedBlock<'a> {
         if compiled.passes_by_sides(table, lists) {
             return;
         }
+        // No count: how many sweeps it takes is known once one lowers nothing.
         loop {
             if !self.sweep(table) {
                 return;
