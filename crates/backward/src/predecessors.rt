@@ -10,7 +10,7 @@ ghost use Rattle.backward.specs.Choices.{choices_of, raisable_at, Completed, Rai
 ghost use Rattle.backward.specs.Predecessors.{from_first, after, step_back, settled, Answered};
 
 use super::choices::{Reversal, keeps, least, raised, rises};
-use blocks::exercise::Block;
+use basics::copy;
 use blocks::layout;
 use blocks::layout::MOST_POSITIONS;
 
@@ -67,8 +67,8 @@ fn settle(block: &[u8], r: usize, candidate: &[u8], state: &[u8], out: &mut [u8]
     ensures { Answered (settled block.now r state.now candidate.now) result
         out.old out.new }
 {
-    if psvn::rules::leads(&Block::new(block), r, candidate, state) {
-        out[..candidate.len()].copy_from_slice(candidate);
+    if psvn::rules::leads(block, r, candidate, state) {
+        copy(candidate, candidate.len(), out);
         return true;
     }
     false

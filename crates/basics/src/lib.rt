@@ -1,9 +1,10 @@
 // What every layer uses: powers that are capped, bytes that are looked for, and sets of small numbers as words.
 #![tactic(auto)]
 
-ghost use Rattle.std.specs.Prelude.{◌≡◌, ◌+◌, ◌^◌, ◌≤◌, min, eqb, length, get_or, ◌==◌};
+ghost use Rattle.std.specs.Prelude.{◌≡◌, ◌+◌, ◌^◌, ◌≤◌, min, eqb, length, get_or, take, ◌==◌};
 ghost use Rattle.std.specs.List.{position};
 ghost use Rattle.basics.specs.Bounded.{find};
+ghost use Rattle.basics.specs.Lists.{at_front};
 
 pub mod sets;
 
@@ -20,6 +21,17 @@ pub fn power_within(k: usize, n: usize, most: usize) -> usize
         }
     }
     power
+}
+
+// Writes the first n bytes of `from` at the front of `to`. It is no copy_from_slice, which is a call of memmove where
+// the compiler does not see that the two lie apart: the library calls memcpy and memset alone.
+pub fn copy(from: &[u8], n: usize, to: &mut [u8])
+    requires { (n ≤ length from.now) × (n ≤ length to.old) }
+    ensures { to.new ≡ at_front (take n from.now) to.old }
+{
+    for i in 0..n {
+        to[i] = from[i];
+    }
 }
 
 // The first place that holds the byte v, if one does.

@@ -18,10 +18,12 @@ first_rank code weights x w = rank_word weights (position_count code) (rewritten
 unfoldable pub second_rank : List ℕ → List ℕ → ℕ → ℕ → ℕ → ℕ
 second_rank code weights x y w = first_rank code weights y (rewritten_word code x w)
 
--- the ranks before `at` stay, and the first `count` of them stand again from `at` on, each with so much more
+-- the first `count` ranks stand again from `at` on, each with so much more, and the ranks before `at` and behind those
+-- that were written stay
 pub record Extended (count at by : ℕ) (old now : ℕ → ℕ) : Type 0 where
   pub kept : (j : ℕ) → j < at → now j ≡ old j
   pub more : (j : ℕ) → j < count → now (at + j) ≡ (old j + by) % 16384
+  pub behind : (j : ℕ) → at + count ≤ j → now j ≡ old j
 
 -- so do they for each label at position p from 1 on, with what its word alone adds to the first rank
 pub record LabelsAdded (f : ℕ → ℕ) (labels p count new : ℕ) (old now : ℕ → ℕ) : Type 0 where

@@ -17,7 +17,7 @@ use words::sides::rewritten_word;
 pub const ROOM: usize = 16384;
 
 // The ranks of the states that edges lead from, and of those that they lead to, in the same order.
-#[derive(Drop)]
+#[derive(Clone, Copy, PartialEq, Eq, PartialOrd, Ord, Hash, Debug, Default)]
 pub struct Lists {
     pub sources: [u16; ROOM],
     pub targets: [u16; ROOM],
@@ -168,4 +168,31 @@ impl<'a> Sides<'a> {
         }
         Some(count)
     }
+}
+
+// Writes the ranks of what the side at place x makes of each word, and of what the side at place y makes of that; and
+// how many there are, where there is room for them.
+pub fn find_edges(
+    code: &Code,
+    weights: &Weights,
+    x: usize,
+    y: usize,
+    labels: usize,
+    lists: &mut Lists,
+) -> Option<usize>
+    requires places { (position_count code.now ≤ 16) × (x < 136) × (y < 136) × (labels ≤ 16) }
+    requires first_additive { Additive (position_count code.now) labels (first_rank code.now weights.now x) }
+    requires second_additive { Additive (position_count code.now) labels (second_rank code.now weights.now x y) }
+    ensures { IfSome result (λ count. (count ≤ 16384) ×
+        Listed (first_rank code.now weights.now x) (second_rank code.now weights.now x y)
+        (position_count code.now) labels 0
+        (rank_at lists.new.sources) (rank_at lists.new.targets) count) }
+{
+    let sides = Sides {
+        code,
+        weights,
+        x,
+        y,
+    };
+    sides.find_edges(labels, lists)
 }

@@ -10,11 +10,13 @@ ghost use Rattle.tables.specs.Tables.{estimate, passes_test};
 ghost use Rattle.map_tables.specs.MapTables.{largest_entry, all_pass};
 
 use blocks::layout;
-use maps::Remapped;
+use blocks::layout::BLOCK_ROOM;
+use maps::{Remapped, remap};
 use tables::estimates::estimate;
 use tables::lower_bound::passes;
 
-// The entry of a state under further map i, by its table.
+// The entry of a state under further map i, by its table. In a buffer and no `Remapped`: with the copy of that a
+// look-up with further maps takes up to twice the time.
 fn further_entry(block: &[u8], maps: &[u8], i: usize, state: &[u8], table: &[u32]) -> u32
     requires { Mapped block.now maps.now × (i < further_maps block.now maps.now) ×
         (state_ok block.now state.now ≡ true) ×
@@ -22,7 +24,9 @@ fn further_entry(block: &[u8], maps: &[u8], i: usize, state: &[u8], table: &[u32
     ensures { result ≡ estimate (exercise_at block.now maps.now (suc i))
         table.now state.now }
 {
-    estimate(Remapped::under(block, maps, i).bytes(), state, table)
+    let mut own = [0u8; BLOCK_ROOM];
+    remap(block, maps, i, &mut own);
+    estimate(&own[..block.len()], state, table)
 }
 
 // The estimate of a state by all tables: the largest of its entries. The mark is the largest number that an entry can

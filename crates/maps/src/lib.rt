@@ -3,6 +3,7 @@
 #![tactic(auto)]
 
 ghost use Rattle.std.specs.Prelude.{◌≡◌, ℕ, suc, ◌+◌, ◌*◌, ◌≤◌, ◌<◌, min, List, length, take};
+ghost use Rattle.basics.specs.Lists.{at_front};
 ghost use Rattle.refusals.specs.Answers.{verdict};
 ghost use Rattle.refusals.specs.Refusals.{answer_of};
 ghost use Rattle.blocks.specs.Layout.{abstracts, abstract_states};
@@ -55,7 +56,17 @@ fn further_map<'a>(block: &[u8], maps: &'a [u8], i: usize) -> &'a [u8]
     &maps[map_at(block, maps, i)..]
 }
 
-// The exercise under a further map, at the front of a buffer with room for every block. Contracts see its bytes.
+// Writes the exercise under further map i at the front of `out`.
+pub fn remap(block: &[u8], maps: &[u8], i: usize, out: &mut BlockBuffer)
+    requires { Sized block.now × (i < further_maps block.now maps.now) }
+    ensures { out.new ≡
+        at_front (exercise_at block.now maps.now (suc i)) out.old }
+{
+    blocks::remapping::remap(block, further_map(block, maps, i), out);
+}
+
+// The exercise under a further map, at the front of a buffer with room for every block. Contracts see its bytes. Where
+// one look-up is all that is done with it, `remap` serves: this buffer is copied once on its way out.
 #[derive(Drop)]
 pub struct Remapped {
     buffer: BlockBuffer,
@@ -76,9 +87,8 @@ impl Remapped {
         requires { Sized block.now × (i < further_maps block.now maps.now) }
         ensures { result ≡ exercise_at block.now maps.now (suc i) }
     {
-        let record = further_map(block, maps, i);
         let mut buffer = [0u8; BLOCK_ROOM];
-        blocks::remapping::remap(block, record, &mut buffer);
+        remap(block, maps, i, &mut buffer);
         Remapped {
             buffer,
             length: block.len(),

@@ -1,7 +1,7 @@
 // The matches of a state with the sides of a block, two characters for each side: the position that the first part
 // tells, or '-' for none, and '+' where the state matches, '.' where it does not. The left sides of the rules come
 // first, then the goals.
-ghost use Rattle.std.specs.Prelude.{◌≡◌, true, ℕ, ◌+◌, ◌≤◌, ◌<◌, length};
+ghost use Rattle.std.specs.Prelude.{◌≡◌, true, ℕ, ◌+◌, ◌*◌, ◌≤◌, ◌<◌, length};
 ghost use Rattle.blocks.specs.Layout.{positions, rules, goals};
 ghost use Rattle.blocks.specs.States.{state_ok};
 ghost use Rattle.blocks.specs.Validity.{Sized, Valid};
@@ -14,6 +14,9 @@ use std::io;
 use words::code::{CODE, Code, FIRST_GOAL};
 use words::matching::{matches_word, mismatch_word};
 use words::packing::pack;
+
+// Room for two characters of each side of 64 rules and 8 goals.
+const LINE: usize = 144;
 
 // The characters of one side.
 fn characters(mismatch: Option<usize>, matches: bool) -> [u8; 2] {
@@ -61,13 +64,18 @@ fn on_words(code: &Code, rules: usize, word: u64, k: usize) -> [u8; 2]
     characters(mismatch_word(code, x, word), matches_word(code, x, word))
 }
 
-// Prints the characters of so many sides as a line.
+// Prints the characters of so many sides as a line, which is written at once.
 fn print_sides<F: Fn(usize) -> [u8; 2]>(rt: &impl Print, count: usize, side: F) -> io::Result<()>
-    requires { (k : ℕ) → k < count → F.pre side k }
+    requires few { 2 * count ≤ 144 }
+    requires sides { (k : ℕ) → k < count → F.pre side k }
 {
+    let mut line = [0u8; LINE];
     for k in 0..count {
-        rt.write_all(&side(k))?;
+        let [position, sign] = side(k);
+        line[2 * k] = position;
+        line[2 * k + 1] = sign;
     }
+    rt.write_all(&line[..2 * count])?;
     rt.write_all(b"\n")
 }
 

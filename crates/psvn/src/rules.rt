@@ -56,19 +56,21 @@ fn makes(block: &[u8], left: usize, right: usize, old: &[u8], new: &[u8]) -> boo
 }
 
 // Whether rule r applies to a state.
-pub fn applies(block: &Block<'_>, r: usize, state: &[u8]) -> bool
-    requires { (r < rules block.now) × (length state.now ≡ positions block.now) }
+pub fn applies(block: &[u8], r: usize, state: &[u8]) -> bool
+    requires { Sized block.now × (r < rules block.now) × (length state.now ≡ positions block.now) }
     ensures { result ≡ applies block.now r state.now }
 {
+    let block = Block::new(block);
     side_matches(block.bytes(), block.left_at(r), state)
 }
 
 // Writes the state that rule r makes of a state at the front of `out`.
-pub fn step(block: &Block<'_>, r: usize, state: &[u8], out: &mut [u8])
-    requires { (r < rules block.now) × (length state.now ≡ positions block.now) ×
+pub fn step(block: &[u8], r: usize, state: &[u8], out: &mut [u8])
+    requires { Sized block.now × (r < rules block.now) × (length state.now ≡ positions block.now) ×
         (positions block.now ≤ length out.old) }
     ensures { out.new ≡ at_front (step block.now r state.now) out.old }
 {
+    let block = Block::new(block);
     rewrite(
         block.bytes(),
         block.left_at(r),
@@ -79,11 +81,12 @@ pub fn step(block: &Block<'_>, r: usize, state: &[u8], out: &mut [u8])
 }
 
 // Whether rule r takes the state `old` to `new`.
-pub fn leads(block: &Block<'_>, r: usize, old: &[u8], new: &[u8]) -> bool
-    requires { (r < rules block.now) × (length old.now ≡ positions block.now) ×
+pub fn leads(block: &[u8], r: usize, old: &[u8], new: &[u8]) -> bool
+    requires { Sized block.now × (r < rules block.now) × (length old.now ≡ positions block.now) ×
         (length new.now ≡ positions block.now) }
     ensures { result ≡ leads block.now r old.now new.now }
 {
+    let block = Block::new(block);
     let left = block.left_at(r);
     if side_matches(block.bytes(), left, old) {
         return makes(block.bytes(), left, block.right_at(r), old, new);
@@ -100,13 +103,14 @@ fn goal_met(block: &Block<'_>, g: usize, state: &[u8]) -> bool
 }
 
 // The goal that a state meets, the lowest number of a met one, if one is met.
-pub fn met_goal(block: &Block<'_>, state: &[u8]) -> Option<u8>
-    requires { length state.now ≡ positions block.now }
+pub fn met_goal(block: &[u8], state: &[u8]) -> Option<u8>
+    requires { Sized block.now × (length state.now ≡ positions block.now) }
     ensures { result ≡ met_goal block.now state.now }
 {
+    let block = Block::new(block);
     let goals = block.goals();
     for g in 0..goals {
-        if goal_met(block, g, state) {
+        if goal_met(&block, g, state) {
             return Some(g as u8);
         }
     }

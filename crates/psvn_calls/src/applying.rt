@@ -37,8 +37,8 @@ pub fn apply_rule(block: &[u8], rule: usize, state: &[u8], out: &mut [u8]) -> Re
     ensures application_kept { ApplicationKept block.now rule state.now (application_of result) out.new }
 {
     let exercise = check_application(block, rule, state, out.len())?;
-    if psvn::rules::applies(&exercise, rule, state) {
-        psvn::rules::step(&exercise, rule, state, out);
+    if psvn::rules::applies(exercise.bytes(), rule, state) {
+        psvn::rules::step(exercise.bytes(), rule, state, out);
         return Ok(true);
     }
     Ok(false)

@@ -14,5 +14,5 @@ pub fn test_goals(block: &[u8], state: &[u8]) -> Result<Option<u8>, Refusal>
     ensures goal_test_kept { GoalTestKept block.now state.now (answer_of result) }
 {
     let exercise = check_state(block, state)?;
-    Ok(met_goal(&exercise, state))
+    Ok(met_goal(exercise.bytes(), state))
 }

@@ -49,5 +49,5 @@ pub fn replay_run(
         (answer_of result) out.new }
 {
     let exercise = check_replay(block, start, list, out.len())?;
-    Ok(runs::replay::replay(&exercise, start, list, out))
+    Ok(runs::replay::replay(exercise.bytes(), start, list, out))
 }

@@ -7,6 +7,7 @@ ghost use Rattle.psvn.specs.Rules.{step};
 ghost use Rattle.psvn.specs.Runs.{RuleNumbers};
 ghost use Rattle.runs.specs.Replay.{numbers_ok, longest_list, replay_ending, replay_state};
 
+use basics::copy;
 use blocks::exercise::Block;
 use blocks::layout;
 use blocks::layout::MOST_POSITIONS;
@@ -51,7 +52,7 @@ fn advance(block: &Block<'_>, r: usize, state: &mut [u8])
     let mut room = [0u8; MOST_POSITIONS];
     let old = &mut room[..block.positions()];
     old.copy_from_slice(state);
-    rules::step(block, r, old, state);
+    rules::step(block.bytes(), r, old, state);
 }
 
 // Replays the list from a state, which becomes the one where it ends.
@@ -65,7 +66,7 @@ fn replay_in(block: &Block<'_>, list: &[u8], state: &mut [u8]) -> Replayed
     let mut cost: u32 = 0;
     for (i, number) in list.iter().enumerate() {
         let rule = usize::from(*number);
-        if !rules::applies(block, rule, state) {
+        if !rules::applies(block.bytes(), rule, state) {
             return Replayed::Stuck(RunEnd {
                 steps: i,
                 cost,
@@ -75,7 +76,7 @@ fn replay_in(block: &Block<'_>, list: &[u8], state: &mut [u8]) -> Replayed
         advance(block, rule, state);
         cost += u32::from(block.cost(rule));
     }
-    let goal = rules::met_goal(block, state).unwrap_or(NO_GOAL);
+    let goal = rules::met_goal(block.bytes(), state).unwrap_or(NO_GOAL);
     Replayed::Done(RunEnd {
         steps: list.len(),
         cost,
@@ -84,14 +85,13 @@ fn replay_in(block: &Block<'_>, list: &[u8], state: &mut [u8]) -> Replayed
 }
 
 // Replays the list from the start, and writes the state where it ends at the front of `out`.
-pub fn replay(block: &Block<'_>, start: &[u8], list: &[u8], out: &mut [u8]) -> Replayed
-    requires { RuleNumbers block.now list.now × (length list.now ≤ longest_list) ×
+pub fn replay(block: &[u8], start: &[u8], list: &[u8], out: &mut [u8]) -> Replayed
+    requires { Sized block.now × RuleNumbers block.now list.now × (length list.now ≤ longest_list) ×
         (length start.now ≡ positions block.now) × (positions block.now ≤ length out.old) }
     ensures value { result ≡ replay_ending block.now start.now list.now }
     ensures out_after { out.new ≡
         at_front (replay_state block.now start.now list.now) out.old }
 {
-    let state = &mut out[..start.len()];
-    state.copy_from_slice(start);
-    replay_in(block, list, state)
+    copy(start, start.len(), out);
+    replay_in(&Block::new(block), list, &mut out[..start.len()])
 }

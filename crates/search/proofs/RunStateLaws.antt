@@ -1,10 +1,10 @@
 -- The running state once a part of it is written: what is kept of the list at a depth, once more and further on
--- (`kept_same`, `kept_then`, `kept-before`), also where an element behind it is written (`kept_set`) or another tally
+-- (`kept_same`, `kept_then`, `kept-before`), also where what is none of it is written (`kept_set`) or another tally
 -- is carried (`kept-outside`); a tally that is carried (`carried-tally`), already (`carried_same`), as it is read
 -- (`carried-read`), and once more (`carried_then`); and a list with one rule more (`put_one`).
 -- The functions on the running state, and the visits and extensions, rest on these.
 use mathlib.Core.Path.{◌≡◌, refl, ap, ◌∙◌}
-use Prim.Native.Nat.{ℕ, suc, ◌<◌}
+use Prim.Native.Nat.{ℕ, suc, ◌≤◌, ◌<◌}
 use mathlib.Core.List.{List}
 use lib.ListN.{length, get_or, set}
 use lib.Seq.{get_or-set_same, get_or-set_other}
@@ -53,49 +53,62 @@ kept-before a =
       steps_kept = a.steps_kept;
     }
 
--- an element that is none of the list's may be written
+-- what is none of the list's, nor a limit, may be written: a state, a rank or a cost behind its last one, a rule behind
+-- its rules, and a plan's steps
 module _ (depth i x : ℕ) (run : Run) where
   pub kept_set :
-      depth < i
+      (depth < i
       → ListKept depth run (record run { states = set run.states i x })
       × ListKept depth run (record run { ranks = set run.ranks i x })
-      × ListKept depth run (record run { costs = set run.costs i x })
-      × ListKept depth run (record run { rules = set run.rules i x })
-  kept_set behind =
-      let apart : (l : List ℕ) (j : ℕ) → j < suc depth → get_or (set l i x) j 0 ≡ get_or l j 0 =
-      λ l j low. get_or-set_other l i j x 0 (omega arith) in (
-        record {
-          states = apart run.states;
-          ranks = λ j low. refl;
-          costs = λ j low. refl;
-          rules = λ j low. refl;
-          threshold_kept = refl;
-          allowance_kept = refl;
-          steps_kept = refl;
-        },
-        record {
-          states = λ j low. refl;
-          ranks = apart run.ranks;
-          costs = λ j low. refl;
-          rules = λ j low. refl;
-          threshold_kept = refl;
-          allowance_kept = refl;
-          steps_kept = refl;
-        },
-        record {
-          states = λ j low. refl;
-          ranks = λ j low. refl;
-          costs = apart run.costs;
-          rules = λ j low. refl;
-          threshold_kept = refl;
-          allowance_kept = refl;
-          steps_kept = refl;
-        },
-        record {
+      × ListKept depth run (record run { costs = set run.costs i x }))
+      × (depth ≤ i → ListKept depth run (record run { rules = set run.rules i x }))
+      × ListKept depth run (record run { plan_steps = x })
+  kept_set =
+      let apart : (l : List ℕ) (j : ℕ) → (j ≡ i → ⊥) → get_or (set l i x) j 0 ≡ get_or l j 0 =
+      λ l j other. get_or-set_other l i j x 0 other in (
+        λ behind. (
+          record {
+            states = λ j low. apart run.states j (omega arith);
+            ranks = λ j low. refl;
+            costs = λ j low. refl;
+            rules = λ j low. refl;
+            threshold_kept = refl;
+            allowance_kept = refl;
+            steps_kept = refl;
+          },
+          record {
+            states = λ j low. refl;
+            ranks = λ j low. apart run.ranks j (omega arith);
+            costs = λ j low. refl;
+            rules = λ j low. refl;
+            threshold_kept = refl;
+            allowance_kept = refl;
+            steps_kept = refl;
+          },
+          record {
+            states = λ j low. refl;
+            ranks = λ j low. refl;
+            costs = λ j low. apart run.costs j (omega arith);
+            rules = λ j low. refl;
+            threshold_kept = refl;
+            allowance_kept = refl;
+            steps_kept = refl;
+          },
+        ),
+        λ behind. record {
           states = λ j low. refl;
           ranks = λ j low. refl;
           costs = λ j low. refl;
           rules = λ j low. apart run.rules j (omega arith);
+          threshold_kept = refl;
+          allowance_kept = refl;
+          steps_kept = refl;
+        },
+        record {
+          states = λ j low. refl;
+          ranks = λ j low. refl;
+          costs = λ j low. refl;
+          rules = λ j low. refl;
           threshold_kept = refl;
           allowance_kept = refl;
           steps_kept = refl;
@@ -153,14 +166,17 @@ put_one run depth rule word rank cost s r c l =
       cost_told = get_or-set_same run.costs (suc depth) cost 0 c;
       ruled = get_or-set_same run.rules depth rule 0 l;
       kept =
-          record {
-            states = λ j low. get_or-set_other run.states (suc depth) j word 0 (omega arith);
-            ranks = λ j low. get_or-set_other run.ranks (suc depth) j rank 0 (omega arith);
-            costs = λ j low. get_or-set_other run.costs (suc depth) j cost 0 (omega arith);
-            rules = λ j low. get_or-set_other run.rules depth j rule 0 (omega arith);
-            threshold_kept = refl;
-            allowance_kept = refl;
-            steps_kept = refl;
-          };
+          let low : depth < suc depth = omega arith in
+          let one : Run = record run { states = set run.states (suc depth) word } in
+          let two : Run = record one { ranks = set run.ranks (suc depth) rank } in
+          let three : Run = record two { costs = set run.costs (suc depth) cost } in
+          kept_then
+          ((kept_set depth (suc depth) word run).0 low).0
+          (kept_then
+          ((kept_set depth (suc depth) rank one).0 low).1
+          (kept_then
+          ((kept_set depth (suc depth) cost two).0 low).2
+          ((kept_set depth depth rule three).1 (omega arith))));
       tally_kept = refl;
+      plan_kept = refl;
     }

@@ -38,7 +38,7 @@ pub record ListKept (depth : ℕ) (run run' : Run) : Type 0 where
 pub record Carried (tally : Tally) (run run' : Run) : Type 0 where
   pub told : run' ≡ record run { tally = tally }
 
--- the list with one rule more stands behind the list at a depth, and the tally is as it was
+-- the list with one rule more stands behind the list at a depth, and the tally and a plan's steps are as they were
 pub record Put (depth rule word rank cost : ℕ) (run run' : Run) : Type 0 where
   pub state : state_at run' (suc depth) ≡ word
   pub ranked : rank_at run' (suc depth) ≡ rank
@@ -46,3 +46,4 @@ pub record Put (depth rule word rank cost : ℕ) (run run' : Run) : Type 0 where
   pub ruled : rule_at run' depth ≡ rule
   pub kept : ListKept depth run run'
   pub tally_kept : run'.tally ≡ run.tally
+  pub plan_kept : run'.plan_steps ≡ run.plan_steps

@@ -11,12 +11,14 @@ use preparing::prepare;
 use words::changes::Changes;
 use words::code::Code;
 
-// Copies the first entries of a table.
+// Copies the first entries of a table. As for basics::copy, that is a loop and no call of memmove.
 fn read_entries(table: &[u32], count: usize, entries: &mut Entries)
     requires { (count ≤ length table.now) × (count ≤ 16384) }
     ensures { (k : ℕ) → k < count → get_or entries.new k 0 ≡ get_or table.now k 0 }
 {
-    entries[..count].copy_from_slice(&table[..count]);
+    for k in 0..count {
+        entries[k] = table[k];
+    }
 }
 
 // Makes ready the arrays of an accepted block with accepted maps: it is compiled, and the entries of all tables are

@@ -8,7 +8,7 @@ use tallies::Tally;
 
 // The running state. Of the path the states stand here with their ranks under all maps and the costs up to them, from
 // the start on; the list has a rule less.
-#[derive(Drop)]
+#[derive(Clone, Copy, PartialEq, Eq, PartialOrd, Ord, Hash, Debug, Default)]
 pub struct Run {
     pub states: [u64; 65],
     pub ranks: [u64; 65],

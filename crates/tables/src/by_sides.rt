@@ -5,14 +5,15 @@ ghost use Rattle.basics.specs.Marks.{mark};
 ghost use Rattle.blocks.specs.Layout.{rules, goals, abstract_states};
 ghost use Rattle.edge_ranks.specs.Lists.{rank_at};
 ghost use Rattle.distances.specs.LowerBounds as test;
-ghost use Rattle.tables.specs.Abstraction.{graph_of};
+ghost use Rattle.tables.specs.Abstraction.{graph_of, Ready};
 ghost use Rattle.tables.specs.BySides.{InTable, EdgesPass, Zeros, RulePasses, GoalPasses};
 
 use super::edges::{Compiled, MARK};
 use blocks::layout;
 use blocks::validity::MOST_STATES;
-use edge_ranks::{Lists, Sides};
-use words::code::FIRST_GOAL;
+use edge_ranks::{Lists, find_edges};
+use words::code::{Code, FIRST_GOAL};
+use words::ranking::Weights;
 use words::sides::cost_word;
 
 // Whether an entry passes before another by a rule of this cost.
@@ -93,13 +94,8 @@ impl<'a> Compiled<'a> {
         requires { (abstract_states self.now.block.now ≤ length table.now) × (r < rules self.now.block.now) }
         ensures { result ≡ true → RulePasses (graph_of self.now.block.now) table.now r }
     {
-        let sides = Sides {
-            code: self.code,
-            weights: self.weights,
-            x: 2 * r,
-            y: 2 * r + 1,
-        };
-        match sides.find_edges(layout::labels(self.block), lists) {
+        let labels = layout::labels(self.block);
+        match find_edges(self.code, self.weights, 2 * r, 2 * r + 1, labels, lists) {
             Some(count) => {
                 let cost = cost_word(self.code, r);
                 edges_pass(
@@ -118,13 +114,9 @@ impl<'a> Compiled<'a> {
         requires { (abstract_states self.now.block.now ≤ length table.now) × (g < goals self.now.block.now) }
         ensures { result ≡ true → GoalPasses self.now.block.now table.now g }
     {
-        let sides = Sides {
-            code: self.code,
-            weights: self.weights,
-            x: FIRST_GOAL + g,
-            y: FIRST_GOAL + g,
-        };
-        match sides.find_edges(layout::labels(self.block), lists) {
+        let labels = layout::labels(self.block);
+        let x = FIRST_GOAL + g;
+        match find_edges(self.code, self.weights, x, x, labels, lists) {
             Some(count) => zeros(table, &lists.sources[..count]),
             None => false,
         }
@@ -165,4 +157,23 @@ impl<'a> Compiled<'a> {
     {
         self.goals_pass(table, lists) && self.rules_pass(table, lists)
     }
+}
+
+// The same of a relabelled block and what was compiled from it.
+pub fn passes_by_sides(
+    block: &[u8],
+    code: &Code,
+    weights: &Weights,
+    table: &[u32],
+    lists: &mut Lists,
+) -> bool
+    requires { Ready block.now code.now weights.now × (abstract_states block.now ≤ length table.now) }
+    ensures { result ≡ true → test.passes (graph_of block.now) table.now ≡ true }
+{
+    let compiled = Compiled {
+        block,
+        code,
+        weights,
+    };
+    compiled.passes_by_sides(table, lists)
 }

@@ -6,7 +6,7 @@ ghost use Rattle.basics.specs.Marks.{largest32};
 ghost use Rattle.tallies.specs.Tallies.{overshot_by, with_visit};
 
 // The visits used, and the least overshoot so far.
-#[derive(Clone, Copy)]
+#[derive(Clone, Copy, PartialEq, Eq, PartialOrd, Ord, Hash, Debug, Default)]
 pub struct Tally {
     pub visits: u32,
     pub least: u64,

@@ -4,8 +4,8 @@ use native.Mathlib.Omega.{arith}
 use Rattle.blocks.proofs.StateLaws.{state-length, label-below}
 use Rattle.match_parts.proofs.answers.print_state.Goals as goal
 
-pub print_sides-requires : goal.print_sides-requires
-print_sides-requires g c = λ k l.
+pub print_sides-requires-clause-sides : goal.print_sides-requires-clause-sides
+print_sides-requires-clause-sides g c = λ k l.
     let n = state-length c.args.block.now c.args.state.now c.requires.1 in
     (c.requires.0, n, omega (arith, l, c.rules-left_sides.ensures.0, c.goals.ensures.0))
 

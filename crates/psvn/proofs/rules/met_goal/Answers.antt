@@ -11,10 +11,10 @@ loop-g-init c = (search rules, λ k l. absurd (omega arith))
 pub returns-then-goal_met : goal.returns-then-goal_met
 unfolding met_goal
 returns-then-goal_met c =
-    let b = c.args.block.now in
+    let b = c.new-block.result in
     let l = c.loop-g in
-    sym (find_at (λ g. goal_met b g c.args.state.now) (goals b) l.g (omega arith)
-    (sym c.goal_met.ensures ∙ c.if-goal_met.true) l.invariant.1)
+    rw (sym c.new-block.ensures) (sym (find_at (λ g. goal_met b g c.args.state.now) (goals b) l.g (omega arith)
+    (sym c.goal_met.ensures ∙ c.if-goal_met.true) l.invariant.1))
 
 pub loop-g-preserved : goal.loop-g-preserved
 loop-g-preserved c =
@@ -24,5 +24,6 @@ loop-g-preserved c =
 pub returns : goal.returns
 unfolding met_goal
 returns c =
-    let b = c.args.block.now in
-    sym (find-passed (λ g. goal_met b g c.args.state.now) (goals b) c.loop-g.g (omega arith) c.loop-g.invariant.1)
+    let b = c.new-block.result in
+    rw (sym c.new-block.ensures)
+    (sym (find-passed (λ g. goal_met b g c.args.state.now) (goals b) c.loop-g.g (omega arith) c.loop-g.invariant.1))

@@ -5,14 +5,21 @@ use Rattle.psvn.specs.Rules.{step}
 use Rattle.psvn.proofs.rules.step.Goals as goal
 
 pub rewrite-requires : goal.rewrite-requires
-rewrite-requires c = (
-  rw (c.bytes.ensures.same, c.requires.1) c.left_at.ensures.inside,
-  rw (c.bytes.ensures.same, c.requires.1) c.right_at.ensures.inside,
-  omega arith,
-)
+rewrite-requires c =
+    let e = c.new-block.ensures in (
+      rw (c.bytes.ensures.same, e, c.requires.2) (rw e at c.left_at.ensures.inside),
+      rw (c.bytes.ensures.same, e, c.requires.2) (rw e at c.right_at.ensures.inside),
+      omega arith,
+    )
 
 pub returns : goal.returns
 unfolding step
 returns c =
     c.rewrite.ensures
-    ∙ rw (c.bytes.ensures.same, c.left_at.ensures.place, c.right_at.ensures.place, c.requires.1) refl
+    ∙ rw (
+      c.bytes.ensures.same,
+      c.left_at.ensures.place,
+      c.right_at.ensures.place,
+      c.new-block.ensures,
+      c.requires.2,
+    ) refl

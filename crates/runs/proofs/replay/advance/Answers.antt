@@ -1,7 +1,7 @@
 -- `runs::replay::advance` meets its contract.
 -- The local array holds the old labels, which the rule reads while the state is written; the state is as long as what
 -- is written.
-use Rattle.std.proofs.Common.{◌≡◌, ap, ◌∙◌, List, ℕ, arith, rules}
+use Rattle.std.proofs.Common.{◌≡◌, ap₂, ◌∙◌, List, ℕ, arith, rules}
 use Rattle.basics.specs.Lists.{at_front}
 use Rattle.basics.proofs.Lists.{front-whole}
 use Rattle.psvn.specs.Rules.{step}
@@ -15,5 +15,5 @@ returns c =
     let s = a.state.now in
     let old : c.copy_from_slice.new.self ≡ s = search rules in
     c.step.ensures
-    ∙ ap (λ (l : List ℕ). at_front (step b a.r l) s) old
+    ∙ ap₂ (λ (x l : List ℕ). at_front (step x a.r l) s) c.bytes.ensures.same old
     ∙ front-whole (step b a.r s) s (omega (arith, step-length b a.r s))

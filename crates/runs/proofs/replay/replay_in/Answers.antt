@@ -70,7 +70,7 @@ returns-then-not-applies c =
     let inv = c.loop-i.invariant in
     let q =
     stuck-here a.block.now a.state.now a.list.now c.loop-i.i c.loop-i.cost c.loop-i.state inv.1 inv.2 inv.3
-    (omega arith) (rw c.from-rule.ensures at (sym c.if-not-applies.ensures)) in
+    (omega arith) (rw (c.bytes.ensures.same, c.from-rule.ensures) at (sym c.if-not-applies.ensures)) in
     record { value = q.0; state_after = q.1 }
 
 pub loop-i-preserved : goal.loop-i-preserved
@@ -86,7 +86,7 @@ loop-i-preserved c =
       search std_rules,
       ap₂ ◌+◌ inv.1 (c.from-cost.ensures ∙ c.cost.ensures ∙ ap (cost_of b) rule) ∙ next-cost b s list i l,
       c.advance.ensures ∙ ap₂ (step b) rule inv.2 ∙ next-state b s list i l,
-      next-in-turn b s list i l inv.3 (rw (rule, inv.2) at (sym c.if-not-applies.ensures)),
+      next-in-turn b s list i l inv.3 (rw (c.bytes.ensures.same, rule, inv.2) at (sym c.if-not-applies.ensures)),
     )
 
 pub returns : goal.returns
@@ -96,5 +96,6 @@ returns c =
     let q =
     done-here a.block.now a.state.now a.list.now c.loop-i.i c.loop-i.cost c.loop-i.state inv.1 inv.2 inv.3
     c.unwrap_or-goal.result (omega arith)
-    (c.unwrap_or-goal.ensures ∙ byte (c.met_goal.result) ∙ ap goal_byte c.met_goal.ensures) in
+    (c.unwrap_or-goal.ensures ∙ byte (c.met_goal.result)
+    ∙ ap goal_byte (c.met_goal.ensures ∙ ap (λ (x : List ℕ). met_goal x c.loop-i.state) c.bytes-2.ensures.same)) in
     record { value = q.0; state_after = q.1 }
